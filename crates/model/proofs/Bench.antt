@@ -1,0 +1,338 @@
+-- Document 01, "Bench tasks": the lettered tasks A to K, from their bytes to the replies, as one theorem over a list.
+use Prim.Native.Nat.{ℕ, zero, suc, _+_, _-_}
+use mathlib.Core.Path.{_≡_, refl}
+use mathlib.Core.Bool.{Bool, true, false, cond}
+use mathlib.Core.List.{List, [], _∷_, _++_}
+use lib.ListN.{length, getD, take, drop, replicate}
+use Rattle.model.specs.declared.Form.{Form}
+use Rattle.model.specs.declared.Form.the-variants.{Task, Equalised, Laid}
+use Rattle.model.specs.Records.{firstRecords, records, bytes, SKIP, SET, READ, WRITE, IF, ELSE, WHILE, END, BEAT, SAVE}
+use Rattle.model.specs.Settings.{settingsOf, badSettings}
+use Rattle.model.specs.Trees.{flatten, stackOf, treeOf, fileTree}
+use Rattle.model.specs.Runs.{Effect, nothing, assigns, outputs, beats, saves, overruns, Step, Buffers, holds, result, effect}
+use Rattle.model.specs.Equalising.{equalise}
+use Rattle.model.specs.Layout.{before, lastValue, layout, total}
+use Rattle.model.specs.Stopping.{imageBytes, imageOf, takeUp, isSave}
+use Rattle.model.specs.Refusals.{fieldsFit, scan, fault}
+use Rattle.model.specs.Answers.{Verdict, finished, refused}
+use Rattle.model.specs.Replies.{reading, timeReply, equalisedTree, equaliseReply, equaliseOut, laidTree, layOutReply, layOutOut, Loan, ready, stepsOf, runReply, runBuffers, imageAt, stopReply, stopBuffers, stopImage, takenUp, takenBuffers, resumeReply, resumeBuffers, restartReply, restartBuffers}
+use Rattle.model.specs.Listing.{Line, line, Printed, listed, turnedDown, printed}
+
+-- THE TASKS
+
+-- the 12 bytes of a record whose numbers are below 256, and a file of such rows
+abbrev row : ℕ → ℕ → ℕ → ℕ → ℕ → ℕ → List ℕ
+row k o t l x n = k ∷ o ∷ t ∷ l ∷ x ∷ 0 ∷ 0 ∷ 0 ∷ n ∷ 0 ∷ 0 ∷ 0 ∷ []
+
+abbrev file : List (List ℕ) → List ℕ
+file [] = []
+file (r ∷ rs) = r ++ file rs
+
+-- "Settings 3, 3, 3, 3, 10, K 4, H 20, P 100 unless said."
+abbrev settings : ℕ → ℕ → List ℕ
+settings h p = 3 ∷ 3 ∷ 3 ∷ 3 ∷ 10 ∷ 4 ∷ h ∷ 0 ∷ p ∷ 0 ∷ 0 ∷ 0 ∷ []
+
+-- "READ 0 0, WRITE 0 0"
+abbrev copied : List ℕ
+copied = file (row READ 0 0 0 0 0 ∷ row WRITE 0 0 0 0 0 ∷ [])
+
+-- 003's factorial: variable 0 is i, 1 is o
+abbrev factorial : List ℕ
+factorial =
+    file
+    (row READ 0 0 0 0 0
+    ∷ row IF 4 0 0 10 0
+    ∷ row SET 0 0 0 10 0
+    ∷ row SET 0 1 0 1 0
+    ∷ row ELSE 0 0 0 0 0
+    ∷ row SET 0 1 0 1 0
+    ∷ row END 0 0 0 0 0
+    ∷ row WHILE 4 0 0 0 10
+    ∷ row SET 19 1 1 0 0
+    ∷ row SET 2 0 0 1 0
+    ∷ row END 0 0 0 0 0
+    ∷ row WRITE 0 1 0 0 0
+    ∷ [])
+
+-- "READ, SET, then IF with one SET and an empty ELSE"
+abbrev branching : List ℕ
+branching =
+    file
+    (row READ 0 0 0 0 0
+    ∷ row SET 0 1 0 5 0
+    ∷ row IF 0 0 0 5 0
+    ∷ row SET 0 1 0 7 0
+    ∷ row ELSE 0 0 0 0 0
+    ∷ row END 0 0 0 0 0
+    ∷ [])
+
+-- "two READs and a WRITE"
+abbrev reading-twice : List ℕ
+reading-twice = file (row READ 0 0 0 0 0 ∷ row READ 0 1 1 0 0 ∷ row WRITE 0 0 0 0 0 ∷ [])
+
+-- "WHILE variable 0 = 0, count 2, body SKIP 1"
+abbrev spinning : List ℕ
+spinning = file (row WHILE 0 0 0 0 2 ∷ row SKIP 0 0 0 0 1 ∷ row END 0 0 0 0 0 ∷ [])
+
+-- IFs nested n deep
+abbrev nested : ℕ → List (List ℕ) → List (List ℕ)
+nested zero rs = rs
+nested (suc n) rs = row IF 0 0 0 0 0 ∷ nested n (row ELSE 0 0 0 0 0 ∷ row END 0 0 0 0 0 ∷ rs)
+
+-- THE CALLS ON A TASK
+
+-- a task with its settings, and the input at port 0; all other inputs and the first variables are 0
+pub record Bench : Type 0 where
+  pub rack : List ℕ
+  pub task : List ℕ
+  pub input : ℕ
+
+-- a buffer that holds anything
+abbrev junk : ℕ → List ℕ
+junk n = replicate n 9
+
+-- a verdict's number, 0 where it is finished, and values
+abbrev said : Verdict → List ℕ
+said (finished xs) = 0 ∷ xs
+said (refused n xs) = n ∷ xs
+
+-- what laying out answers: the refusal's number, or 0 and the total
+abbrev outcome : Verdict → List ℕ
+outcome (finished xs) = 0 ∷ getD xs 1 0 ∷ []
+outcome (refused n xs) = n ∷ []
+
+-- the bytes that a finished result has written
+abbrev result-in : Verdict → List ℕ → List ℕ
+result-in (finished xs) out = take (getD xs 0 0) out
+result-in (refused n xs) out = []
+
+abbrev equalisedFile : Bench → List ℕ
+equalisedFile c = result-in (equaliseReply (c .rack) (c .task) 600) (equaliseOut (c .rack) (c .task) (junk 600))
+
+abbrev laying : Bench → Verdict
+laying c = layOutReply (c .rack) (equalisedFile c) 1200
+
+abbrev laidFile : Bench → List ℕ
+laidFile c = result-in (laying c) (layOutOut (c .rack) (equalisedFile c) (junk 1200))
+
+abbrev zeros : List ℕ
+zeros = replicate 16 0
+
+abbrev loan : Bench → Form → List ℕ → List ℕ → List ℕ → List ℕ → Loan
+loan c f bs v l m = record {
+  settings = c .rack;
+  form = f;
+  file = bs;
+  inputs = c .input ∷ replicate 7 0;
+  buffers = record { variables = v; levels = l; marks = m };
+}
+
+-- the end of a run: its answer, the levels and the marks, and variables 0 and 1
+abbrev ends : Verdict → Buffers → List (List ℕ)
+ends r b = said r ∷ b .levels ∷ b .marks ∷ take 2 (b .variables) ∷ []
+
+abbrev ending : Loan → List (List ℕ)
+ending c = ends (runReply c) (runBuffers c)
+
+-- stopped at c, what the stop answers, and the tick of its image where it wrote one; and the end of the run taken up
+abbrev takenUpAt : ℕ → Bench → List (List ℕ)
+takenUpAt stop c =
+    let file = laidFile c in
+    let first = loan c Laid file zeros (junk 8) (junk 8) in
+    let image = stopImage first (junk 72) stop in
+    let left = stopBuffers first (junk 72) stop in
+    let again = loan c Laid file (left .variables) (left .levels) (left .marks) in
+    said (stopReply first (junk 72) stop) ∷ (imageOf image .tick ∷ []) ∷ ends (resumeReply again image) (resumeBuffers again image)
+
+abbrev restartedAt : ℕ → Bench → List (List ℕ)
+restartedAt stop c =
+    let file = laidFile c in
+    let first = loan c Laid file zeros (junk 8) (junk 8) in
+    let left = stopBuffers first (junk 72) stop in
+    let again = loan c Laid file zeros (left .levels) (left .marks) in
+    said (stopReply first (junk 72) stop) ∷ ends (restartReply again) (restartBuffers again)
+
+-- the start ticks of the steps that p picks
+abbrev starts : (Effect → Bool) → ℕ → List Step → List ℕ
+starts p t [] = []
+starts p t (e ∷ es) = cond (p (e .does)) (t ∷ []) [] ++ starts p (t + e .lasts) es
+
+abbrev isBeat : Effect → Bool
+isBeat nothing = false
+isBeat (assigns a x) = false
+isBeat (outputs p x) = false
+isBeat (beats x) = true
+isBeat (saves m) = false
+isBeat overruns = false
+
+abbrev isOutput : Effect → Bool
+isOutput nothing = false
+isOutput (assigns a x) = false
+isOutput (outputs p x) = true
+isOutput (beats x) = false
+isOutput (saves m) = false
+isOutput overruns = false
+
+abbrev lineNumbers : List Line → List (List ℕ)
+lineNumbers [] = []
+lineNumbers (l ∷ ls) = (l .tick ∷ l .kind ∷ l .numbers) ∷ lineNumbers ls
+
+abbrev printedNumbers : Printed → List (List ℕ)
+printedNumbers (listed ls t) = lineNumbers ls ++ (t ∷ []) ∷ []
+printedNumbers (turnedDown n) = (n ∷ []) ∷ []
+
+-- WHAT THE PAPER ASKS OF THEM
+
+pub data Question : Type 0 where
+  timing : Question  -- the answer of timing the task
+  laying-out : Question  -- the answer of laying out, and the last record
+  laid : Question  -- the laid file's bytes
+  listing : Question  -- the lines, and the total
+  placed : Question  -- the start ticks of the BEATs, SAVEs and WRITEs of the laid file's run
+  running : Question  -- the ends of the task as written and of the laid file
+  resuming : ℕ → Question  -- stopped at a tick and resumed
+  restarting : ℕ → Question  -- stopped at a tick and restarted
+
+abbrev answer : Bench → Question → List (List ℕ)
+answer c timing = said (timeReply (c .rack) Task (c .task)) ∷ []
+answer c laying-out = let file = laidFile c in outcome (laying c) ∷ drop (length file - 12) file ∷ []
+answer c laid = laidFile c ∷ []
+answer c listing = printedNumbers (printed (c .rack) (c .task))
+answer c placed =
+    let es = stepsOf (loan c Laid (laidFile c) zeros (junk 8) (junk 8)) in
+    starts isBeat 0 es ∷ starts isSave 0 es ∷ starts isOutput 0 es ∷ []
+answer c running = ending (loan c Task (c .task) zeros (junk 8) (junk 8)) ++ ending (loan c Laid (laidFile c) zeros (junk 8) (junk 8))
+answer c (resuming stop) = takenUpAt stop c
+answer c (restarting stop) = restartedAt stop c
+
+-- a task, a question, and the paper's answer
+pub record Lettered : Type 0 where
+  pub on : Bench
+  pub asks : Question
+  pub expects : List (List ℕ)
+
+abbrev case : List ℕ → List ℕ → ℕ → Question → List (List ℕ) → Lettered
+case s bs x q a = record { on = record { rack = s; task = bs; input = x }; asks = q; expects = a }
+
+abbrev Holds : List Lettered → Type 0
+Holds [] = Unit {0}
+Holds (l ∷ ls) = (answer (l .on) (l .asks) ≡ l .expects) × Holds ls
+
+pub lettered : List Lettered
+lettered =
+    -- A
+    case (settings 20 100) [] 0 laid (file (row BEAT 0 0 0 1 0 ∷ row SAVE 0 0 0 0 0 ∷ row SKIP 0 0 0 0 7 ∷ row BEAT 0 0 0 4 0 ∷ []) ∷ [])
+    ∷ case (settings 20 100) [] 0 laying-out ((0 ∷ 23 ∷ []) ∷ row BEAT 0 0 0 4 0 ∷ [])
+    -- B
+    ∷ case (settings 20 100) copied 0 listing
+    ((0 ∷ BEAT ∷ 1 ∷ [])
+    ∷ (3 ∷ SAVE ∷ [])
+    ∷ (13 ∷ READ ∷ 0 ∷ 0 ∷ [])
+    ∷ (16 ∷ WRITE ∷ 0 ∷ 0 ∷ [])
+    ∷ (19 ∷ SKIP ∷ 1 ∷ [])
+    ∷ (20 ∷ BEAT ∷ 4 ∷ [])
+    ∷ (23 ∷ [])
+    ∷ [])
+    -- C, on 12 and on 0
+    ∷ case (settings 20 200) factorial 12 timing ((0 ∷ 84 ∷ []) ∷ [])
+    ∷ case (settings 20 200) factorial 12 placed ((0 ∷ 20 ∷ 40 ∷ 60 ∷ 80 ∷ 100 ∷ 120 ∷ 140 ∷ []) ∷ (3 ∷ 83 ∷ []) ∷ (124 ∷ []) ∷ [])
+    ∷ case (settings 20 200) factorial 12 laying-out ((0 ∷ 143 ∷ []) ∷ row BEAT 0 0 0 3 0 ∷ [])
+    ∷ case (settings 20 200) factorial 12 running
+    ((0 ∷ 84 ∷ 0 ∷ [])
+    ∷ (3628800 ∷ replicate 7 0)
+    ∷ (1 ∷ replicate 7 0)
+    ∷ (0 ∷ 3628800 ∷ [])
+    ∷ (0 ∷ 143 ∷ 0 ∷ [])
+    ∷ (3628800 ∷ replicate 7 0)
+    ∷ (1 ∷ replicate 7 0)
+    ∷ (0 ∷ 3628800 ∷ [])
+    ∷ [])
+    ∷ case (settings 20 200) factorial 0 running
+    ((0 ∷ 11 ∷ 0 ∷ [])
+    ∷ (1 ∷ replicate 7 0)
+    ∷ (1 ∷ replicate 7 0)
+    ∷ (0 ∷ 1 ∷ [])
+    ∷ (0 ∷ 143 ∷ 0 ∷ [])
+    ∷ (1 ∷ replicate 7 0)
+    ∷ (1 ∷ replicate 7 0)
+    ∷ (0 ∷ 1 ∷ [])
+    ∷ [])
+    -- D
+    ∷ case (settings 20 143) factorial 12 laying-out ((0 ∷ 143 ∷ []) ∷ row BEAT 0 0 0 0 0 ∷ [])
+    -- E
+    ∷ case (settings 20 142) factorial 12 laying-out ((8 ∷ []) ∷ [] ∷ [])
+    -- F
+    ∷ case (settings 16 100) [] 0 laying-out ((0 ∷ 19 ∷ []) ∷ row BEAT 0 0 0 6 0 ∷ [])
+    -- G
+    ∷ case (settings 15 100) [] 0 laying-out ((7 ∷ []) ∷ [] ∷ [])
+    -- H
+    ∷ case (settings 20 100) branching 0 timing ((0 ∷ 10 ∷ []) ∷ [])
+    ∷ case (settings 20 100) branching 0 listing
+    ((0 ∷ BEAT ∷ 1 ∷ [])
+    ∷ (3 ∷ SAVE ∷ [])
+    ∷ (13 ∷ READ ∷ 0 ∷ 0 ∷ [])
+    ∷ (16 ∷ SET ∷ 0 ∷ 1 ∷ 0 ∷ 5 ∷ [])
+    ∷ (19 ∷ IF ∷ 0 ∷ 0 ∷ 0 ∷ 5 ∷ [])
+    ∷ (20 ∷ BEAT ∷ 1 ∷ [])
+    ∷ (23 ∷ SET ∷ 0 ∷ 1 ∷ 0 ∷ 7 ∷ [])
+    ∷ (20 ∷ ELSE ∷ [])
+    ∷ (20 ∷ BEAT ∷ 1 ∷ [])
+    ∷ (23 ∷ SKIP ∷ 3 ∷ [])
+    ∷ (26 ∷ END ∷ [])
+    ∷ (26 ∷ SKIP ∷ 14 ∷ [])
+    ∷ (40 ∷ BEAT ∷ 3 ∷ [])
+    ∷ (43 ∷ [])
+    ∷ [])
+    -- I
+    ∷ case (settings 20 100) reading-twice 0 listing
+    ((0 ∷ BEAT ∷ 1 ∷ [])
+    ∷ (3 ∷ SAVE ∷ [])
+    ∷ (13 ∷ READ ∷ 0 ∷ 0 ∷ [])
+    ∷ (16 ∷ READ ∷ 1 ∷ 1 ∷ [])
+    ∷ (19 ∷ SKIP ∷ 1 ∷ [])
+    ∷ (20 ∷ BEAT ∷ 1 ∷ [])
+    ∷ (23 ∷ WRITE ∷ 0 ∷ 0 ∷ [])
+    ∷ (26 ∷ SKIP ∷ 14 ∷ [])
+    ∷ (40 ∷ BEAT ∷ 3 ∷ [])
+    ∷ (43 ∷ [])
+    ∷ [])
+    -- J
+    ∷ case (settings 20 100) spinning 0 running
+    ((0 ∷ 5 ∷ 1 ∷ [])
+    ∷ replicate 8 0
+    ∷ replicate 8 0
+    ∷ (0 ∷ 0 ∷ [])
+    ∷ (0 ∷ 18 ∷ 1 ∷ [])
+    ∷ replicate 8 0
+    ∷ replicate 8 0
+    ∷ (0 ∷ 0 ∷ [])
+    ∷ [])
+    -- K: the image's tick, 13 and 93, is where the run is taken up, so 79 and 0 ticks are run again
+    ∷ case (settings 20 200) factorial 12 (resuming 92)
+    ((0 ∷ 92 ∷ 0 ∷ 1 ∷ [])
+    ∷ (13 ∷ [])
+    ∷ (0 ∷ 143 ∷ 0 ∷ [])
+    ∷ (3628800 ∷ replicate 7 0)
+    ∷ (1 ∷ replicate 7 0)
+    ∷ (0 ∷ 3628800 ∷ [])
+    ∷ [])
+    ∷ case (settings 20 200) factorial 12 (resuming 93)
+    ((0 ∷ 93 ∷ 0 ∷ 1 ∷ [])
+    ∷ (93 ∷ [])
+    ∷ (0 ∷ 143 ∷ 0 ∷ [])
+    ∷ (3628800 ∷ replicate 7 0)
+    ∷ (1 ∷ replicate 7 0)
+    ∷ (0 ∷ 3628800 ∷ [])
+    ∷ [])
+    ∷ case (settings 20 200) factorial 12 (restarting 12)
+    ((0 ∷ 12 ∷ 0 ∷ 0 ∷ [])
+    ∷ (0 ∷ 143 ∷ 0 ∷ [])
+    ∷ (3628800 ∷ replicate 7 0)
+    ∷ (1 ∷ replicate 7 0)
+    ∷ (0 ∷ 3628800 ∷ [])
+    ∷ [])
+    ∷ []
+
+pub bench : Holds lettered
+unfolding lettered firstRecords records bytes settingsOf badSettings flatten stackOf treeOf fileTree holds result effect equalise before lastValue layout total imageBytes imageOf takeUp fieldsFit scan fault reading timeReply equalisedTree equaliseReply equaliseOut laidTree layOutReply layOutOut ready stepsOf runReply runBuffers imageAt stopReply stopBuffers stopImage takenUp takenBuffers resumeReply resumeBuffers restartReply restartBuffers printed
+bench = (refl, (refl, (refl, (refl, (refl, (refl, (refl, (refl, (refl, (refl, (refl, (refl, (refl, (refl, (refl, (refl, (refl, (refl, (refl, tt)))))))))))))))))))

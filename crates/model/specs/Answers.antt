@@ -1,0 +1,63 @@
+-- Document 01, "Forms and where they belong": "Where an answer is an enum, a definition gives this paper's number and values for each of
+-- the enum's cases."
+use Prim.Native.Nat.{ℕ}
+use mathlib.Core.Bool.{Bool, true, false}
+use mathlib.Core.List.{List, [], _∷_}
+use Rattle.model.specs.declared.Refusal.{Refusal}
+use Rattle.model.specs.declared.Timed.{Timed}
+use Rattle.model.specs.declared.Equalised.{Equalised}
+use Rattle.model.specs.declared.LaidOut.{LaidOut}
+use Rattle.model.specs.declared.Ran.{Ran}
+use Rattle.model.specs.declared.Stopped.{Stopped}
+use Rattle.model.specs.declared.Resumed.{Resumed}
+
+-- what a call answers: the values of a finished result, or a refusal's number and the value returned with it, if any
+pub data Verdict : Type 0 where
+  finished : List ℕ → Verdict
+  refused : ℕ → List ℕ → Verdict
+
+abbrev pub bit : Bool → ℕ
+bit true = 1
+bit false = 0
+
+-- the table's columns "No." and "Returned"
+abbrev pub refusal : Refusal → Verdict
+refusal (Refusal.BadLength n) = refused 1 (n ∷ [])
+refusal (Refusal.BadKind i) = refused 2 (i ∷ [])
+refusal (Refusal.BadField i) = refused 3 (i ∷ [])
+refusal (Refusal.BadStructure i) = refused 4 (i ∷ [])
+refusal (Refusal.TooDeep i) = refused 5 (i ∷ [])
+refusal Refusal.BadSettings = refused 6 []
+refusal Refusal.ShortWindow = refused 7 []
+refusal Refusal.OverPeriod = refused 8 []
+refusal Refusal.NoRoom = refused 9 []
+refusal Refusal.BadBuffers = refused 10 []
+refusal Refusal.BadImage = refused 11 []
+refusal Refusal.LateStop = refused 12 []
+
+-- "Timing a file answers its time; equalising answers the bytes written and the time, laying out the bytes written and the total."
+abbrev pub timed : Timed → Verdict
+timed (Timed.Ticks t) = finished (t ∷ [])
+timed (Timed.Refused r) = refusal r
+
+abbrev pub equalised : Equalised → Verdict
+equalised (Equalised.Written n t) = finished (n ∷ t ∷ [])
+equalised (Equalised.Refused r) = refusal r
+
+abbrev pub laidOut : LaidOut → Verdict
+laidOut (LaidOut.Written n t) = finished (n ∷ t ∷ [])
+laidOut (LaidOut.Refused r) = refusal r
+
+-- "A run answers its end tick, or the stop tick, and whether it overran." A stopped run has not overrun; its answer also says whether
+-- there is a finished SAVE.
+abbrev pub ran : Ran → Verdict
+ran (Ran.Ended t o) = finished (t ∷ bit o ∷ [])
+ran (Ran.Refused r) = refusal r
+
+abbrev pub stopped : Stopped → Verdict
+stopped (Stopped.At t m) = finished (t ∷ 0 ∷ bit m ∷ [])
+stopped (Stopped.Refused r) = refusal r
+
+abbrev pub resumed : Resumed → Verdict
+resumed (Resumed.Ended t o) = finished (t ∷ bit o ∷ [])
+resumed (Resumed.Refused r) = refusal r

@@ -1,0 +1,13 @@
+-- The definitions that state document 01, in the paper's order.
+pub mod Records
+pub mod Settings
+pub mod Trees
+pub mod Times
+pub mod Runs
+pub mod Equalising
+pub mod Layout
+pub mod Stopping
+pub mod Refusals
+pub mod Answers
+pub mod Replies
+pub mod Listing

@@ -1,0 +1,202 @@
+-- Document 01, "Why a call is turned down": what each call answers to whatever is handed over, and each lent buffer afterwards.
+use Prim.Native.Nat.{ℕ, _+_, _*_, _-_, max}
+use mathlib.Core.Bool.{Bool, true, false, cond, not, _||_}
+use mathlib.Core.List.{List, [], _∷_, _++_}
+use lib.Dec.{eqb, leb, ltb}
+use lib.ListN.{length, drop}
+use Rattle.model.specs.declared.Settings.{Settings}
+use Rattle.model.specs.declared.Form.{Form}
+use Rattle.model.specs.declared.Form.the-variants.{Task, Equalised, Laid}
+use Rattle.model.specs.Records.{bytes, kindAt, SAVE}
+use Rattle.model.specs.Settings.{settingsOf, badSettings}
+use Rattle.model.specs.Trees.{Block, size, flatten, fileTree}
+use Rattle.model.specs.Times.{time}
+use Rattle.model.specs.Runs.{Step, duration, overran, Buffers, leave, cleared, run}
+use Rattle.model.specs.Equalising.{equalise}
+use Rattle.model.specs.Layout.{layout, total}
+use Rattle.model.specs.Stopping.{upto, Image, Saved, none, saved, lastImage, imageBytes, imageOf, start, takeUp}
+use Rattle.model.specs.Refusals.{Fault, sound, faulty, fault}
+use Rattle.model.specs.Answers.{Verdict, finished, refused, bit}
+
+-- A row of the table that returns its number alone: "The table's order is the order of checks".
+abbrev pub turnDown : ℕ → Bool → Verdict → Verdict
+turnDown n cause next = cond cause (refused n []) next
+
+-- Rows 6 and 1 to 5, which every call tries first.
+abbrev pub unless : Fault → Verdict → Verdict
+unless sound next = next
+unless (faulty n x) next = refused n (x ∷ [])
+
+unfoldable pub reading : List ℕ → Form → List ℕ → Verdict → Verdict
+reading s f file next = turnDown 6 (badSettings s) (unless (fault f file) next)
+
+-- "H below B + S + the longest of SET, READ, WRITE, used or not" (row 7)
+abbrev pub longest : Settings → ℕ
+longest σ = max (max (σ .set) (σ .multiply)) (max (σ .read) (σ .write))
+
+abbrev pub shortWindow : Settings → Bool
+shortWindow σ = ltb (σ .window) (σ .beat + σ .save + longest σ)
+
+-- "above P" (row 8)
+abbrev pub above : List ℕ → ℕ → Bool
+above s t = ltb (settingsOf s .period) t
+
+-- "result longer than the lent buffer or than 5,461 records" (row 9), for a result of n records and a buffer of that many bytes
+abbrev pub noRoom : ℕ → ℕ → Bool
+noRoom room n = ltb room (12 * n) || ltb 5461 n
+
+-- "Left as it was: all", at a refusal
+abbrev pub kept : {A : Type 0} → Verdict → A → A → A
+kept (finished xs) new old = new
+kept (refused n xs) new old = old
+
+-- "A finished result leaves the bytes after it untouched."
+abbrev pub over : List ℕ → List ℕ → List ℕ
+over new old = new ++ drop (length new) old
+
+-- TIMING A FILE
+
+abbrev pub fileTime : List ℕ → List ℕ → ℕ
+fileTime s file = time (settingsOf s) (fileTree file)
+
+unfoldable pub timeReply : List ℕ → Form → List ℕ → Verdict
+timeReply s f file = reading s f file (turnDown 8 (above s (fileTime s file)) (finished (fileTime s file ∷ [])))
+
+-- EQUALISING
+
+unfoldable pub equalisedTree : List ℕ → List ℕ → Block
+equalisedTree s task = equalise (settingsOf s) (fileTree task)
+
+unfoldable pub equaliseReply : List ℕ → List ℕ → ℕ → Verdict
+equaliseReply s task room =
+    let n = size (equalisedTree s task) in
+    reading s Task task
+    (turnDown 8 (above s (fileTime s task))
+    (turnDown 9 (noRoom room n)
+    (finished (12 * n ∷ fileTime s task ∷ []))))
+
+unfoldable pub equaliseOut : List ℕ → List ℕ → List ℕ → List ℕ
+equaliseOut s task out = kept (equaliseReply s task (length out)) (over (bytes (flatten (equalisedTree s task))) out) out
+
+-- LAYING OUT
+
+unfoldable pub laidTree : List ℕ → List ℕ → Block
+laidTree s file = layout (settingsOf s) (fileTree file)
+
+abbrev pub laidTotal : List ℕ → List ℕ → ℕ
+laidTotal s file = total (settingsOf s) (fileTree file)
+
+unfoldable pub layOutReply : List ℕ → List ℕ → ℕ → Verdict
+layOutReply s file room =
+    let n = size (laidTree s file) in
+    reading s Equalised file
+    (turnDown 7 (shortWindow (settingsOf s))
+    (turnDown 8 (above s (fileTime s file) || above s (laidTotal s file))
+    (turnDown 9 (noRoom room n)
+    (finished (12 * n ∷ laidTotal s file ∷ [])))))
+
+unfoldable pub layOutOut : List ℕ → List ℕ → List ℕ → List ℕ
+layOutOut s file out = kept (layOutReply s file (length out)) (over (bytes (flatten (laidTree s file))) out) out
+
+-- RUNNING
+
+-- what run, run_until, resume and restart are handed over
+pub record Loan : Type 0 where
+  pub settings : List ℕ
+  pub form : Form
+  pub file : List ℕ
+  pub inputs : List ℕ
+  pub buffers : Buffers
+
+-- "variables not 16, inputs not 8, outputs not 8 values and 8 marks" (row 10)
+abbrev pub badBuffers : Loan → Bool
+badBuffers c =
+    not (eqb (length (c .buffers .variables)) 16) || not (eqb (length (c .inputs)) 8)
+    || not (eqb (length (c .buffers .levels)) 8) || not (eqb (length (c .buffers .marks)) 8)
+
+-- "or image buffer not 72 bytes" (row 10)
+abbrev pub badImage : List ℕ → Bool
+badImage image = not (eqb (length image) 72)
+
+-- rows 6, 1 to 5, 8 and 10
+unfoldable pub ready : Loan → Bool → Verdict → Verdict
+ready c cause next =
+    reading (c .settings) (c .form) (c .file)
+    (turnDown 8 (above (c .settings) (fileTime (c .settings) (c .file)))
+    (turnDown 10 (badBuffers c || cause)
+    next))
+
+-- "A run answers its end tick .. and whether it overran": steps from tick t on
+abbrev pub ended : ℕ → List Step → Verdict
+ended t es = finished ((t + duration es) ∷ bit (overran es) ∷ [])
+
+-- "A run not taken up begins at record 0 and tick 0"
+unfoldable pub stepsOf : Loan → List Step
+stepsOf c = run (settingsOf (c .settings)) (c .inputs) (fileTree (c .file)) 0 (c .buffers .variables)
+
+unfoldable pub runReply : Loan → Verdict
+runReply c = ready c false (ended 0 (stepsOf c))
+
+unfoldable pub runBuffers : Loan → Buffers
+runBuffers c = kept (runReply c) (leave (stepsOf c) (cleared (c .buffers .variables))) (c .buffers)
+
+-- RUNNING UNTIL A TICK
+
+-- the image of the last SAVE that is finished at the stop tick
+unfoldable pub imageAt : Loan → ℕ → Saved
+imageAt c stop = lastImage (upto stop (stepsOf c)) 0 (c .buffers .variables) none
+
+abbrev pub isSaved : Saved → Bool
+isSaved none = false
+isSaved (saved m) = true
+
+-- "stop tick at or past the run's end" (row 12)
+unfoldable pub stopReply : Loan → List ℕ → ℕ → Verdict
+stopReply c image stop =
+    ready c (badImage image)
+    (turnDown 12 (leb (duration (stepsOf c)) stop)
+    (finished (stop ∷ 0 ∷ bit (isSaved (imageAt c stop)) ∷ [])))
+
+-- "The lent variables and outputs then show the state after the last step done."
+unfoldable pub stopBuffers : Loan → List ℕ → ℕ → Buffers
+stopBuffers c image stop =
+    kept (stopReply c image stop) (leave (upto stop (stepsOf c)) (cleared (c .buffers .variables))) (c .buffers)
+
+-- "With no finished SAVE the image buffer is untouched"
+abbrev pub imageOver : Saved → List ℕ → List ℕ
+imageOver none old = old
+imageOver (saved m) old = imageBytes m
+
+unfoldable pub stopImage : Loan → List ℕ → ℕ → List ℕ
+stopImage c image stop = kept (stopReply c image stop) (imageOver (imageAt c stop) image) image
+
+-- TAKING UP
+
+unfoldable pub takenUp : Loan → Image → List Step
+takenUp c m = takeUp (settingsOf (c .settings)) (c .inputs) (fileTree (c .file)) m
+
+-- "takes the outputs as the stop left them"
+unfoldable pub takenBuffers : Loan → Image → Buffers
+takenBuffers c m =
+    leave (takenUp c m) (record { variables = m .variables; levels = c .buffers .levels; marks = c .buffers .marks })
+
+-- "image's index not just after a SAVE, or tick above P" (row 11)
+abbrev pub afterSave : List ℕ → ℕ → Bool
+afterSave file j = cond (eqb j 0) false (eqb (kindAt file (j - 1)) SAVE)
+
+abbrev pub strayImage : Loan → Image → Bool
+strayImage c m = not (afterSave (c .file) (m .index)) || above (c .settings) (m .tick)
+
+unfoldable pub resumeReply : Loan → List ℕ → Verdict
+resumeReply c image =
+    ready c (badImage image) (turnDown 11 (strayImage c (imageOf image)) (ended (imageOf image .tick) (takenUp c (imageOf image))))
+
+unfoldable pub resumeBuffers : Loan → List ℕ → Buffers
+resumeBuffers c image = kept (resumeReply c image) (takenBuffers c (imageOf image)) (c .buffers)
+
+-- "with no finished SAVE, the first variables at record 0 and tick 0"
+unfoldable pub restartReply : Loan → Verdict
+restartReply c = ready c false (ended 0 (takenUp c (start (c .buffers .variables))))
+
+unfoldable pub restartBuffers : Loan → Buffers
+restartBuffers c = kept (restartReply c) (takenBuffers c (start (c .buffers .variables))) (c .buffers)

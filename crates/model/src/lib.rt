@@ -1,0 +1,77 @@
+// The types that the definitions of specs/ and the public calls share.
+
+// The forms that a file of records can have.
+pub enum Form {
+    Task,
+    Equalised,
+    Laid,
+}
+
+// The settings: the ticks of SET, READ, WRITE, BEAT, SAVE and of a SET that multiplies,
+// the checkpoint spacing K in windows, the window H and the period P in ticks.
+pub struct Settings {
+    pub set: u32,
+    pub read: u32,
+    pub write: u32,
+    pub beat: u32,
+    pub save: u32,
+    pub multiply: u32,
+    pub spacing: u32,
+    pub window: u32,
+    pub period: u32,
+}
+
+// Why a call is turned down: document 01's numbers 1 to 12, and the value returned with 1 to 5.
+pub enum Refusal {
+    // 1: the length in bytes.
+    BadLength(usize),
+    // 2 to 5: the index of the record, or the record count where a block is left open.
+    BadKind(usize),
+    BadField(usize),
+    BadStructure(usize),
+    TooDeep(usize),
+    // 6 to 12: the number alone.
+    BadSettings,
+    ShortWindow,
+    OverPeriod,
+    NoRoom,
+    BadBuffers,
+    BadImage,
+    LateStop,
+}
+
+// time_file
+pub enum Timed {
+    Ticks(u32),
+    Refused(Refusal),
+}
+
+// equalise
+pub enum Equalised {
+    Written { bytes: usize, time: u32 },
+    Refused(Refusal),
+}
+
+// lay_out
+pub enum LaidOut {
+    Written { bytes: usize, total: u32 },
+    Refused(Refusal),
+}
+
+// run
+pub enum Ran {
+    Ended { tick: u32, overran: bool },
+    Refused(Refusal),
+}
+
+// run_until: the stop tick, and whether an image was written
+pub enum Stopped {
+    At { tick: u32, saved: bool },
+    Refused(Refusal),
+}
+
+// resume and restart
+pub enum Resumed {
+    Ended { tick: u32, overran: bool },
+    Refused(Refusal),
+}
