@@ -1,2 +1,8 @@
+-- The laws that tie bytes to trees, and the bench theorem.
+pub mod Bytes
 pub mod Trees
+pub mod Stands
+pub mod Shapes
+pub mod Sound
+pub mod Injective
 pub mod Bench

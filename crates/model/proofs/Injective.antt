@@ -1,0 +1,126 @@
+-- The paper's number and values tell the cases of each answer apart: each answer can be read back from them.
+use Prim.Native.Nat.{ℕ}
+use mathlib.Core.Path.{_≡_, refl, ap, sym, _∙_}
+use mathlib.Core.Bool.{Bool, true, false, cond}
+use mathlib.Core.List.{List, [], _∷_}
+use lib.Dec.{eqb}
+use lib.ListN.{getD}
+use Rattle.model.specs.declared.Refusal.{Refusal}
+use Rattle.model.specs.declared.Timed.{Timed}
+use Rattle.model.specs.declared.Equalised.{Equalised}
+use Rattle.model.specs.declared.LaidOut.{LaidOut}
+use Rattle.model.specs.declared.Ran.{Ran}
+use Rattle.model.specs.declared.Stopped.{Stopped}
+use Rattle.model.specs.declared.Resumed.{Resumed}
+use Rattle.model.specs.Answers.{Verdict, finished, refused, bit, refusal, timed, equalised, laidOut, ran, stopped, resumed}
+
+-- a function that can be undone is injective
+undone : {A : Type 0} (f : A → Verdict) (g : Verdict → A) → ((a : A) → g (f a) ≡ a) → (a b : A) → f a ≡ f b → a ≡ b
+undone f g back a b e = sym (back a) ∙ ap g e ∙ back b
+
+-- an answer with a finished case, read back by done
+read-back : {A : Type 0} → (List ℕ → A) → (Refusal → A) → Verdict → A
+read-back done turned (finished xs) = done xs
+read-back done turned (refused n xs) =
+    let i = getD xs 0 0 in
+    turned
+    (cond (eqb n 1) (Refusal.BadLength i)
+    (cond (eqb n 2) (Refusal.BadKind i)
+    (cond (eqb n 3) (Refusal.BadField i)
+    (cond (eqb n 4) (Refusal.BadStructure i)
+    (cond (eqb n 5) (Refusal.TooDeep i)
+    (cond (eqb n 6) Refusal.BadSettings
+    (cond (eqb n 7) Refusal.ShortWindow
+    (cond (eqb n 8) Refusal.OverPeriod
+    (cond (eqb n 9) Refusal.NoRoom
+    (cond (eqb n 10) Refusal.BadBuffers
+    (cond (eqb n 11) Refusal.BadImage
+    Refusal.LateStop)))))))))))
+
+turned-back : {A : Type 0} (done : List ℕ → A) (turned : Refusal → A) (r : Refusal) → read-back done turned (refusal r) ≡ turned r
+unfolding read-back
+turned-back done turned (Refusal.BadLength n) = refl
+turned-back done turned (Refusal.BadKind i) = refl
+turned-back done turned (Refusal.BadField i) = refl
+turned-back done turned (Refusal.BadStructure i) = refl
+turned-back done turned (Refusal.TooDeep i) = refl
+turned-back done turned Refusal.BadSettings = refl
+turned-back done turned Refusal.ShortWindow = refl
+turned-back done turned Refusal.OverPeriod = refl
+turned-back done turned Refusal.NoRoom = refl
+turned-back done turned Refusal.BadBuffers = refl
+turned-back done turned Refusal.BadImage = refl
+turned-back done turned Refusal.LateStop = refl
+
+bit-back : (b : Bool) → eqb (bit b) 1 ≡ b
+bit-back true = refl
+bit-back false = refl
+
+pub refusal-injective : (a b : Refusal) → refusal a ≡ refusal b → a ≡ b
+refusal-injective = undone refusal (read-back (λ xs. Refusal.BadSettings) (λ r. r)) (turned-back (λ xs. Refusal.BadSettings) (λ r. r))
+
+pub timed-injective : (a b : Timed) → timed a ≡ timed b → a ≡ b
+unfolding read-back
+timed-injective = undone timed (read-back done Timed.Refused) back
+  where
+    done : List ℕ → Timed
+    done xs = Timed.Ticks (getD xs 0 0)
+
+    back : (a : Timed) → read-back done Timed.Refused (timed a) ≡ a
+    back (Timed.Ticks t) = refl
+    back (Timed.Refused r) = turned-back done Timed.Refused r
+
+pub equalised-injective : (a b : Equalised) → equalised a ≡ equalised b → a ≡ b
+unfolding read-back
+equalised-injective = undone equalised (read-back done Equalised.Refused) back
+  where
+    done : List ℕ → Equalised
+    done xs = Equalised.Written (getD xs 0 0) (getD xs 1 0)
+
+    back : (a : Equalised) → read-back done Equalised.Refused (equalised a) ≡ a
+    back (Equalised.Written n t) = refl
+    back (Equalised.Refused r) = turned-back done Equalised.Refused r
+
+pub laidOut-injective : (a b : LaidOut) → laidOut a ≡ laidOut b → a ≡ b
+unfolding read-back
+laidOut-injective = undone laidOut (read-back done LaidOut.Refused) back
+  where
+    done : List ℕ → LaidOut
+    done xs = LaidOut.Written (getD xs 0 0) (getD xs 1 0)
+
+    back : (a : LaidOut) → read-back done LaidOut.Refused (laidOut a) ≡ a
+    back (LaidOut.Written n t) = refl
+    back (LaidOut.Refused r) = turned-back done LaidOut.Refused r
+
+pub ran-injective : (a b : Ran) → ran a ≡ ran b → a ≡ b
+unfolding read-back
+ran-injective = undone ran (read-back done Ran.Refused) back
+  where
+    done : List ℕ → Ran
+    done xs = Ran.Ended (getD xs 0 0) (eqb (getD xs 1 0) 1)
+
+    back : (a : Ran) → read-back done Ran.Refused (ran a) ≡ a
+    back (Ran.Ended t o) = ap (Ran.Ended t) (bit-back o)
+    back (Ran.Refused r) = turned-back done Ran.Refused r
+
+pub stopped-injective : (a b : Stopped) → stopped a ≡ stopped b → a ≡ b
+unfolding read-back
+stopped-injective = undone stopped (read-back done Stopped.Refused) back
+  where
+    done : List ℕ → Stopped
+    done xs = Stopped.At (getD xs 0 0) (eqb (getD xs 2 0) 1)
+
+    back : (a : Stopped) → read-back done Stopped.Refused (stopped a) ≡ a
+    back (Stopped.At t m) = ap (Stopped.At t) (bit-back m)
+    back (Stopped.Refused r) = turned-back done Stopped.Refused r
+
+pub resumed-injective : (a b : Resumed) → resumed a ≡ resumed b → a ≡ b
+unfolding read-back
+resumed-injective = undone resumed (read-back done Resumed.Refused) back
+  where
+    done : List ℕ → Resumed
+    done xs = Resumed.Ended (getD xs 0 0) (eqb (getD xs 1 0) 1)
+
+    back : (a : Resumed) → read-back done Resumed.Refused (resumed a) ≡ a
+    back (Resumed.Ended t o) = ap (Resumed.Ended t) (bit-back o)
+    back (Resumed.Refused r) = turned-back done Resumed.Refused r

@@ -1,0 +1,129 @@
+-- A block stands in a list of bytes from a record index on, and it does where the bytes' records are its own.
+use Prim.Native.Nat.{ℕ, zero, suc, _+_}
+use native.Mathlib.Omega.{arith}
+use mathlib.Core.Path.{_≡_, refl, ap, sym, _∙_}
+use mathlib.Core.List.{List, [], _∷_, _++_, append-assoc}
+use Rattle.model.specs.Records.{Rec, recordAt, firstRecords, IF, WHILE, TIMES}
+use Rattle.model.specs.Trees.{Test, Act, Block, nil, skip, act, branch, while, times, size, testRec, skipRec, actRec, elseRec, endRec, flatten}
+use Rattle.model.proofs.Bytes.{recordsAt, recordsAt-suc}
+
+-- IF at i with m and n records in its sides
+pub record BranchAt (s : List ℕ) (i : ℕ) (q : Test) (m n : ℕ) : Type 0 where
+  pub is : recordAt s i ≡ testRec IF q 0
+  pub middle : recordAt s (i + 1 + m) ≡ elseRec
+  pub last : recordAt s (i + 2 + m + n) ≡ endRec
+
+-- a loop of kind k and count c at i with m records in its body
+pub record LoopAt (s : List ℕ) (i k : ℕ) (q : Test) (c m : ℕ) : Type 0 where
+  pub is : recordAt s i ≡ testRec k q c
+  pub last : recordAt s (i + 1 + m) ≡ endRec
+
+abbrev pub At : List ℕ → ℕ → Block → Type 0
+At s i nil = Unit {0}
+At s i (skip n b) = (recordAt s i ≡ skipRec n) × At s (i + 1) b
+At s i (act p b) = (recordAt s i ≡ actRec p) × At s (i + 1) b
+At s i (branch q a d b) = BranchAt s i q (size a) (size d) × At s (i + 1) a × At s (i + 2 + size a) d × At s (i + 3 + size a + size d) b
+At s i (while q n a b) = LoopAt s i WHILE q n (size a) × At s (i + 1) a × At s (i + 2 + size a) b
+At s i (times q n a b) = LoopAt s i TIMES q n (size a) × At s (i + 1) a × At s (i + 2 + size a) b
+
+-- the first of n records from i on is r, and the others are rs
+record Starts (s : List ℕ) (i n : ℕ) (r : Rec) (rs : List Rec) : Type 0 where
+  left : ℕ
+  counts : n ≡ suc left
+  same : recordAt s i ≡ r
+  after : recordsAt s (i + 1) left ≡ rs
+
+starts : (s : List ℕ) (i n : ℕ) (r : Rec) (rs : List Rec) → recordsAt s i n ≡ r ∷ rs → Starts s i n r rs
+unfolding firstRecords
+starts s i zero r rs e = let z : _≡_ {A = ℕ} 0 1 = cc in absurd (omega arith)
+starts s i (suc n) r rs e = let f = sym (recordsAt-suc s i n) ∙ e in record { left = n; counts = refl; same = cc; after = cc }
+
+-- the first of n records from i on are those of b, and the others are rs
+pub record Begins (s : List ℕ) (i n : ℕ) (b : Block) (rs : List Rec) : Type 0 where
+  pub stands : At s i b
+  pub left : ℕ
+  pub counts : n ≡ size b + left
+  pub after : recordsAt s (i + size b) left ≡ rs
+
+from : (s : List ℕ) (i j n : ℕ) (rs : List Rec) → i ≡ j → recordsAt s i n ≡ rs → recordsAt s j n ≡ rs
+from s i j n rs e h = ap (λ (k : ℕ). recordsAt s k n) (sym e) ∙ h
+
+-- a record r that opens no block, and the block after it
+record Led (s : List ℕ) (i n : ℕ) (r : Rec) (b : Block) (rs : List Rec) : Type 0 where
+  is : recordAt s i ≡ r
+  follows : At s (i + 1) b
+  left : ℕ
+  counts : n ≡ 1 + size b + left
+  after : recordsAt s (i + (1 + size b)) left ≡ rs
+
+led : (s : List ℕ) (i n : ℕ) (r : Rec) (b : Block) (rs : List Rec)
+    → recordsAt s i n ≡ r ∷ (flatten b ++ rs)
+    → ((m : ℕ) → recordsAt s (i + 1) m ≡ flatten b ++ rs → Begins s (i + 1) m b rs)
+    → Led s i n r b rs
+led s i n r b rs e next =
+    let o = starts s i n r (flatten b ++ rs) e in
+    let B = next (o .left) (o .after) in
+    record {
+      is = o .same;
+      follows = B .stands;
+      left = B .left;
+      counts = omega arith;
+      after = from s (i + 1 + size b) (i + (1 + size b)) (B .left) rs (omega arith) (B .after);
+    }
+
+-- a loop's body, and what follows its END
+record Looped (s : List ℕ) (i n k : ℕ) (q : Test) (c : ℕ) (a b : Block) (rs : List Rec) : Type 0 where
+  opens : LoopAt s i k q c (size a)
+  body : At s (i + 1) a
+  follows : At s (i + 2 + size a) b
+  left : ℕ
+  counts : n ≡ 2 + size a + size b + left
+  after : recordsAt s (i + (2 + size a + size b)) left ≡ rs
+
+looped : (s : List ℕ) (i n k : ℕ) (q : Test) (c : ℕ) (a b : Block) (rs : List Rec)
+    → recordsAt s i n ≡ testRec k q c ∷ (flatten a ++ endRec ∷ (flatten b ++ rs))
+    → ((m : ℕ) → recordsAt s (i + 1) m ≡ flatten a ++ endRec ∷ (flatten b ++ rs) → Begins s (i + 1) m a (endRec ∷ (flatten b ++ rs)))
+    → ((m : ℕ) → recordsAt s (i + 2 + size a) m ≡ flatten b ++ rs → Begins s (i + 2 + size a) m b rs)
+    → Looped s i n k q c a b rs
+looped s i n k q c a b rs e go next =
+    let o = starts s i n _ _ e in
+    let A = go (o .left) (o .after) in
+    let z = starts s (i + 1 + size a) (A .left) endRec (flatten b ++ rs) (A .after) in
+    let B = next (z .left) (from s (i + 1 + size a + 1) (i + 2 + size a) (z .left) (flatten b ++ rs) (omega arith) (z .after)) in
+    record {
+      opens = record { is = o .same; last = z .same };
+      body = A .stands;
+      follows = B .stands;
+      left = B .left;
+      counts = omega arith;
+      after = from s (i + 2 + size a + size b) (i + (2 + size a + size b)) (B .left) rs (omega arith) (B .after);
+    }
+
+pub begins : (s : List ℕ) (i n : ℕ) (b : Block) (rs : List Rec) → recordsAt s i n ≡ flatten b ++ rs → Begins s i n b rs
+unfolding flatten
+begins s i n nil rs e = record { stands = tt; left = n; counts = omega arith; after = from s i (i + 0) n rs (omega arith) e }
+begins s i n (skip m b) rs e =
+    let L = led s i n (skipRec m) b rs e (λ m f. begins s (i + 1) m b rs f) in
+    record { stands = (L .is, L .follows); left = L .left; counts = L .counts; after = L .after }
+begins s i n (act p b) rs e =
+    let L = led s i n (actRec p) b rs e (λ m f. begins s (i + 1) m b rs f) in
+    record { stands = (L .is, L .follows); left = L .left; counts = L .counts; after = L .after }
+begins s i n (branch q a d b) rs e =
+    let o = starts s i n (testRec IF q 0) (flatten a ++ elseRec ∷ (flatten d ++ endRec ∷ (flatten b ++ rs))) (simp append-assoc at e) in
+    let A = begins s (i + 1) (o .left) a (elseRec ∷ (flatten d ++ endRec ∷ (flatten b ++ rs))) (o .after) in
+    let m = starts s (i + 1 + size a) (A .left) elseRec (flatten d ++ endRec ∷ (flatten b ++ rs)) (A .after) in
+    let D = begins s (i + 2 + size a) (m .left) d (endRec ∷ (flatten b ++ rs)) (from s (i + 1 + size a + 1) (i + 2 + size a) (m .left) (flatten d ++ endRec ∷ (flatten b ++ rs)) (omega arith) (m .after)) in
+    let z = starts s (i + 2 + size a + size d) (D .left) endRec (flatten b ++ rs) (D .after) in
+    let B = begins s (i + 3 + size a + size d) (z .left) b rs (from s (i + 2 + size a + size d + 1) (i + 3 + size a + size d) (z .left) (flatten b ++ rs) (omega arith) (z .after)) in
+    record {
+      stands = (record { is = o .same; middle = m .same; last = z .same }, A .stands, D .stands, B .stands);
+      left = B .left;
+      counts = omega arith;
+      after = from s (i + 3 + size a + size d + size b) (i + (3 + size a + size d + size b)) (B .left) rs (omega arith) (B .after);
+    }
+begins s i n (while q c a b) rs e =
+    let L = looped s i n WHILE q c a b rs (simp append-assoc at e) (λ m f. begins s (i + 1) m a (endRec ∷ (flatten b ++ rs)) f) (λ m f. begins s (i + 2 + size a) m b rs f) in
+    record { stands = (L .opens, L .body, L .follows); left = L .left; counts = L .counts; after = L .after }
+begins s i n (times q c a b) rs e =
+    let L = looped s i n TIMES q c a b rs (simp append-assoc at e) (λ m f. begins s (i + 1) m a (endRec ∷ (flatten b ++ rs)) f) (λ m f. begins s (i + 2 + size a) m b rs f) in
+    record { stands = (L .opens, L .body, L .follows); left = L .left; counts = L .counts; after = L .after }
