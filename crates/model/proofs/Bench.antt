@@ -9,13 +9,15 @@ use Rattle.model.specs.declared.Form.the-variants.{Task, Equalised, Laid
 use Rattle.model.specs.Records.{firstRecords, records, bytes, SKIP, SET, READ, WRITE, IF, ELSE, WHILE, END, BEAT, SAVE}
 use Rattle.model.specs.Settings.{settingsOf, badSettings}
 use Rattle.model.specs.Trees.{flatten, stackOf, treeOf, fileTree}
-use Rattle.model.specs.Runs.{Effect, nothing, assigns, outputs, beats, saves, overruns, Step, Buffers, holds, result, effect}
+use Rattle.model.specs.Runs.{Effect, nothing, assigns, outputs, beats, saves, overruns, Buffers, isBeat, isSave, starts, holds, result, effect}
 use Rattle.model.specs.Equalising.{equalise}
 use Rattle.model.specs.Layout.{before, lastValue, layout, total}
-use Rattle.model.specs.Stopping.{imageBytes, imageOf, takeUp, isSave}
+use Rattle.model.specs.Stopping.{imageBytes, imageOf, takeUp}
 use Rattle.model.specs.Refusals.{fieldsFit, scan, fault}
 use Rattle.model.specs.Answers.{Verdict, finished, refused}
-use Rattle.model.specs.Replies.{reading, timeReply, equalisedTree, equaliseReply, equaliseOut, laidTree, layOutReply, layOutOut, Loan, ready, stepsOf, runReply, runBuffers, imageAt, stopReply, stopBuffers, stopImage, takenUp, takenBuffers, resumeReply, resumeBuffers, restartReply, restartBuffers}
+use Rattle.model.specs.Replies.{reading, timeReply, equalisedTree, equaliseReply, equaliseOut, laidTree, layOutReply, layOutOut}
+use Rattle.model.specs.Replies.{Loan, ready, stepsOf, runReply, runBuffers, imageAt, stopReply, stopBuffers, stopImage}
+use Rattle.model.specs.Replies.{takenUp, takenBuffers, resumeReply, resumeBuffers, restartReply, restartBuffers}
 use Rattle.model.specs.Listing.{Line, line, Printed, listed, turnedDown, printed}
 
 -- THE TASKS
@@ -134,7 +136,7 @@ ends r b = said r ∷ b .levels ∷ b .marks ∷ take 2 (b .variables) ∷ []
 abbrev ending : Loan → List (List ℕ)
 ending c = ends (runReply c) (runBuffers c)
 
--- stopped at c, what the stop answers, and the tick of its image where it wrote one; and the end of the run taken up
+-- stopped at a tick and resumed: what the stop answers, the image's tick and the ticks run again, and the end
 abbrev takenUpAt : ℕ → Bench → List (List ℕ)
 takenUpAt stop c =
     let file = laidFile c in
@@ -142,8 +144,9 @@ takenUpAt stop c =
     let image = stopImage first (junk 72) stop in
     let left = stopBuffers first (junk 72) stop in
     let again = loan c Laid file (left .variables) (left .levels) (left .marks) in
-    said (stopReply first (junk 72) stop) ∷ (imageOf image .tick ∷ []) ∷ ends (resumeReply again image) (resumeBuffers again image)
+    said (stopReply first (junk 72) stop) ∷ (imageOf image .tick ∷ (stop - imageOf image .tick) ∷ []) ∷ ends (resumeReply again image) (resumeBuffers again image)
 
+-- stopped at a tick and restarted: what the stop answers, and the end
 abbrev restartedAt : ℕ → Bench → List (List ℕ)
 restartedAt stop c =
     let file = laidFile c in
@@ -152,19 +155,7 @@ restartedAt stop c =
     let again = loan c Laid file zeros (left .levels) (left .marks) in
     said (stopReply first (junk 72) stop) ∷ ends (restartReply again) (restartBuffers again)
 
--- the start ticks of the steps that p picks
-abbrev starts : (Effect → Bool) → ℕ → List Step → List ℕ
-starts p t [] = []
-starts p t (e ∷ es) = cond (p (e .does)) (t ∷ []) [] ++ starts p (t + e .lasts) es
-
-abbrev isBeat : Effect → Bool
-isBeat nothing = false
-isBeat (assigns a x) = false
-isBeat (outputs p x) = false
-isBeat (beats x) = true
-isBeat (saves m) = false
-isBeat overruns = false
-
+-- the steps that are WRITEs
 abbrev isOutput : Effect → Bool
 isOutput nothing = false
 isOutput (assigns a x) = false
@@ -214,9 +205,13 @@ pub record Lettered : Type 0 where
 abbrev case : List ℕ → List ℕ → ℕ → Question → List (List ℕ) → Lettered
 case s bs x q a = record { on = record { rack = s; task = bs; input = x }; asks = q; expects = a }
 
-abbrev Holds : List Lettered → Type 0
+abbrev pub Holds : List Lettered → Type 0
 Holds [] = Unit {0}
 Holds (l ∷ ls) = (answer (l .on) (l .asks) ≡ l .expects) × Holds ls
+
+-- an end's rows: the end tick, whether it overran, level and mark of port 0, variables 0 and 1
+abbrev end : ℕ → ℕ → ℕ → ℕ → ℕ → ℕ → List (List ℕ)
+end t o x m a b = (0 ∷ t ∷ o ∷ []) ∷ (x ∷ replicate 7 0) ∷ (m ∷ replicate 7 0) ∷ (a ∷ b ∷ []) ∷ []
 
 pub lettered : List Lettered
 lettered =
@@ -237,26 +232,8 @@ lettered =
     ∷ case (settings 20 200) factorial 12 timing ((0 ∷ 84 ∷ []) ∷ [])
     ∷ case (settings 20 200) factorial 12 placed ((0 ∷ 20 ∷ 40 ∷ 60 ∷ 80 ∷ 100 ∷ 120 ∷ 140 ∷ []) ∷ (3 ∷ 83 ∷ []) ∷ (124 ∷ []) ∷ [])
     ∷ case (settings 20 200) factorial 12 laying-out ((0 ∷ 143 ∷ []) ∷ row BEAT 0 0 0 3 0 ∷ [])
-    ∷ case (settings 20 200) factorial 12 running
-    ((0 ∷ 84 ∷ 0 ∷ [])
-    ∷ (3628800 ∷ replicate 7 0)
-    ∷ (1 ∷ replicate 7 0)
-    ∷ (0 ∷ 3628800 ∷ [])
-    ∷ (0 ∷ 143 ∷ 0 ∷ [])
-    ∷ (3628800 ∷ replicate 7 0)
-    ∷ (1 ∷ replicate 7 0)
-    ∷ (0 ∷ 3628800 ∷ [])
-    ∷ [])
-    ∷ case (settings 20 200) factorial 0 running
-    ((0 ∷ 11 ∷ 0 ∷ [])
-    ∷ (1 ∷ replicate 7 0)
-    ∷ (1 ∷ replicate 7 0)
-    ∷ (0 ∷ 1 ∷ [])
-    ∷ (0 ∷ 143 ∷ 0 ∷ [])
-    ∷ (1 ∷ replicate 7 0)
-    ∷ (1 ∷ replicate 7 0)
-    ∷ (0 ∷ 1 ∷ [])
-    ∷ [])
+    ∷ case (settings 20 200) factorial 12 running (end 84 0 3628800 1 0 3628800 ++ end 143 0 3628800 1 0 3628800)
+    ∷ case (settings 20 200) factorial 0 running (end 11 0 1 1 0 1 ++ end 143 0 1 1 0 1)
     -- D
     ∷ case (settings 20 143) factorial 12 laying-out ((0 ∷ 143 ∷ []) ∷ row BEAT 0 0 0 0 0 ∷ [])
     -- E
@@ -297,42 +274,21 @@ lettered =
     ∷ (43 ∷ [])
     ∷ [])
     -- J
-    ∷ case (settings 20 100) spinning 0 running
-    ((0 ∷ 5 ∷ 1 ∷ [])
-    ∷ replicate 8 0
-    ∷ replicate 8 0
-    ∷ (0 ∷ 0 ∷ [])
-    ∷ (0 ∷ 18 ∷ 1 ∷ [])
-    ∷ replicate 8 0
-    ∷ replicate 8 0
-    ∷ (0 ∷ 0 ∷ [])
-    ∷ [])
-    -- K: the image's tick, 13 and 93, is where the run is taken up, so 79 and 0 ticks are run again
-    ∷ case (settings 20 200) factorial 12 (resuming 92)
-    ((0 ∷ 92 ∷ 0 ∷ 1 ∷ [])
-    ∷ (13 ∷ [])
-    ∷ (0 ∷ 143 ∷ 0 ∷ [])
-    ∷ (3628800 ∷ replicate 7 0)
-    ∷ (1 ∷ replicate 7 0)
-    ∷ (0 ∷ 3628800 ∷ [])
-    ∷ [])
-    ∷ case (settings 20 200) factorial 12 (resuming 93)
-    ((0 ∷ 93 ∷ 0 ∷ 1 ∷ [])
-    ∷ (93 ∷ [])
-    ∷ (0 ∷ 143 ∷ 0 ∷ [])
-    ∷ (3628800 ∷ replicate 7 0)
-    ∷ (1 ∷ replicate 7 0)
-    ∷ (0 ∷ 3628800 ∷ [])
-    ∷ [])
-    ∷ case (settings 20 200) factorial 12 (restarting 12)
-    ((0 ∷ 12 ∷ 0 ∷ 0 ∷ [])
-    ∷ (0 ∷ 143 ∷ 0 ∷ [])
-    ∷ (3628800 ∷ replicate 7 0)
-    ∷ (1 ∷ replicate 7 0)
-    ∷ (0 ∷ 3628800 ∷ [])
-    ∷ [])
+    ∷ case (settings 20 100) spinning 0 running (end 5 1 0 0 0 0 ++ end 18 1 0 0 0 0)
+    -- K
+    ∷ case (settings 20 200) factorial 12 (resuming 92) ((0 ∷ 92 ∷ 0 ∷ 1 ∷ []) ∷ (13 ∷ 79 ∷ []) ∷ end 143 0 3628800 1 0 3628800)
+    ∷ case (settings 20 200) factorial 12 (resuming 93) ((0 ∷ 93 ∷ 0 ∷ 1 ∷ []) ∷ (93 ∷ 0 ∷ []) ∷ end 143 0 3628800 1 0 3628800)
+    ∷ case (settings 20 200) factorial 12 (restarting 12) ((0 ∷ 12 ∷ 0 ∷ 0 ∷ []) ∷ end 143 0 3628800 1 0 3628800)
+    -- "Nesting 8 passes, 9 is refused 5. 11 bytes are refused 1."
+    ∷ case (settings 20 100) (file (nested 8 [])) 0 timing ((0 ∷ 8 ∷ []) ∷ [])
+    ∷ case (settings 20 100) (file (nested 9 [])) 0 timing ((5 ∷ 8 ∷ []) ∷ [])
+    ∷ case (settings 20 100) (junk 11) 0 timing ((1 ∷ 11 ∷ []) ∷ [])
     ∷ []
 
 pub bench : Holds lettered
-unfolding lettered firstRecords records bytes settingsOf badSettings flatten stackOf treeOf fileTree holds result effect equalise before lastValue layout total imageBytes imageOf takeUp fieldsFit scan fault reading timeReply equalisedTree equaliseReply equaliseOut laidTree layOutReply layOutOut ready stepsOf runReply runBuffers imageAt stopReply stopBuffers stopImage takenUp takenBuffers resumeReply resumeBuffers restartReply restartBuffers printed
-bench = (refl, (refl, (refl, (refl, (refl, (refl, (refl, (refl, (refl, (refl, (refl, (refl, (refl, (refl, (refl, (refl, (refl, (refl, (refl, tt)))))))))))))))))))
+unfolding
+    lettered firstRecords records bytes settingsOf badSettings flatten stackOf treeOf fileTree holds result effect equalise before
+    lastValue layout total imageBytes imageOf takeUp fieldsFit scan fault reading timeReply equalisedTree equaliseReply equaliseOut
+    laidTree layOutReply layOutOut ready stepsOf runReply runBuffers imageAt stopReply stopBuffers stopImage takenUp takenBuffers
+    resumeReply resumeBuffers restartReply restartBuffers printed
+bench = (refl, (refl, (refl, (refl, (refl, (refl, (refl, (refl, (refl, (refl, (refl, (refl, (refl, (refl, (refl, (refl, (refl, (refl, (refl, (refl, (refl, (refl, tt))))))))))))))))))))))

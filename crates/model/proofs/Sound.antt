@@ -9,8 +9,10 @@ use lib.ListN.{length}
 use borrow.Author.Tests.{eqb-true, ltb-false}
 use Rattle.model.specs.declared.Form.{Form}
 use Rattle.model.specs.Records.{Rec, IF, WHILE, TIMES, records, bytes}
-use Rattle.model.specs.Trees.{Test, Act, set, read, write, check, beat, save, Block, nil, skip, act, branch, while, times, size, depth, testRec, skipRec, actRec, elseRec, endRec, flatten, treeOf, fileTree}
-use Rattle.model.specs.Refusals.{maxRecords, maxDepth, kindFits, fieldsFit, Open, first, second, loop, Nesting, misplaced, inside, nest, Fault, sound, faulty, deeper, scan, fault}
+use Rattle.model.specs.Trees.{Test, Act, set, read, write, check, beat, save, Block, nil, skip, act, branch, while, times}
+use Rattle.model.specs.Trees.{size, depth, testRec, skipRec, actRec, elseRec, endRec, flatten, treeOf, fileTree}
+use Rattle.model.specs.Refusals.{maxRecords, maxDepth, kindFits, fieldsFit, Open, first, second, loop, Nesting, misplaced, inside, nest}
+use Rattle.model.specs.Refusals.{Fault, sound, faulty, deeper, scan, fault}
 use Rattle.model.proofs.Bytes.{Bytes, bytes-records, length-records, records-at}
 use Rattle.model.proofs.Trees.{length-flatten, treeOf-flatten}
 use Rattle.model.proofs.Stands.{At, begins}
@@ -49,7 +51,8 @@ Parsed f m (loop ∷ os) rs = Upto f m (suc (length os)) endRec (Parsed f m os) 
 
 -- a statement put before the first block: its records are l
 module _ (f : Form) (m : ℕ) (g : Block → Block) (l : List Rec) (flat : (b : Block) → flatten (g b) ≡ l ++ flatten b) where
-  front-upto : (n : ℕ) (closer : Rec) (More : List Rec → Type 0) (rs : List Rec) → ((b : Block) → Inner f m n b → Inner f m n (g b)) → Upto f m n closer More rs → Upto f m n closer More (l ++ rs)
+  front-upto : (n : ℕ) (closer : Rec) (More : List Rec → Type 0) (rs : List Rec)
+      → ((b : Block) → Inner f m n b → Inner f m n (g b)) → Upto f m n closer More rs → Upto f m n closer More (l ++ rs)
   front-upto n closer More rs keeps u = record {
     block = g (u .block);
     others = u .others;
@@ -64,8 +67,9 @@ module _ (f : Form) (m : ℕ) (g : Block → Block) (l : List Rec) (flat : (b : 
   front (second ∷ os) rs keeps p = front-upto (suc (length os)) endRec (Parsed f m os) rs keeps p
   front (loop ∷ os) rs keeps p = front-upto (suc (length os)) endRec (Parsed f m os) rs keeps p
 
-inside-inj : (a b : List Open) → inside a ≡ inside b → a ≡ b
-inside-inj a b e = cc
+-- the same open blocks
+reopen : (f : Form) (m : ℕ) (os next : List Open) (rs : List Rec) → inside os ≡ inside next → Parsed f m next rs → Parsed f m os rs
+reopen f m os next rs e p = let q : next ≡ os = cc in subst (λ (o : List Open). Parsed f m o rs) q p
 
 nest-act : (p : Act) (os : List Open) → nest (actRec p .kind) os ≡ inside os
 nest-act (set o t l x) os = refl
@@ -131,29 +135,30 @@ else-turn : (f : Form) (m : ℕ) (os next : List Open) (rs : List Rec) → lengt
 unfolding flatten
 else-turn f m [] next rs l e p = let z : _≡_ {A = ℕ} 0 1 = cc in absurd (omega arith)
 else-turn f m (first ∷ os) next rs l e p =
-    record { block = nil; others = rs; same = refl; inner = empty f m (suc (length os)) l; more = subst (λ (o : List Open). Parsed f m o rs) (sym (inside-inj (second ∷ os) next e)) p }
+    record { block = nil; others = rs; same = refl; inner = empty f m (suc (length os)) l; more = reopen f m (second ∷ os) next rs e p }
 else-turn f m (second ∷ os) next rs l e p = let z : _≡_ {A = ℕ} 0 1 = cc in absurd (omega arith)
 else-turn f m (loop ∷ os) next rs l e p = let z : _≡_ {A = ℕ} 0 1 = cc in absurd (omega arith)
 
 close-turn : (f : Form) (m : ℕ) (os next : List Open) (rs : List Rec) → length os ≤ m → nest 8 os ≡ inside next → Parsed f m next rs → Parsed f m os (endRec ∷ rs)
 close-turn f m [] next rs l e p = let z : _≡_ {A = ℕ} 0 1 = cc in absurd (omega arith)
 close-turn f m (first ∷ os) next rs l e p = let z : _≡_ {A = ℕ} 0 1 = cc in absurd (omega arith)
-close-turn f m (second ∷ os) next rs l e p = end-turn f m os rs (omega arith) (subst (λ (o : List Open). Parsed f m o rs) (sym (inside-inj os next e)) p)
-close-turn f m (loop ∷ os) next rs l e p = end-turn f m os rs (omega arith) (subst (λ (o : List Open). Parsed f m o rs) (sym (inside-inj os next e)) p)
+close-turn f m (second ∷ os) next rs l e p = end-turn f m os rs (omega arith) (reopen f m os next rs e p)
+close-turn f m (loop ∷ os) next rs l e p = end-turn f m os rs (omega arith) (reopen f m os next rs e p)
 
-turn : (f : Form) (m : ℕ) (os next : List Open) (r : Rec) (rs : List Rec) → Shape r → Fit f r → length os ≤ m → nest (r .kind) os ≡ inside next → Parsed f m next rs → Parsed f m os (r ∷ rs)
+turn : (f : Form) (m : ℕ) (os next : List Open) (r : Rec) (rs : List Rec) → Shape r → Fit f r → length os ≤ m
+    → nest (r .kind) os ≡ inside next → Parsed f m next rs → Parsed f m os (r ∷ rs)
 unfolding flatten
-turn f m os next r rs (is-skip n) fit l e p = skip-turn f m os rs n fit (subst (λ (o : List Open). Parsed f m o rs) (sym (inside-inj os next e)) p)
+turn f m os next r rs (is-skip n) fit l e p = skip-turn f m os rs n fit (reopen f m os next rs e p)
 turn f m os next r rs (is-act a) fit l e p =
-    act-turn f m os rs a fit (subst (λ (o : List Open). Parsed f m o rs) (sym (inside-inj os next (sym (nest-act a os) ∙ e))) p)
+    act-turn f m os rs a fit (reopen f m os next rs (sym (nest-act a os) ∙ e) p)
 turn f m os next r rs (is-if q) fit l e p =
-    if-turn f m os rs q fit (subst (λ (o : List Open). Parsed f m o rs) (sym (inside-inj (first ∷ os) next e)) p)
+    if-turn f m os rs q fit (reopen f m (first ∷ os) next rs e p)
 turn f m os next r rs (is-while q n) fit l e p =
     loop-turn f m os rs (while q n) (testRec WHILE q n) (λ a b. refl) (λ a b. refl) (λ a b x y. (fit, x, y))
-    (subst (λ (o : List Open). Parsed f m o rs) (sym (inside-inj (loop ∷ os) next e)) p)
+    (reopen f m (loop ∷ os) next rs e p)
 turn f m os next r rs (is-times q n) fit l e p =
     loop-turn f m os rs (times q n) (testRec TIMES q n) (λ a b. refl) (λ a b. refl) (λ a b x y. (fit, x, y))
-    (subst (λ (o : List Open). Parsed f m o rs) (sym (inside-inj (loop ∷ os) next e)) p)
+    (reopen f m (loop ∷ os) next rs e p)
 turn f m os next r rs is-else fit l e p = else-turn f m os next rs l e p
 turn f m os next r rs is-end fit l e p = close-turn f m os next rs l e p
 
@@ -171,7 +176,8 @@ passed : (f : Form) (i : ℕ) (os : List Open) (r : Rec) (rs : List Rec) → sca
 unfolding scan
 passed f i os r rs e = by-kind (kindFits f (r .kind)) refl (fieldsFit r) refl (nest (r .kind) os) refl e
   where
-    by-depth : kindFits f (r .kind) ≡ true → fieldsFit r ≡ true → (next : List Open) → nest (r .kind) os ≡ inside next → (o : Bool) → ltb (maxDepth f) (length next) ≡ o → cond o (faulty 5 i) (scan f (i + 1) next rs) ≡ sound → Passed f i os r rs
+    by-depth : kindFits f (r .kind) ≡ true → fieldsFit r ≡ true → (next : List Open) → nest (r .kind) os ≡ inside next
+        → (o : Bool) → ltb (maxDepth f) (length next) ≡ o → cond o (faulty 5 i) (scan f (i + 1) next rs) ≡ sound → Passed f i os r rs
     by-depth k x next n true t h = let z : _≡_ {A = ℕ} 0 1 = cc in absurd (omega arith)
     by-depth k x next n false t h = record { fit = record { kind = k; fields = x }; next = next; nests = n; small = ltb-false (maxDepth f) (length next) t; after = h }
 
@@ -202,7 +208,8 @@ whole : (f : Form) (s : List ℕ) → fault f s ≡ sound → Whole f s
 unfolding fault
 whole f s e = go (eqb (length s % 12) 0) refl (ltb (12 * maxRecords f) (length s)) refl e
   where
-    go : (a : Bool) → eqb (length s % 12) 0 ≡ a → (b : Bool) → ltb (12 * maxRecords f) (length s) ≡ b → cond (not a || b) (faulty 1 (length s)) (scan f 0 [] (records s)) ≡ sound → Whole f s
+    go : (a : Bool) → eqb (length s % 12) 0 ≡ a → (b : Bool) → ltb (12 * maxRecords f) (length s) ≡ b
+        → cond (not a || b) (faulty 1 (length s)) (scan f 0 [] (records s)) ≡ sound → Whole f s
     go false p b q h = let z : _≡_ {A = ℕ} 0 1 = cc in absurd (omega arith)
     go true p true q h = let z : _≡_ {A = ℕ} 0 1 = cc in absurd (omega arith)
     go true p false q h = record { even = eqb-true (length s % 12) 0 p; few = ltb-false (12 * maxRecords f) (length s) q; scanned = h }

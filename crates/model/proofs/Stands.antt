@@ -109,12 +109,15 @@ begins s i n (act p b) rs e =
     let L = led s i n (actRec p) b rs e (λ m f. begins s (i + 1) m b rs f) in
     record { stands = (L .is, L .follows); left = L .left; counts = L .counts; after = L .after }
 begins s i n (branch q a d b) rs e =
-    let o = starts s i n (testRec IF q 0) (flatten a ++ elseRec ∷ (flatten d ++ endRec ∷ (flatten b ++ rs))) (simp append-assoc at e) in
-    let A = begins s (i + 1) (o .left) a (elseRec ∷ (flatten d ++ endRec ∷ (flatten b ++ rs))) (o .after) in
-    let m = starts s (i + 1 + size a) (A .left) elseRec (flatten d ++ endRec ∷ (flatten b ++ rs)) (A .after) in
-    let D = begins s (i + 2 + size a) (m .left) d (endRec ∷ (flatten b ++ rs)) (from s (i + 1 + size a + 1) (i + 2 + size a) (m .left) (flatten d ++ endRec ∷ (flatten b ++ rs)) (omega arith) (m .after)) in
-    let z = starts s (i + 2 + size a + size d) (D .left) endRec (flatten b ++ rs) (D .after) in
-    let B = begins s (i + 3 + size a + size d) (z .left) b rs (from s (i + 2 + size a + size d + 1) (i + 3 + size a + size d) (z .left) (flatten b ++ rs) (omega arith) (z .after)) in
+    let follow = flatten b ++ rs in
+    let o = starts s i n (testRec IF q 0) (flatten a ++ elseRec ∷ (flatten d ++ endRec ∷ follow)) (simp append-assoc at e) in
+    let A = begins s (i + 1) (o .left) a (elseRec ∷ (flatten d ++ endRec ∷ follow)) (o .after) in
+    let m = starts s (i + 1 + size a) (A .left) elseRec (flatten d ++ endRec ∷ follow) (A .after) in
+    let at-d = from s (i + 1 + size a + 1) (i + 2 + size a) (m .left) (flatten d ++ endRec ∷ follow) (omega arith) (m .after) in
+    let D = begins s (i + 2 + size a) (m .left) d (endRec ∷ follow) at-d in
+    let z = starts s (i + 2 + size a + size d) (D .left) endRec follow (D .after) in
+    let at-b = from s (i + 2 + size a + size d + 1) (i + 3 + size a + size d) (z .left) follow (omega arith) (z .after) in
+    let B = begins s (i + 3 + size a + size d) (z .left) b rs at-b in
     record {
       stands = (record { is = o .same; middle = m .same; last = z .same }, A .stands, D .stands, B .stands);
       left = B .left;

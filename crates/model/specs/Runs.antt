@@ -27,6 +27,36 @@ pub record Step : Type 0 where
 abbrev pub step : ℕ → ℕ → Effect → Step
 step d i w = record { lasts = d; index = i; does = w }
 
+-- the steps that are BEATs, SAVEs and overruns
+abbrev pub isBeat : Effect → Bool
+isBeat nothing = false
+isBeat (assigns a x) = false
+isBeat (outputs p x) = false
+isBeat (beats x) = true
+isBeat (saves m) = false
+isBeat overruns = false
+
+abbrev pub isSave : Effect → Bool
+isSave nothing = false
+isSave (assigns a x) = false
+isSave (outputs p x) = false
+isSave (beats x) = false
+isSave (saves m) = true
+isSave overruns = false
+
+abbrev pub isOverrun : Effect → Bool
+isOverrun nothing = false
+isOverrun (assigns a x) = false
+isOverrun (outputs p x) = false
+isOverrun (beats x) = false
+isOverrun (saves m) = false
+isOverrun overruns = true
+
+-- the start ticks of those that p picks, where the first begins at tick t
+abbrev pub starts : (Effect → Bool) → ℕ → List Step → List ℕ
+starts p t [] = []
+starts p t (e ∷ es) = cond (p (e .does)) (t ∷ []) [] ++ starts p (t + e .lasts) es
+
 -- WHAT STEPS LEAVE
 
 -- "Steps .. add their ticks."
@@ -65,14 +95,6 @@ level x = x
 
 abbrev pub mark : ℕ → ℕ
 mark x = 1
-
-abbrev pub isOverrun : Effect → Bool
-isOverrun nothing = false
-isOverrun (assigns a x) = false
-isOverrun (outputs p x) = false
-isOverrun (beats x) = false
-isOverrun (saves m) = false
-isOverrun overruns = true
 
 abbrev pub overran : List Step → Bool
 overran [] = false

@@ -1,12 +1,12 @@
 -- Document 01, "Stopping and taking up".
 use Prim.Native.Nat.{ℕ, zero, suc, _+_, _-_}
-use mathlib.Core.Bool.{Bool, true, false, cond}
+use mathlib.Core.Bool.{cond}
 use mathlib.Core.List.{List, [], _∷_, _++_}
 use lib.Dec.{leb}
 use Rattle.model.specs.declared.Settings.{Settings}
 use Rattle.model.specs.Records.{wordAt, wordBytes}
 use Rattle.model.specs.Trees.{Test, Act, Block, nil, skip, act, branch, while, times, _⧺_, size}
-use Rattle.model.specs.Runs.{Effect, nothing, assigns, outputs, beats, saves, overruns, Step, onVariables, run}
+use Rattle.model.specs.Runs.{Step, isSave, onVariables, run}
 
 -- "Stopped at tick c, a run has done the steps that end at or before c."
 abbrev pub upto : ℕ → List Step → List Step
@@ -22,14 +22,6 @@ pub record Image : Type 0 where
 pub data Saved : Type 0 where
   none : Saved
   saved : Image → Saved
-
-abbrev pub isSave : Effect → Bool
-isSave nothing = false
-isSave (assigns a x) = false
-isSave (outputs p x) = false
-isSave (beats x) = false
-isSave (saves m) = true
-isSave overruns = false
 
 -- the image of the last SAVE among steps that begin at tick t with variables v, or m if there is none
 abbrev pub lastImage : List Step → ℕ → List ℕ → Saved → Saved

@@ -1,0 +1,2 @@
+-- The theorems on the definitions.
+pub mod Bench

@@ -1,0 +1,1 @@
+// Theorems on the definitions of `model`, in proofs/. There is no code.
