@@ -23,15 +23,15 @@ use Rattle.model.specs.Listing.{Line, line, Printed, listed, turnedDown,
 -- THE TASKS
 
 -- the 12 bytes of a record whose numbers are below 256, and a file of such rows
-abbrev row : ℕ → ℕ → ℕ → ℕ → ℕ → ℕ → List ℕ
+abbrev pub row : ℕ → ℕ → ℕ → ℕ → ℕ → ℕ → List ℕ
 row k o t l x n = k ∷ o ∷ t ∷ l ∷ x ∷ 0 ∷ 0 ∷ 0 ∷ n ∷ 0 ∷ 0 ∷ 0 ∷ []
 
-abbrev file : List (List ℕ) → List ℕ
+abbrev pub file : List (List ℕ) → List ℕ
 file [] = []
 file (r ∷ rs) = r ++ file rs
 
 -- "Settings 3, 3, 3, 3, 10, K 4, H 20, P 100 unless said."
-abbrev settings : ℕ → ℕ → List ℕ
+abbrev pub settings : ℕ → ℕ → List ℕ
 settings h p = 3 ∷ 3 ∷ 3 ∷ 3 ∷ 10 ∷ 4 ∷ h ∷ 0 ∷ p ∷ 0 ∷ 0 ∷ 0 ∷ []
 
 -- "READ 0 0, WRITE 0 0"
@@ -90,11 +90,11 @@ pub record Bench : Type 0 where
   pub input : ℕ
 
 -- a buffer that holds anything
-abbrev junk : ℕ → List ℕ
+abbrev pub junk : ℕ → List ℕ
 junk n = replicate n 9
 
 -- a verdict's number, 0 where it is finished, and values
-abbrev said : Verdict → List ℕ
+abbrev pub said : Verdict → List ℕ
 said (finished xs) = 0 ∷ xs
 said (refused n xs) = n ∷ xs
 

@@ -6,3 +6,4 @@ pub mod Shapes
 pub mod Sound
 pub mod Injective
 pub mod Bench
+pub mod TurnedDown
