@@ -1,12 +1,12 @@
 -- Records as bytes and bytes as records are inverse, and the record with an index is the one that stands there.
-use Prim.Native.Nat.{ℕ, zero, suc, _+_, _*_, _-_, _/_, _%_, _≤_, _<_}
+use Prim.Native.Nat.{ℕ, zero, suc, _+_, _*_, _/_, _%_, _≤_, _<_}
 use native.Mathlib.Nat.{add-zero, add-assoc}
 use native.Mathlib.Omega.{arith}
 use mathlib.Core.Path.{_≡_, refl, ap, ap₂, sym, _∙_}
 use mathlib.Core.List.{List, [], _∷_, _++_}
-use lib.ListN.{length, getD, drop, length-drop, length-append}
+use lib.ListN.{length, getD, drop, length-drop}
 use lib.Seq.{getD-drop, drop-drop, drop-cons}
-use Rattle.model.specs.Records.{Rec, rec, wordAt, wordBytes, kindAt, recordAt, firstRecords, records, recordBytes, bytes}
+use Rattle.model.specs.Records.{Rec, wordBytes, recordAt, firstRecords, records, recordBytes, bytes}
 
 word-back : (n : ℕ) → n % 256 + 256 * (n / 256 % 256) + 65536 * (n / 256 / 256 % 256) + 16777216 * (n / 256 / 256 / 256) ≡ n
 word-back n = omega arith

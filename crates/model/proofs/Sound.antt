@@ -12,7 +12,7 @@ use Rattle.model.specs.Records.{Rec, IF, WHILE, TIMES, records, bytes}
 use Rattle.model.specs.Trees.{Test, Act, set, read, write, check, beat, save, Block, nil, skip, act, branch, while, times}
 use Rattle.model.specs.Trees.{size, depth, testRec, skipRec, actRec, elseRec, endRec, flatten, treeOf, fileTree}
 use Rattle.model.specs.Refusals.{maxRecords, maxDepth, kindFits, fieldsFit, Open, first, second, loop, Nesting, misplaced, inside, nest}
-use Rattle.model.specs.Refusals.{Fault, sound, faulty, deeper, scan, fault}
+use Rattle.model.specs.Refusals.{sound, faulty, deeper, scan, fault}
 use Rattle.model.proofs.Bytes.{Bytes, bytes-records, length-records, records-at}
 use Rattle.model.proofs.Trees.{length-flatten, treeOf-flatten}
 use Rattle.model.proofs.Stands.{At, begins}

@@ -2,9 +2,9 @@
 use Prim.Native.Nat.{ℕ, zero, suc, _+_}
 use native.Mathlib.Omega.{arith}
 use mathlib.Core.Path.{_≡_, refl, ap, sym, _∙_}
-use mathlib.Core.List.{List, [], _∷_, _++_, append-assoc}
+use mathlib.Core.List.{List, _∷_, _++_, append-assoc}
 use Rattle.model.specs.Records.{Rec, recordAt, firstRecords, IF, WHILE, TIMES}
-use Rattle.model.specs.Trees.{Test, Act, Block, nil, skip, act, branch, while, times, size, testRec, skipRec, actRec, elseRec, endRec, flatten}
+use Rattle.model.specs.Trees.{Test, Block, nil, skip, act, branch, while, times, size, testRec, skipRec, actRec, elseRec, endRec, flatten}
 use Rattle.model.proofs.Bytes.{recordsAt, recordsAt-suc}
 
 -- IF at i with m and n records in its sides

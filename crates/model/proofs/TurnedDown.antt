@@ -1,7 +1,8 @@
--- Document 01, "Why a call is turned down", rows 6 and 2 to 5: files on each side of each limit, and what timing them answers.
+-- Document 01, "Why a call is turned down", rows 6 and 1 to 5: settings and files at the limits, and what timing them answers.
 use Prim.Native.Nat.{ℕ}
 use mathlib.Core.Path.{_≡_, refl}
-use mathlib.Core.List.{List, [], _∷_}
+use mathlib.Core.List.{List, [], _∷_, _++_}
+use lib.ListN.{replicate}
 use Rattle.model.specs.declared.Form.{Form}
 use Rattle.model.specs.declared.Form.the-variants.{Task, Equalised, Laid}
 use Rattle.model.specs.Records.{firstRecords, records, SKIP, SET, READ, WRITE, IF, ELSE, WHILE, END, TIMES, CHECK, BEAT, SAVE}
@@ -10,6 +11,21 @@ use Rattle.model.specs.Trees.{stackOf, treeOf, fileTree}
 use Rattle.model.specs.Refusals.{fieldsFit, scan, fault}
 use Rattle.model.specs.Replies.{reading, timeReply}
 use Rattle.model.proofs.Bench.{row, file, settings, junk, said}
+
+-- settings by their numbers: the five ticks, K, H, and the lower three bytes of P
+abbrev rack-of : ℕ → ℕ → ℕ → ℕ → ℕ → ℕ → ℕ → ℕ → ℕ → ℕ → List ℕ
+rack-of a b c d e k h p q r = a ∷ b ∷ c ∷ d ∷ e ∷ k ∷ h ∷ 0 ∷ p ∷ q ∷ r ∷ 0 ∷ []
+
+-- P 1,000,000
+abbrev long-period : List ℕ
+long-period = rack-of 3 3 3 3 10 4 20 64 66 15
+
+-- rows whose bytes 4 to 7, or 8 to 11, hold the number with these three lower bytes
+abbrev valued : ℕ → ℕ → ℕ → ℕ → List ℕ
+valued k a b c = k ∷ 0 ∷ 0 ∷ 0 ∷ a ∷ b ∷ c ∷ 0 ∷ 0 ∷ 0 ∷ 0 ∷ 0 ∷ []
+
+abbrev counted : ℕ → ℕ → ℕ → ℕ → List ℕ
+counted k a b c = k ∷ 0 ∷ 0 ∷ 0 ∷ 0 ∷ 0 ∷ 0 ∷ 0 ∷ a ∷ b ∷ c ∷ 0 ∷ []
 
 -- settings, form and rows of a file, and the answer: the number and value, or 0 and the time
 pub record Turn : Type 0 where
@@ -21,19 +37,38 @@ pub record Turn : Type 0 where
 abbrev turn : List ℕ → Form → List (List ℕ) → List ℕ → Turn
 turn s f rs a = record { rack = s; form = f; rows = rs; answers = a }
 
-abbrev pub Answered : List Turn → Type 0
-Answered [] = Unit {0}
-Answered (c ∷ cs) = (said (timeReply (c .rack) (c .form) (file (c .rows))) ≡ c .answers) × Answered cs
+-- what the calls answer, and what the table says
+abbrev pub answered : List Turn → List (List ℕ)
+answered [] = []
+answered (c ∷ cs) = said (timeReply (c .rack) (c .form) (file (c .rows))) ∷ answered cs
+
+abbrev pub expected : List Turn → List (List ℕ)
+expected [] = []
+expected (c ∷ cs) = c .answers ∷ expected cs
 
 pub turns : List Turn
 turns =
     -- "settings not 12 bytes, or a number outside its range": before anything of the file
     turn (3 ∷ 3 ∷ 3 ∷ []) Task (junk 5 ∷ []) (6 ∷ [])
-    ∷ turn (settings 0 100) Task ([]) (6 ∷ [])
-    ∷ turn (settings 20 0) Task ([]) (6 ∷ [])
-    ∷ turn (3 ∷ 3 ∷ 3 ∷ 3 ∷ 10 ∷ 0 ∷ 20 ∷ 0 ∷ 100 ∷ 0 ∷ 0 ∷ 0 ∷ []) Task ([]) (6 ∷ [])
-    ∷ turn (3 ∷ 3 ∷ 3 ∷ 3 ∷ 10 ∷ 4 ∷ 20 ∷ 0 ∷ 65 ∷ 66 ∷ 15 ∷ 0 ∷ []) Task ([]) (6 ∷ [])
-    ∷ turn (3 ∷ 3 ∷ 3 ∷ 3 ∷ 10 ∷ 4 ∷ 20 ∷ 0 ∷ 64 ∷ 66 ∷ 15 ∷ 0 ∷ []) Task ([]) (0 ∷ 0 ∷ [])
+    ∷ turn (settings 0 100) Task [] (6 ∷ [])
+    ∷ turn (settings 20 0) Task [] (6 ∷ [])
+    ∷ turn (rack-of 3 3 3 3 10 0 20 100 0 0) Task [] (6 ∷ [])
+    ∷ turn (rack-of 3 3 3 3 10 4 20 65 66 15) Task [] (6 ∷ [])
+    ∷ turn long-period Task [] (0 ∷ 0 ∷ [])
+    ∷ turn (rack-of 0 3 3 3 10 4 20 100 0 0) Task [] (6 ∷ [])
+    ∷ turn (rack-of 3 0 3 3 10 4 20 100 0 0) Task [] (6 ∷ [])
+    ∷ turn (rack-of 3 3 0 3 10 4 20 100 0 0) Task [] (6 ∷ [])
+    ∷ turn (rack-of 3 3 3 0 10 4 20 100 0 0) Task [] (6 ∷ [])
+    ∷ turn (rack-of 3 3 3 3 0 4 20 100 0 0) Task [] (6 ∷ [])
+    ∷ turn (rack-of 1 1 1 1 1 1 1 1 0 0) Task [] (0 ∷ 0 ∷ [])
+    ∷ turn (junk 11) Task [] (6 ∷ [])
+    ∷ turn (junk 13) Task [] (6 ∷ [])
+    -- "file not whole records, or too many"
+    ∷ turn long-period Task (replicate 256 (row SKIP 0 0 0 0 1)) (0 ∷ 256 ∷ [])
+    ∷ turn long-period Task (replicate 257 (row SKIP 0 0 0 0 1)) (1 ∷ 3084 ∷ [])
+    ∷ turn long-period Laid (replicate 5461 (row SKIP 0 0 0 0 1)) (0 ∷ 5461 ∷ [])
+    ∷ turn long-period Equalised (replicate 5462 (row SKIP 0 0 0 0 1)) (1 ∷ 65544 ∷ [])
+    ∷ turn long-period Laid (junk 13 ∷ []) (1 ∷ 13 ∷ [])
     -- "kind not of this file"
     ∷ turn (settings 20 100) Task (row 0 0 0 0 0 0 ∷ []) (2 ∷ 0 ∷ [])
     ∷ turn (settings 20 100) Task (row TIMES 0 0 0 0 0 ∷ []) (2 ∷ 0 ∷ [])
@@ -75,6 +110,18 @@ turns =
     ∷ turn (settings 20 100) Laid (row SAVE 0 0 0 1 0 ∷ []) (3 ∷ 0 ∷ [])
     ∷ turn (settings 20 100) Laid (row CHECK 0 0 0 0 1 ∷ []) (3 ∷ 0 ∷ [])
     ∷ turn (settings 20 100) Laid (row BEAT 0 0 0 0 1 ∷ []) (3 ∷ 0 ∷ [])
+    ∷ turn long-period Task (counted SKIP 64 66 15 ∷ []) (0 ∷ 1000000 ∷ [])
+    ∷ turn long-period Task (counted SKIP 65 66 15 ∷ []) (3 ∷ 0 ∷ [])
+    ∷ turn long-period Task (counted WHILE 255 255 0 ∷ row END 0 0 0 0 0 ∷ []) (0 ∷ 65536 ∷ [])
+    ∷ turn long-period Task (counted WHILE 0 0 1 ∷ row END 0 0 0 0 0 ∷ []) (3 ∷ 0 ∷ [])
+    ∷ turn long-period Equalised (counted TIMES 255 255 0 ∷ row END 0 0 0 0 0 ∷ []) (0 ∷ 1 ∷ [])
+    ∷ turn long-period Equalised (counted TIMES 0 0 1 ∷ row END 0 0 0 0 0 ∷ []) (3 ∷ 0 ∷ [])
+    ∷ turn long-period Laid (valued BEAT 64 66 15 ∷ []) (0 ∷ 3 ∷ [])
+    ∷ turn long-period Laid (valued BEAT 65 66 15 ∷ []) (3 ∷ 0 ∷ [])
+    ∷ turn (settings 20 100) Task (row SET 3 15 15 255 0 ∷ []) (0 ∷ 3 ∷ [])
+    ∷ turn (settings 20 100) Task (row IF 5 0 15 255 0 ∷ row ELSE 0 0 0 0 0 ∷ row END 0 0 0 0 0 ∷ []) (0 ∷ 1 ∷ [])
+    ∷ turn (settings 20 100) Task (row IF 21 0 15 15 0 ∷ row ELSE 0 0 0 0 0 ∷ row END 0 0 0 0 0 ∷ []) (0 ∷ 1 ∷ [])
+    ∷ turn (settings 20 100) Task (row WRITE 0 15 7 0 0 ∷ []) (0 ∷ 3 ∷ [])
     -- "ELSE whose innermost open block is not an IF, END with no block open, IF closed with no ELSE, second ELSE, or a block open at the end"
     ∷ turn (settings 20 100) Task (row ELSE 0 0 0 0 0 ∷ []) (4 ∷ 0 ∷ [])
     ∷ turn (settings 20 100) Task (row WHILE 0 0 0 0 2 ∷ row ELSE 0 0 0 0 0 ∷ []) (4 ∷ 1 ∷ [])
@@ -93,193 +140,13 @@ turns =
     ∷ turn (settings 20 100) Task (row ELSE 1 0 0 0 0 ∷ []) (3 ∷ 0 ∷ [])
     ∷ turn (settings 20 100) Task (row END 0 0 0 0 0 ∷ row SAVE 0 0 0 0 0 ∷ []) (4 ∷ 0 ∷ [])
     ∷ turn (settings 20 100) Task (row SKIP 0 0 0 0 0 ∷ row SAVE 0 0 0 0 0 ∷ []) (3 ∷ 0 ∷ [])
-    ∷ turn (settings 20 100) Task (row IF 0 0 0 0 0 ∷ row IF 0 0 0 0 0 ∷ row IF 0 0 0 0 0 ∷ row IF 0 0 0 0 0 ∷ row IF 0 0 0 0 0 ∷ row IF 0 0 0 0 0 ∷ row IF 0 0 0 0 0 ∷ row IF 0 0 0 0 0 ∷ row IF 6 0 0 0 0 ∷ []) (3 ∷ 8 ∷ [])
-    ∷ turn (settings 20 100) Task (row IF 0 0 0 0 0 ∷ row IF 0 0 0 0 0 ∷ row IF 0 0 0 0 0 ∷ row IF 0 0 0 0 0 ∷ row IF 0 0 0 0 0 ∷ row IF 0 0 0 0 0 ∷ row IF 0 0 0 0 0 ∷ row IF 0 0 0 0 0 ∷ row IF 0 0 0 0 0 ∷ []) (5 ∷ 8 ∷ [])
-    ∷ turn (settings 20 100) Task (row WHILE 0 0 0 0 2 ∷ row WHILE 0 0 0 0 2 ∷ row WHILE 0 0 0 0 2 ∷ row WHILE 0 0 0 0 2 ∷ row WHILE 0 0 0 0 2 ∷ row WHILE 0 0 0 0 2 ∷ row WHILE 0 0 0 0 2 ∷ row WHILE 0 0 0 0 2 ∷ row WHILE 0 0 0 0 2 ∷ []) (5 ∷ 8 ∷ [])
-    ∷ turn (settings 20 100) Equalised (row IF 0 0 0 0 0 ∷ row IF 0 0 0 0 0 ∷ row IF 0 0 0 0 0 ∷ row IF 0 0 0 0 0 ∷ row IF 0 0 0 0 0 ∷ row IF 0 0 0 0 0 ∷ row IF 0 0 0 0 0 ∷ row IF 0 0 0 0 0 ∷ row IF 0 0 0 0 0 ∷ row IF 0 0 0 0 0 ∷ row IF 0 0 0 0 0 ∷ row IF 0 0 0 0 0 ∷ row IF 0 0 0 0 0 ∷ row IF 0 0 0 0 0 ∷ row IF 0 0 0 0 0 ∷ row IF 0 0 0 0 0 ∷ []) (4 ∷ 16 ∷ [])
-    ∷ turn (settings 20 100) Laid (row IF 0 0 0 0 0 ∷ row IF 0 0 0 0 0 ∷ row IF 0 0 0 0 0 ∷ row IF 0 0 0 0 0 ∷ row IF 0 0 0 0 0 ∷ row IF 0 0 0 0 0 ∷ row IF 0 0 0 0 0 ∷ row IF 0 0 0 0 0 ∷ row IF 0 0 0 0 0 ∷ row IF 0 0 0 0 0 ∷ row IF 0 0 0 0 0 ∷ row IF 0 0 0 0 0 ∷ row IF 0 0 0 0 0 ∷ row IF 0 0 0 0 0 ∷ row IF 0 0 0 0 0 ∷ row IF 0 0 0 0 0 ∷ row IF 0 0 0 0 0 ∷ []) (5 ∷ 16 ∷ [])
+    ∷ turn (settings 20 100) Task (replicate 8 (row IF 0 0 0 0 0) ++ row IF 6 0 0 0 0 ∷ []) (3 ∷ 8 ∷ [])
+    ∷ turn (settings 20 100) Task (replicate 9 (row IF 0 0 0 0 0)) (5 ∷ 8 ∷ [])
+    ∷ turn (settings 20 100) Task (replicate 9 (row WHILE 0 0 0 0 2)) (5 ∷ 8 ∷ [])
+    ∷ turn (settings 20 100) Equalised (replicate 16 (row IF 0 0 0 0 0)) (4 ∷ 16 ∷ [])
+    ∷ turn (settings 20 100) Laid (replicate 17 (row IF 0 0 0 0 0)) (5 ∷ 16 ∷ [])
     ∷ []
 
-pub turned-down : Answered turns
+pub turned-down : answered turns ≡ expected turns
 unfolding turns firstRecords records settingsOf badSettings stackOf treeOf fileTree fieldsFit scan fault reading timeReply
-turned-down = (
-  refl,
-  (
-    refl,
-    (
-      refl,
-      (
-        refl,
-        (
-          refl,
-          (
-            refl,
-            (
-              refl,
-              (
-                refl,
-                (
-                  refl,
-                  (
-                    refl,
-                    (
-                      refl,
-                      (
-                        refl,
-                        (
-                          refl,
-                          (
-                            refl,
-                            (
-                              refl,
-                              (
-                                refl,
-                                (
-                                  refl,
-                                  (
-                                    refl,
-                                    (
-                                      refl,
-                                      (
-                                        refl,
-                                        (
-                                          refl,
-                                          (
-                                            refl,
-                                            (
-                                              refl,
-                                              (
-                                                refl,
-                                                (
-                                                  refl,
-                                                  (
-                                                    refl,
-                                                    (
-                                                      refl,
-                                                      (
-                                                        refl,
-                                                        (
-                                                          refl,
-                                                          (
-                                                            refl,
-                                                            (
-                                                              refl,
-                                                              (
-                                                                refl,
-                                                                (
-                                                                  refl,
-                                                                  (
-                                                                    refl,
-                                                                    (
-                                                                      refl,
-                                                                      (
-                                                                        refl,
-                                                                        (
-                                                                          refl,
-                                                                          (
-                                                                            refl,
-                                                                            (
-                                                                              refl,
-                                                                              (
-                                                                                refl,
-                                                                                (
-                                                                                  refl,
-                                                                                  (
-                                                                                    refl,
-                                                                                    (
-                                                                                      refl,
-                                                                                      (
-                                                                                        refl,
-                                                                                        (
-                                                                                          refl,
-                                                                                          (
-                                                                                            refl,
-                                                                                            (
-                                                                                              refl,
-                                                                                              (
-                                                                                                refl,
-                                                                                                (
-                                                                                                  refl,
-                                                                                                  (
-                                                                                                    refl,
-                                                                                                    (
-                                                                                                      refl,
-                                                                                                      (
-                                                                                                        refl,
-                                                                                                        (
-                                                                                                          refl,
-                                                                                                          (
-                                                                                                            refl,
-                                                                                                            (
-                                                                                                              refl,
-                                                                                                              (
-                                                                                                                refl,
-                                                                                                                (
-                                                                                                                  refl,
-                                                                                                                  (
-                                                                                                                    refl,
-                                                                                                                    (
-                                                                                                                      refl,
-                                                                                                                      (
-                                                                                                                        refl,
-                                                                                                                        (refl, (refl, (refl, (refl, (refl, (refl, tt)))))),
-                                                                                                                      ),
-                                                                                                                    ),
-                                                                                                                  ),
-                                                                                                                ),
-                                                                                                              ),
-                                                                                                            ),
-                                                                                                          ),
-                                                                                                        ),
-                                                                                                      ),
-                                                                                                    ),
-                                                                                                  ),
-                                                                                                ),
-                                                                                              ),
-                                                                                            ),
-                                                                                          ),
-                                                                                        ),
-                                                                                      ),
-                                                                                    ),
-                                                                                  ),
-                                                                                ),
-                                                                              ),
-                                                                            ),
-                                                                          ),
-                                                                        ),
-                                                                      ),
-                                                                    ),
-                                                                  ),
-                                                                ),
-                                                              ),
-                                                            ),
-                                                          ),
-                                                        ),
-                                                      ),
-                                                    ),
-                                                  ),
-                                                ),
-                                              ),
-                                            ),
-                                          ),
-                                        ),
-                                      ),
-                                    ),
-                                  ),
-                                ),
-                              ),
-                            ),
-                          ),
-                        ),
-                      ),
-                    ),
-                  ),
-                ),
-              ),
-            ),
-          ),
-        ),
-      ),
-    ),
-  ),
-)
+turned-down = refl

@@ -1,7 +1,7 @@
 -- Document 01, "Equalising", and the rules of source document 003, section IV.A.
 use Prim.Native.Nat.{ℕ, zero, suc, _+_, _-_}
 use Rattle.model.specs.declared.Settings.{Settings}
-use Rattle.model.specs.Trees.{Test, Act, Block, nil, skip, act, branch, while, times, _⧺_}
+use Rattle.model.specs.Trees.{Block, nil, skip, act, branch, while, times, _⧺_}
 use Rattle.model.specs.Times.{time}
 
 -- 003's skip^n

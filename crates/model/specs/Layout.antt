@@ -3,7 +3,7 @@ use Prim.Native.Nat.{ℕ, zero, suc, _+_, _*_, _-_, _%_, _/_, max}
 use mathlib.Core.Bool.{cond}
 use lib.Dec.{eqb, ltb}
 use Rattle.model.specs.declared.Settings.{Settings}
-use Rattle.model.specs.Trees.{Test, Act, check, beat, save, Block, nil, skip, act, branch, while, times, _⧺_}
+use Rattle.model.specs.Trees.{check, beat, save, Block, nil, skip, act, branch, while, times, _⧺_}
 use Rattle.model.specs.Times.{ticks, time}
 use Rattle.model.specs.Equalising.{merge}
 

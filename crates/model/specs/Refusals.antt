@@ -1,12 +1,12 @@
 -- Document 01, "Records" on the limits of each form, and "Why a call is turned down", rows 1 to 5.
 use Prim.Native.Nat.{ℕ, _+_, _*_, _%_}
-use mathlib.Core.Bool.{Bool, true, false, cond, not, _&&_, _||_}
+use mathlib.Core.Bool.{Bool, true, cond, not, _&&_, _||_}
 use mathlib.Core.List.{List, [], _∷_}
 use lib.Dec.{eqb, leb, ltb}
 use lib.ListN.{length}
 use Rattle.model.specs.declared.Form.{Form}
 use Rattle.model.specs.declared.Form.the-variants.{Task, Equalised, Laid}
-use Rattle.model.specs.Records.{Rec, records, SKIP, SET, READ, WRITE, IF, ELSE, WHILE, END, TIMES, CHECK, BEAT, SAVE}
+use Rattle.model.specs.Records.{Rec, records, SKIP, SET, READ, WRITE, IF, ELSE, WHILE, END, TIMES, CHECK, BEAT}
 
 -- "A task has 0 to 256 records, the other files at most 5,461."
 abbrev pub maxRecords : Form → ℕ

@@ -5,7 +5,7 @@ use mathlib.Core.List.{List, [], _∷_, _++_}
 use lib.Dec.{leb}
 use Rattle.model.specs.declared.Settings.{Settings}
 use Rattle.model.specs.Records.{wordAt, wordBytes}
-use Rattle.model.specs.Trees.{Test, Act, Block, nil, skip, act, branch, while, times, _⧺_, size}
+use Rattle.model.specs.Trees.{Block, nil, skip, act, branch, while, times, _⧺_, size}
 use Rattle.model.specs.Runs.{Step, isSave, onVariables, run}
 
 -- "Stopped at tick c, a run has done the steps that end at or before c."
