@@ -46,9 +46,9 @@ abbrev pub expected : List Turn → List (List ℕ)
 expected [] = []
 expected (c ∷ cs) = c .answers ∷ expected cs
 
-pub turns : List Turn
-turns =
-    -- "settings not 12 bytes, or a number outside its range": before anything of the file
+-- "settings not 12 bytes, or a number outside its range": before anything of the file
+pub settings-turns : List Turn
+settings-turns =
     turn (3 ∷ 3 ∷ 3 ∷ []) Task (junk 5 ∷ []) (6 ∷ [])
     ∷ turn (settings 0 100) Task [] (6 ∷ [])
     ∷ turn (settings 20 0) Task [] (6 ∷ [])
@@ -63,14 +63,30 @@ turns =
     ∷ turn (rack-of 1 1 1 1 1 1 1 1 0 0) Task [] (0 ∷ 0 ∷ [])
     ∷ turn (junk 11) Task [] (6 ∷ [])
     ∷ turn (junk 13) Task [] (6 ∷ [])
-    -- "file not whole records, or too many"
-    ∷ turn long-period Task (replicate 256 (row SKIP 0 0 0 0 1)) (0 ∷ 256 ∷ [])
+    ∷ []
+
+pub settings-turns-answered : answered settings-turns ≡ expected settings-turns
+unfolding settings-turns firstRecords records settingsOf badSettings stackOf treeOf fileTree fieldsFit scan fault reading timeReply
+settings-turns-answered = refl
+
+-- "file not whole records, or too many"
+pub length-turns : List Turn
+length-turns =
+    turn long-period Task (replicate 256 (row SKIP 0 0 0 0 1)) (0 ∷ 256 ∷ [])
     ∷ turn long-period Task (replicate 257 (row SKIP 0 0 0 0 1)) (1 ∷ 3084 ∷ [])
     ∷ turn long-period Laid (replicate 5461 (row SKIP 0 0 0 0 1)) (0 ∷ 5461 ∷ [])
     ∷ turn long-period Equalised (replicate 5462 (row SKIP 0 0 0 0 1)) (1 ∷ 65544 ∷ [])
     ∷ turn long-period Laid (junk 13 ∷ []) (1 ∷ 13 ∷ [])
-    -- "kind not of this file"
-    ∷ turn (settings 20 100) Task (row 0 0 0 0 0 0 ∷ []) (2 ∷ 0 ∷ [])
+    ∷ []
+
+pub length-turns-answered : answered length-turns ≡ expected length-turns
+unfolding length-turns firstRecords records settingsOf badSettings stackOf treeOf fileTree fieldsFit scan fault reading timeReply
+length-turns-answered = refl
+
+-- "kind not of this file"
+pub kind-turns : List Turn
+kind-turns =
+    turn (settings 20 100) Task (row 0 0 0 0 0 0 ∷ []) (2 ∷ 0 ∷ [])
     ∷ turn (settings 20 100) Task (row TIMES 0 0 0 0 0 ∷ []) (2 ∷ 0 ∷ [])
     ∷ turn (settings 20 100) Task (row SAVE 0 0 0 0 0 ∷ []) (2 ∷ 0 ∷ [])
     ∷ turn (settings 20 100) Equalised (row WHILE 0 0 0 0 0 ∷ []) (2 ∷ 0 ∷ [])
@@ -79,8 +95,16 @@ turns =
     ∷ turn (settings 20 100) Laid (row TIMES 0 0 0 0 0 ∷ []) (2 ∷ 0 ∷ [])
     ∷ turn (settings 20 100) Laid (row 13 0 0 0 0 0 ∷ []) (2 ∷ 0 ∷ [])
     ∷ turn (settings 20 100) Laid (row CHECK 0 0 0 0 0 ∷ row BEAT 0 0 0 0 0 ∷ row SAVE 0 0 0 0 0 ∷ []) (0 ∷ 14 ∷ [])
-    -- "a field out of range or an unused byte not 0"
-    ∷ turn (settings 20 100) Task (row SKIP 0 0 0 0 0 ∷ []) (3 ∷ 0 ∷ [])
+    ∷ []
+
+pub kind-turns-answered : answered kind-turns ≡ expected kind-turns
+unfolding kind-turns firstRecords records settingsOf badSettings stackOf treeOf fileTree fieldsFit scan fault reading timeReply
+kind-turns-answered = refl
+
+-- "a field out of range or an unused byte not 0"
+pub field-turns : List Turn
+field-turns =
+    turn (settings 20 100) Task (row SKIP 0 0 0 0 0 ∷ []) (3 ∷ 0 ∷ [])
     ∷ turn (settings 20 100) Task (row SKIP 1 0 0 0 1 ∷ []) (3 ∷ 0 ∷ [])
     ∷ turn (settings 20 100) Task (row SET 4 0 0 0 0 ∷ []) (3 ∷ 0 ∷ [])
     ∷ turn (settings 20 100) Task (row SET 15 0 0 0 0 ∷ []) (3 ∷ 0 ∷ [])
@@ -122,8 +146,16 @@ turns =
     ∷ turn (settings 20 100) Task (row IF 5 0 15 255 0 ∷ row ELSE 0 0 0 0 0 ∷ row END 0 0 0 0 0 ∷ []) (0 ∷ 1 ∷ [])
     ∷ turn (settings 20 100) Task (row IF 21 0 15 15 0 ∷ row ELSE 0 0 0 0 0 ∷ row END 0 0 0 0 0 ∷ []) (0 ∷ 1 ∷ [])
     ∷ turn (settings 20 100) Task (row WRITE 0 15 7 0 0 ∷ []) (0 ∷ 3 ∷ [])
-    -- "ELSE whose innermost open block is not an IF, END with no block open, IF closed with no ELSE, second ELSE, or a block open at the end"
-    ∷ turn (settings 20 100) Task (row ELSE 0 0 0 0 0 ∷ []) (4 ∷ 0 ∷ [])
+    ∷ []
+
+pub field-turns-answered : answered field-turns ≡ expected field-turns
+unfolding field-turns firstRecords records settingsOf badSettings stackOf treeOf fileTree fieldsFit scan fault reading timeReply
+field-turns-answered = refl
+
+-- "ELSE whose innermost open block is not an IF, END with no block open, IF closed with no ELSE, second ELSE, or a block open at the end"
+pub block-turns : List Turn
+block-turns =
+    turn (settings 20 100) Task (row ELSE 0 0 0 0 0 ∷ []) (4 ∷ 0 ∷ [])
     ∷ turn (settings 20 100) Task (row WHILE 0 0 0 0 2 ∷ row ELSE 0 0 0 0 0 ∷ []) (4 ∷ 1 ∷ [])
     ∷ turn (settings 20 100) Task (row IF 0 0 0 0 0 ∷ row WHILE 0 0 0 0 2 ∷ row ELSE 0 0 0 0 0 ∷ []) (4 ∷ 2 ∷ [])
     ∷ turn (settings 20 100) Equalised (row TIMES 0 0 0 0 2 ∷ row ELSE 0 0 0 0 0 ∷ []) (4 ∷ 1 ∷ [])
@@ -135,8 +167,16 @@ turns =
     ∷ turn (settings 20 100) Task (row IF 0 0 0 0 0 ∷ row ELSE 0 0 0 0 0 ∷ []) (4 ∷ 2 ∷ [])
     ∷ turn (settings 20 100) Task (row WHILE 0 0 0 0 2 ∷ row SKIP 0 0 0 0 1 ∷ []) (4 ∷ 2 ∷ [])
     ∷ turn (settings 20 100) Task (row IF 0 0 0 0 0 ∷ row ELSE 0 0 0 0 0 ∷ row END 0 0 0 0 0 ∷ []) (0 ∷ 1 ∷ [])
-    -- "2 to 5 are tried in turn at each record and the first record at fault decides"
-    ∷ turn (settings 20 100) Task (row TIMES 9 9 9 9 0 ∷ []) (2 ∷ 0 ∷ [])
+    ∷ []
+
+pub block-turns-answered : answered block-turns ≡ expected block-turns
+unfolding block-turns firstRecords records settingsOf badSettings stackOf treeOf fileTree fieldsFit scan fault reading timeReply
+block-turns-answered = refl
+
+-- "2 to 5 are tried in turn at each record and the first record at fault decides"
+pub order-turns : List Turn
+order-turns =
+    turn (settings 20 100) Task (row TIMES 9 9 9 9 0 ∷ []) (2 ∷ 0 ∷ [])
     ∷ turn (settings 20 100) Task (row ELSE 1 0 0 0 0 ∷ []) (3 ∷ 0 ∷ [])
     ∷ turn (settings 20 100) Task (row END 0 0 0 0 0 ∷ row SAVE 0 0 0 0 0 ∷ []) (4 ∷ 0 ∷ [])
     ∷ turn (settings 20 100) Task (row SKIP 0 0 0 0 0 ∷ row SAVE 0 0 0 0 0 ∷ []) (3 ∷ 0 ∷ [])
@@ -147,6 +187,6 @@ turns =
     ∷ turn (settings 20 100) Laid (replicate 17 (row IF 0 0 0 0 0)) (5 ∷ 16 ∷ [])
     ∷ []
 
-pub turned-down : answered turns ≡ expected turns
-unfolding turns firstRecords records settingsOf badSettings stackOf treeOf fileTree fieldsFit scan fault reading timeReply
-turned-down = refl
+pub order-turns-answered : answered order-turns ≡ expected order-turns
+unfolding order-turns firstRecords records settingsOf badSettings stackOf treeOf fileTree fieldsFit scan fault reading timeReply
+order-turns-answered = refl
