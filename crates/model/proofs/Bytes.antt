@@ -8,10 +8,10 @@ use lib.ListN.{length, getD, drop, length-drop}
 use lib.Seq.{getD-drop, drop-drop, drop-cons}
 use Rattle.model.specs.Records.{Rec, wordBytes, recordAt, firstRecords, records, recordBytes, bytes}
 
-word-back : (n : ℕ) → n % 256 + 256 * (n / 256 % 256) + 65536 * (n / 256 / 256 % 256) + 16777216 * (n / 256 / 256 / 256) ≡ n
+pub word-back : (n : ℕ) → n % 256 + 256 * (n / 256 % 256) + 65536 * (n / 256 / 256 % 256) + 16777216 * (n / 256 / 256 / 256) ≡ n
 word-back n = omega arith
 
-length-bytes : (rs : List Rec) → length (bytes rs) ≡ 12 * length rs
+pub length-bytes : (rs : List Rec) → length (bytes rs) ≡ 12 * length rs
 unfolding bytes
 length-bytes [] = refl
 length-bytes (r ∷ rs) = omega (arith, length-bytes rs)

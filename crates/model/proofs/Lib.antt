@@ -4,6 +4,8 @@ pub mod Trees
 pub mod Stands
 pub mod Shapes
 pub mod Sound
+pub mod Passes
+pub mod Images
 pub mod Injective
 pub mod Bench
 pub mod TurnedDown

@@ -71,7 +71,7 @@ module _ (f : Form) (m : ℕ) (g : Block → Block) (l : List Rec) (flat : (b : 
 reopen : (f : Form) (m : ℕ) (os next : List Open) (rs : List Rec) → inside os ≡ inside next → Parsed f m next rs → Parsed f m os rs
 reopen f m os next rs e p = let q : next ≡ os = cc in subst (λ (o : List Open). Parsed f m o rs) q p
 
-nest-act : (p : Act) (os : List Open) → nest (actRec p .kind) os ≡ inside os
+pub nest-act : (p : Act) (os : List Open) → nest (actRec p .kind) os ≡ inside os
 nest-act (set o t l x) os = refl
 nest-act (read a p) os = refl
 nest-act (write a p) os = refl

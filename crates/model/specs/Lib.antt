@@ -10,4 +10,7 @@ pub mod Stopping
 pub mod Refusals
 pub mod Answers
 pub mod Replies
+pub mod Placement
+pub mod Timeline
+pub mod Chain
 pub mod Listing

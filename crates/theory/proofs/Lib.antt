@@ -1,2 +1,27 @@
 -- The theorems on the definitions.
+pub mod Times
+pub mod Sequences
+pub mod Traces
+pub mod Agreement
+pub mod Lasts
+pub mod Forms
+pub mod Unrolling
+pub mod Weaving
+pub mod Clock
+pub mod Windows
+pub mod Placing
+pub mod Starts
+pub mod Twice
+pub mod Laid
+pub mod Values
+pub mod Stops
+pub mod Outputs
+pub mod Blind
+pub mod Every
+pub mod Left
+pub mod Images
+pub mod Resuming
+pub mod Checkpoints
+pub mod Accepted
+pub mod Files
 pub mod Bench

@@ -1,0 +1,87 @@
+-- The converse of `sound-file`: a block of the form, not too deep and not too long, passes the scan as a file and is read back from it.
+use Prim.Native.Nat.{ℕ, _+_, _*_, _%_, _≤_}
+use native.Mathlib.Omega.{arith}
+use mathlib.Core.Path.{_≡_, refl, ap, _∙_}
+use mathlib.Core.List.{List, [], _∷_, _++_, append-assoc, append-nil}
+use lib.ListN.{length}
+use borrow.Author.Tests.{le-ltb, eq-eqb}
+use Rattle.model.specs.declared.Form.{Form}
+use Rattle.model.specs.declared.Form.the-variants.{Task, Equalised, Laid}
+use Rattle.model.specs.Records.{Rec, IF, WHILE, TIMES, bytes}
+use Rattle.model.specs.Trees.{Block, nil, skip, act, branch, while, times, size, depth, testRec, skipRec, actRec, elseRec, endRec, flatten, fileTree}
+use Rattle.model.specs.Refusals.{maxRecords, maxDepth, fieldsFit, Open, first, second, loop, inside, nest, sound, scan, fault}
+use Rattle.model.proofs.Bytes.{length-bytes, records-bytes}
+use Rattle.model.proofs.Trees.{length-flatten, treeOf-flatten}
+use Rattle.model.proofs.Shapes.{Fit}
+use Rattle.model.proofs.Sound.{OfForm, nest-act}
+
+else-fits : (f : Form) → Fit f elseRec
+unfolding fieldsFit
+else-fits Task = record { kind = refl; fields = refl }
+else-fits Equalised = record { kind = refl; fields = refl }
+else-fits Laid = record { kind = refl; fields = refl }
+
+end-fits : (f : Form) → Fit f endRec
+unfolding fieldsFit
+end-fits Task = record { kind = refl; fields = refl }
+end-fits Equalised = record { kind = refl; fields = refl }
+end-fits Laid = record { kind = refl; fields = refl }
+
+module _ (f : Form) where
+  -- the scan goes past a record that may stand there
+  past : (i : ℕ) (os next : List Open) (r : Rec) (rs : List Rec) → Fit f r → nest (r .kind) os ≡ inside next → length next ≤ maxDepth f
+      → scan f i os (r ∷ rs) ≡ scan f (i + 1) next rs
+  unfolding scan
+  past i os next r rs fit n l = rw (fit .kind, fit .fields, n, le-ltb (maxDepth f) (length next) l)
+
+  -- and past a block, up to the record with index j
+  past-block : (b : Block) (i j : ℕ) (os : List Open) (rs : List Rec) → OfForm f b → depth b + length os ≤ maxDepth f → i + size b ≡ j
+      → scan f i os (flatten b ++ rs) ≡ scan f j os rs
+  unfolding flatten
+  past-block nil i j os rs p l e = ap (λ (k : ℕ). scan f k os rs) (omega arith)
+  past-block (skip n b) i j os rs p l e =
+      past i os os (skipRec n) (flatten b ++ rs) (p .0) refl (omega arith) ∙ past-block b (i + 1) j os rs (p .1) l (omega arith)
+  past-block (act a b) i j os rs p l e =
+      past i os os (actRec a) (flatten b ++ rs) (p .0) (nest-act a os) (omega arith) ∙ past-block b (i + 1) j os rs (p .1) l (omega arith)
+  past-block (branch q a d b) i j os rs p l e =
+      let m = i + 1 + size a in
+      let n = m + 1 + size d in
+      let ends = endRec ∷ (flatten b ++ rs) in
+      let others = elseRec ∷ (flatten d ++ ends) in
+      simp append-assoc
+      (past i os (first ∷ os) (testRec IF q 0) (flatten a ++ others) (p .0) refl (omega arith)
+      ∙ past-block a (i + 1) m (first ∷ os) others (p .1) (omega arith) refl
+      ∙ past m (first ∷ os) (second ∷ os) elseRec (flatten d ++ ends) (else-fits f) refl (omega arith)
+      ∙ past-block d (m + 1) n (second ∷ os) ends (p .2) (omega arith) refl
+      ∙ past n (second ∷ os) os endRec (flatten b ++ rs) (end-fits f) refl (omega arith)
+      ∙ past-block b (n + 1) j os rs (p .3) (omega arith) (omega arith))
+  past-block (while q n a b) i j os rs p l e =
+      let m = i + 1 + size a in
+      let ends = endRec ∷ (flatten b ++ rs) in
+      simp append-assoc
+      (past i os (loop ∷ os) (testRec WHILE q n) (flatten a ++ ends) (p .0) refl (omega arith)
+      ∙ past-block a (i + 1) m (loop ∷ os) ends (p .1) (omega arith) refl
+      ∙ past m (loop ∷ os) os endRec (flatten b ++ rs) (end-fits f) refl (omega arith)
+      ∙ past-block b (m + 1) j os rs (p .2) (omega arith) (omega arith))
+  past-block (times q n a b) i j os rs p l e =
+      let m = i + 1 + size a in
+      let ends = endRec ∷ (flatten b ++ rs) in
+      simp append-assoc
+      (past i os (loop ∷ os) (testRec TIMES q n) (flatten a ++ ends) (p .0) refl (omega arith)
+      ∙ past-block a (i + 1) m (loop ∷ os) ends (p .1) (omega arith) refl
+      ∙ past m (loop ∷ os) os endRec (flatten b ++ rs) (end-fits f) refl (omega arith)
+      ∙ past-block b (m + 1) j os rs (p .2) (omega arith) (omega arith))
+
+pub length-file : (b : Block) → length (bytes (flatten b)) ≡ 12 * size b
+length-file b = rw (length-bytes (flatten b), length-flatten b)
+
+pub tree-back : (b : Block) → fileTree (bytes (flatten b)) ≡ b
+unfolding fileTree
+tree-back b = rw (records-bytes (flatten b)) (treeOf-flatten b)
+
+pub passes : (f : Form) (b : Block) → OfForm f b → depth b ≤ maxDepth f → size b ≤ maxRecords f → fault f (bytes (flatten b)) ≡ sound
+unfolding fault scan
+passes f b p d s =
+    let l = length-file b in
+    rw (eq-eqb (length (bytes (flatten b)) % 12) 0 (omega arith), le-ltb (12 * maxRecords f) (length (bytes (flatten b))) (omega arith))
+    (rw (records-bytes (flatten b), ← append-nil (flatten b)) (past-block f b 0 (size b) [] [] p (omega arith) (omega arith)))

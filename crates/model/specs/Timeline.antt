@@ -1,0 +1,32 @@
+-- What the statements on runs say of ticks and steps.
+use Prim.Native.Nat.{ℕ, zero, suc, _+_, _%_}
+use mathlib.Core.Bool.{Bool, cond}
+use mathlib.Core.List.{List, [], _∷_, _++_}
+use lib.Dec.{eqb, leb}
+use Rattle.model.specs.Runs.{Effect, nothing, assigns, outputs, beats, saves, overruns, Step}
+
+-- of the n ticks from t on those that p picks, and the multiples of h below n
+abbrev pub picks : (ℕ → Bool) → ℕ → ℕ → List ℕ
+picks p t zero = []
+picks p t (suc n) = cond (p t) (t ∷ []) [] ++ picks p (t + 1) n
+
+abbrev pub multiples : ℕ → ℕ → List ℕ
+multiples h n = picks (λ t. eqb (t % h) 0) 0 n
+
+-- the start tick and the value of each BEAT among steps of which the first begins at tick t
+abbrev pub beatAt : ℕ → Effect → List (ℕ × ℕ)
+beatAt t nothing = []
+beatAt t (assigns a x) = []
+beatAt t (outputs p x) = []
+beatAt t (beats x) = (t, x) ∷ []
+beatAt t (saves m) = []
+beatAt t overruns = []
+
+abbrev pub beatList : ℕ → List Step → List (ℕ × ℕ)
+beatList t [] = []
+beatList t (e ∷ es) = beatAt t (e .does) ++ beatList (t + e .lasts) es
+
+-- the steps among those of which the first begins at tick t whose end is at or before c, each judged by itself
+abbrev pub endedBy : ℕ → ℕ → List Step → List Step
+endedBy c t [] = []
+endedBy c t (e ∷ es) = cond (leb (t + e .lasts) c) (e ∷ []) [] ++ endedBy c (t + e .lasts) es

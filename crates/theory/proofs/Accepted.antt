@@ -1,0 +1,184 @@
+-- What a call that is not refused has shown of what was handed over, and what is enough for a call not to be refused.
+use Prim.Native.Nat.{ℕ, _+_, _*_, _≤_, _<_, max}
+use native.Mathlib.Omega.{arith}
+use mathlib.Core.Path.{_≡_, refl, _∙_}
+use mathlib.Core.Bool.{Bool, true, false, not, _||_}
+use mathlib.Core.List.{List, [], _∷_}
+use lib.Dec.{eqb, ltb}
+use lib.ListN.{length}
+use borrow.Author.Tests.{eqb-false, ltb-false, eq-eqb, le-ltb}
+use Rattle.model.specs.declared.Settings.{Settings}
+use Rattle.model.specs.declared.Form.{Form}
+use Rattle.model.specs.declared.Form.the-variants.{Task, Equalised}
+use Rattle.model.specs.Settings.{settingsOf, outOfRange, badSettings}
+use Rattle.model.specs.Trees.{size, fileTree}
+use Rattle.model.specs.Refusals.{Fault, sound, faulty, fault}
+use Rattle.model.specs.Answers.{Verdict, finished, refused}
+use Rattle.model.specs.Replies.{turnDown, unless, reading, longest, shortWindow, above, noRoom, fileTime}
+use Rattle.model.specs.Replies.{equalisedTree, equaliseReply, laidTree, laidTotal, layOutReply, Loan, badBuffers, ready}
+use Rattle.model.specs.Placement.{Fits}
+
+-- ROWS
+
+pub neither : (a b : Bool) → (a || b) ≡ false → (a ≡ false) × (b ≡ false)
+neither true b e = let z : _≡_ {A = ℕ} 0 1 = cc in absurd (omega arith)
+neither false b e = (refl, e)
+
+pub not-true : (a : Bool) → not a ≡ false → a ≡ true
+not-true true e = refl
+not-true false e = let z : _≡_ {A = ℕ} 0 1 = cc in absurd (omega arith)
+
+passed : (n : ℕ) (cause : Bool) (next : Verdict) (xs : List ℕ) → turnDown n cause next ≡ finished xs → (cause ≡ false) × (next ≡ finished xs)
+passed n true next xs e = let z : _≡_ {A = ℕ} 0 1 = cc in absurd (omega arith)
+passed n false next xs e = (refl, e)
+
+record Read (s : List ℕ) (f : Form) (file : List ℕ) (next : Verdict) (xs : List ℕ) : Type 0 where
+  settings-good : badSettings s ≡ false
+  file-sound : fault f file ≡ sound
+  goes-on : next ≡ finished xs
+
+read : (s : List ℕ) (f : Form) (file : List ℕ) (next : Verdict) (xs : List ℕ) → reading s f file next ≡ finished xs → Read s f file next xs
+unfolding reading
+read s f file next xs e =
+    let p = passed 6 (badSettings s) (unless (fault f file) next) xs e in
+    go (fault f file) refl (p .0) (p .1)
+  where
+    go : (x : Fault) → fault f file ≡ x → badSettings s ≡ false → unless x next ≡ finished xs → Read s f file next xs
+    go sound h g n = record { settings-good = g; file-sound = h; goes-on = n }
+    go (faulty n x) h g m = let z : _≡_ {A = ℕ} 0 1 = cc in absurd (omega arith)
+
+pub reads : (s : List ℕ) (f : Form) (file : List ℕ) (next : Verdict) → badSettings s ≡ false → fault f file ≡ sound → reading s f file next ≡ next
+unfolding reading
+reads s f file next g h = rw (g, h)
+
+-- SETTINGS
+
+pub record InRange (σ : Settings) : Type 0 where
+  pub set-lasts : 1 ≤ σ .set
+  pub read-lasts : 1 ≤ σ .read
+  pub write-lasts : 1 ≤ σ .write
+  pub beat-lasts : 1 ≤ σ .beat
+  pub save-lasts : 1 ≤ σ .save
+  pub multiply-lasts : 1 ≤ σ .multiply
+  pub spaced : 1 ≤ σ .spacing
+  pub window-lasts : 1 ≤ σ .window
+  pub short : σ .period ≤ 1000000
+
+positive : (n : ℕ) → eqb n 0 ≡ false → 1 ≤ n
+positive n e = let h = eqb-false n 0 e in omega arith
+
+in-range : (s : List ℕ) → badSettings s ≡ false → InRange (settingsOf s)
+unfolding badSettings
+in-range s e = go (settingsOf s) (neither (not (eqb (length s) 12)) (outOfRange (settingsOf s)) e .1)
+  where
+    go : (σ : Settings) → outOfRange σ ≡ false → InRange σ
+    go σ h =
+        let h8 = neither _ (ltb 1000000 (σ .period)) h in
+        let h7 = neither _ (eqb (σ .period) 0) (h8 .0) in
+        let h6 = neither _ (eqb (σ .window) 0) (h7 .0) in
+        let h5 = neither _ (eqb (σ .spacing) 0) (h6 .0) in
+        let h4 = neither _ (eqb (σ .multiply) 0) (h5 .0) in
+        let h3 = neither _ (eqb (σ .save) 0) (h4 .0) in
+        let h2 = neither _ (eqb (σ .beat) 0) (h3 .0) in
+        let h1 = neither _ (eqb (σ .write) 0) (h2 .0) in
+        let h0 = neither (eqb (σ .set) 0) (eqb (σ .read) 0) (h1 .0) in
+        record {
+          set-lasts = positive (σ .set) (h0 .0);
+          read-lasts = positive (σ .read) (h0 .1);
+          write-lasts = positive (σ .write) (h1 .1);
+          beat-lasts = positive (σ .beat) (h2 .1);
+          save-lasts = positive (σ .save) (h3 .1);
+          multiply-lasts = positive (σ .multiply) (h4 .1);
+          spaced = positive (σ .spacing) (h5 .1);
+          window-lasts = positive (σ .window) (h6 .1);
+          short = ltb-false 1000000 (σ .period) (h8 .1);
+        }
+
+pub fits : (σ : Settings) → InRange σ → shortWindow σ ≡ false → Fits σ
+fits σ r e = record {
+  set-lasts = r .set-lasts;
+  read-lasts = r .read-lasts;
+  write-lasts = r .write-lasts;
+  multiply-lasts = r .multiply-lasts;
+  beat-lasts = r .beat-lasts;
+  save-lasts = r .save-lasts;
+  spaced = r .spaced;
+  wide = ltb-false (σ .window) (σ .beat + σ .save + longest σ) e;
+}
+
+-- CALLS
+
+-- a result of n records fits the buffer and the longest file
+pub record Room (room n : ℕ) : Type 0 where
+  pub fits-buffer : 12 * n ≤ room
+  pub few : n ≤ 5461
+
+room-left : (room n : ℕ) → noRoom room n ≡ false → Room room n
+room-left room n e =
+    let p = neither (ltb room (12 * n)) (ltb 5461 n) e in
+    record { fits-buffer = ltb-false room (12 * n) (p .0); few = ltb-false 5461 n (p .1) }
+
+pub record EqualiseAccepted (s task : List ℕ) (room : ℕ) (xs : List ℕ) : Type 0 where
+  pub settings-good : badSettings s ≡ false
+  pub in-range : InRange (settingsOf s)
+  pub file-sound : fault Task task ≡ sound
+  pub in-time : fileTime s task ≤ settingsOf s .period
+  pub has-room : Room room (size (equalisedTree s task))
+  pub answers : 12 * size (equalisedTree s task) ∷ fileTime s task ∷ [] ≡ xs
+
+pub equalise-accepted : (s task : List ℕ) (room : ℕ) (xs : List ℕ) → equaliseReply s task room ≡ finished xs → EqualiseAccepted s task room xs
+unfolding equaliseReply
+equalise-accepted s task room xs e =
+    let n = size (equalisedTree s task) in
+    let t = fileTime s task in
+    let r = read s Task task _ xs e in
+    let p8 = passed 8 (above s t) (turnDown 9 (noRoom room n) (finished (12 * n ∷ t ∷ []))) xs (r .goes-on) in
+    let p9 = passed 9 (noRoom room n) (finished (12 * n ∷ t ∷ [])) xs (p8 .1) in
+    record {
+      settings-good = r .settings-good;
+      in-range = in-range s (r .settings-good);
+      file-sound = r .file-sound;
+      in-time = ltb-false (settingsOf s .period) t (p8 .0);
+      has-room = room-left room n (p9 .0);
+      answers = let q = p9 .1 in cc;
+    }
+
+pub record LayOutAccepted (s file : List ℕ) (room : ℕ) (xs : List ℕ) : Type 0 where
+  pub settings-good : badSettings s ≡ false
+  pub in-range : InRange (settingsOf s)
+  pub fits-window : Fits (settingsOf s)
+  pub file-sound : fault Equalised file ≡ sound
+  pub in-time : laidTotal s file ≤ settingsOf s .period
+  pub has-room : Room room (size (laidTree s file))
+  pub answers : 12 * size (laidTree s file) ∷ laidTotal s file ∷ [] ≡ xs
+
+pub lay-out-accepted : (s file : List ℕ) (room : ℕ) (xs : List ℕ) → layOutReply s file room ≡ finished xs → LayOutAccepted s file room xs
+unfolding layOutReply
+lay-out-accepted s file room xs e =
+    let σ = settingsOf s in
+    let n = size (laidTree s file) in
+    let t = laidTotal s file in
+    let late = above s (fileTime s file) || above s t in
+    let r = read s Equalised file _ xs e in
+    let g = in-range s (r .settings-good) in
+    let p7 = passed 7 (shortWindow σ) (turnDown 8 late (turnDown 9 (noRoom room n) (finished (12 * n ∷ t ∷ [])))) xs (r .goes-on) in
+    let p8 = passed 8 late (turnDown 9 (noRoom room n) (finished (12 * n ∷ t ∷ []))) xs (p7 .1) in
+    let p9 = passed 9 (noRoom room n) (finished (12 * n ∷ t ∷ [])) xs (p8 .1) in
+    record {
+      settings-good = r .settings-good;
+      in-range = g;
+      fits-window = fits σ g (p7 .0);
+      file-sound = r .file-sound;
+      in-time = ltb-false (σ .period) t (neither (above s (fileTime s file)) (above s t) (p8 .0) .1);
+      has-room = room-left room n (p9 .0);
+      answers = let q = p9 .1 in cc;
+    }
+
+-- rows 6, 1 to 5, 8 and 10, which every run tries
+pub runs : (c : Loan) (cause : Bool) (next : Verdict)
+    → badSettings (c .settings) ≡ false → fault (c .form) (c .file) ≡ sound → fileTime (c .settings) (c .file) ≤ settingsOf (c .settings) .period
+    → badBuffers c ≡ false → cause ≡ false
+    → ready c cause next ≡ next
+unfolding ready
+runs c cause next g h t b d =
+    reads (c .settings) (c .form) (c .file) _ g h ∙ rw (le-ltb (settingsOf (c .settings) .period) (fileTime (c .settings) (c .file)) t, b, d)

@@ -1,0 +1,80 @@
+-- What equalising and laying out wrote is read back: the tree that the rules give, of its form, with the time that was stated.
+use Prim.Native.Nat.{ℕ, _*_, _≤_}
+use native.Mathlib.Omega.{arith}
+use mathlib.Core.Path.{_≡_, refl, ap, sym, _∙_}
+use mathlib.Core.List.{List, _++_}
+use lib.ListN.{length, take, drop}
+use lib.Seq.{take-append-seam}
+use Rattle.model.specs.declared.Form.the-variants.{Task, Equalised, Laid}
+use Rattle.model.specs.Records.{bytes}
+use Rattle.model.specs.Settings.{settingsOf}
+use Rattle.model.specs.Trees.{Block, size, depth, flatten, fileTree}
+use Rattle.model.specs.Times.{time}
+use Rattle.model.specs.Equalising.{equalise}
+use Rattle.model.specs.Layout.{layout, total}
+use Rattle.model.specs.Refusals.{sound, fault}
+use Rattle.model.specs.Answers.{finished}
+use Rattle.model.specs.Replies.{over, kept, fileTime, equalisedTree, equaliseReply, equaliseOut, laidTree, laidTotal, layOutReply, layOutOut}
+use Rattle.model.proofs.Sound.{OfForm, Sound, sound-file}
+use Rattle.model.proofs.Passes.{passes, tree-back, length-file}
+use Rattle.theory.proofs.Times.{time-equalise}
+use Rattle.theory.proofs.Forms.{equalised-of-form, depth-equalise}
+use Rattle.theory.proofs.Laid.{time-laid, laid-of-form, depth-laid}
+use Rattle.theory.proofs.Accepted.{EqualiseAccepted, equalise-accepted, LayOutAccepted, lay-out-accepted}
+
+-- the bytes of a block
+abbrev pub fileOf : Block → List ℕ
+fileOf b = bytes (flatten b)
+
+-- the file that a buffer holds after it was written
+in-buffer : (b : Block) (out : List ℕ) (n : ℕ) → n ≡ 12 * size b → take n (over (fileOf b) out) ≡ fileOf b
+in-buffer b out n e = rw (e ∙ sym (length-file b)) (take-append-seam (fileOf b) (drop (length (fileOf b)) out))
+
+-- EQUALISED
+
+module _ (s task : List ℕ) (room : ℕ) (xs : List ℕ) (a : EqualiseAccepted s task room xs) where
+  task-tree : Sound Task task (fileTree task)
+  task-tree = sound-file Task task (a .file-sound)
+
+  pub equalised-form : OfForm Equalised (equalisedTree s task)
+  unfolding equalisedTree
+  equalised-form = equalised-of-form (settingsOf s) (fileTree task) (task-tree .of-form) (omega (arith, a .in-time, a .in-range .short))
+
+  pub equalised-sound : fault Equalised (fileOf (equalisedTree s task)) ≡ sound
+  unfolding equalisedTree
+  equalised-sound =
+      passes Equalised (equalisedTree s task) equalised-form
+      (omega (arith, depth-equalise (settingsOf s) (fileTree task), task-tree .shallow)) (a .has-room .few)
+
+  pub equalised-time : fileTime s (fileOf (equalisedTree s task)) ≡ fileTime s task
+  unfolding equalisedTree
+  equalised-time = rw (tree-back (equalisedTree s task)) (time-equalise (settingsOf s) (fileTree task))
+
+pub equalised-written : (s task out xs : List ℕ) → equaliseReply s task (length out) ≡ finished xs
+    → equaliseOut s task out ≡ over (fileOf (equalisedTree s task)) out
+unfolding equaliseOut
+equalised-written s task out xs e = rw e
+
+-- LAID
+
+module _ (s file : List ℕ) (room : ℕ) (xs : List ℕ) (a : LayOutAccepted s file room xs) where
+  file-tree : Sound Equalised file (fileTree file)
+  file-tree = sound-file Equalised file (a .file-sound)
+
+  pub laid-sound : fault Laid (fileOf (laidTree s file)) ≡ sound
+  unfolding laidTree
+  laid-sound =
+      let σ = settingsOf s in
+      let b = fileTree file in
+      passes Laid (laidTree s file)
+      (laid-of-form σ b (file-tree .of-form) (a .in-range .window-lasts) (a .in-range .short) (omega (arith, a .in-time, a .in-range .short)))
+      (omega (arith, depth-laid σ b (file-tree .of-form), file-tree .shallow)) (a .has-room .few)
+
+  pub laid-time : fileTime s (fileOf (laidTree s file)) ≡ laidTotal s file
+  unfolding laidTree
+  laid-time = rw (tree-back (laidTree s file)) (time-laid (settingsOf s) (fileTree file))
+
+pub laid-written : (s file out xs : List ℕ) → layOutReply s file (length out) ≡ finished xs
+    → layOutOut s file out ≡ over (fileOf (laidTree s file)) out
+unfolding layOutOut
+laid-written s file out xs e = rw e

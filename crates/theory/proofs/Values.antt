@@ -1,0 +1,158 @@
+-- The BEATs of a whole run of a laid file, as a list of start and value: 1 each, and the last one the value that its start gives.
+use Prim.Native.Nat.{ℕ, zero, suc, _+_}
+use native.Mathlib.Omega.{arith}
+use native.Mathlib.Nat.{add-zero, add-assoc}
+use mathlib.Core.Path.{_≡_, refl, ap, ap₂, sym, _∙_, subst}
+use mathlib.Core.Bool.{Bool, true, false, cond, true≢false}
+use mathlib.Core.List.{List, [], _∷_, _++_, append-assoc, append-nil, map}
+use Rattle.model.specs.declared.Settings.{Settings}
+use Rattle.model.specs.Trees.{Act, set, read, write, check, beat, save, Block, nil, skip, act, branch, while, times, _⧺_, size}
+use Rattle.model.specs.Times.{ticks, time}
+use Rattle.model.specs.Runs.{Effect, nothing, assigns, outputs, beats, saves, overruns, Step, step, isBeat, starts}
+use Rattle.model.specs.Runs.{onVariables, overran, holds, effect, Run, _⊳_, run}
+use Rattle.model.specs.Equalising.{waiting, merge}
+use Rattle.model.specs.Layout.{unroll, body, lastValue, closed, layout}
+use Rattle.model.specs.Placement.{Each, command, CommandFree, LoopFree}
+use Rattle.model.specs.Timeline.{beatAt, beatList}
+use Rattle.theory.proofs.Sequences.{run-⧺}
+use Rattle.theory.proofs.Every.{Every, every-nil, every-single, every-choose}
+use Rattle.theory.proofs.Weaving.{woven-body, woven-each}
+
+-- a BEAT has value 1
+abbrev One : Effect → Type 0
+One w = (x : ℕ) → w ≡ beats x → x ≡ 1
+
+abbrev OneStep : Step → List ℕ → List Step → Type 0
+OneStep e v es = One (e .does)
+
+one-list : (es : List Step) (v : List ℕ) (t : ℕ) → Every OneStep es v → beatList t es ≡ map (λ (u : ℕ). (u, 1)) (starts isBeat t es)
+one-list [] v t p = refl
+one-list (e ∷ es) v t p = go (e .does) (p .0) (one-list es (onVariables (e .does) v) (t + e .lasts) (p .1))
+  where
+    go : (w : Effect) → One w → beatList (t + e .lasts) es ≡ map (λ (u : ℕ). (u, 1)) (starts isBeat (t + e .lasts) es)
+        → beatAt t w ++ beatList (t + e .lasts) es ≡ map (λ (u : ℕ). (u, 1)) (cond (isBeat w) (t ∷ []) [] ++ starts isBeat (t + e .lasts) es)
+    go nothing o ih = ih
+    go (assigns a x) o ih = ih
+    go (outputs q x) o ih = ih
+    go (beats x) o ih = rw (o x refl, ih)
+    go (saves m) o ih = ih
+    go overruns o ih = ih
+
+one-check : (o : Bool) → One (cond o overruns nothing)
+one-check true x e = let z : _≡_ {A = ℕ} 0 1 = cc in absurd (omega arith)
+one-check false x e = let z : _≡_ {A = ℕ} 0 1 = cc in absurd (omega arith)
+
+one-effect : (ins : List ℕ) (p : Act) (v : List ℕ) → One (command p) → One (effect ins p v)
+unfolding effect
+one-effect ins (set o t l x) v p = λ y e. let z : _≡_ {A = ℕ} 0 1 = cc in absurd (omega arith)
+one-effect ins (read a x) v p = λ y e. let z : _≡_ {A = ℕ} 0 1 = cc in absurd (omega arith)
+one-effect ins (write a x) v p = λ y e. let z : _≡_ {A = ℕ} 0 1 = cc in absurd (omega arith)
+one-effect ins (check q) v p = one-check (holds q v)
+one-effect ins (beat x) v p = p
+one-effect ins (save m) v p = p
+
+one-nothing : One nothing
+one-nothing x e = let z : _≡_ {A = ℕ} 0 1 = cc in absurd (omega arith)
+
+one-run : (σ : Settings) (ins : List ℕ) (b : Block) (i : ℕ) (g : Run) → LoopFree b → Each (λ p. One (command p)) b
+    → ((v : List ℕ) → Every OneStep (g v) v) → (v : List ℕ) → Every OneStep ((run σ ins b i ⊳ g) v) v
+one-run σ ins nil i g u p h v = h v
+one-run σ ins (skip n b) i g u p h v = (one-nothing, one-run σ ins b (i + 1) g u p h v)
+one-run σ ins (act r b) i g u p h v =
+    every-single OneStep (ticks σ r) i (effect ins r) (run σ ins b (i + 1)) g v (one-effect ins r v (p .0))
+    (one-run σ ins b (i + 1) g u (p .1) h (onVariables (effect ins r v) v))
+one-run σ ins (branch q a d b) i g u p h v =
+    let k = i + 3 + size a + size d in
+    let after = one-run σ ins b k g (u .2) (p .2) h in
+    every-choose OneStep i q (run σ ins a (i + 1)) (run σ ins d (i + 2 + size a)) (run σ ins b k) g v (λ es. one-nothing)
+    (one-run σ ins a (i + 1) (run σ ins b k ⊳ g) (u .0) (p .0) after v)
+    (one-run σ ins d (i + 2 + size a) (run σ ins b k ⊳ g) (u .1) (p .1) after v)
+one-run σ ins (while q n a b) i g u p h v = absurd u
+one-run σ ins (times q n a b) i g u p h v = absurd u
+
+-- MERGING
+
+each-waiting : (P : Act → Type 0) (n : ℕ) (b : Block) → Each P b → Each P (waiting n b)
+each-waiting P zero b p = p
+each-waiting P (suc n) b p = p
+
+each-merge : (P : Act → Type 0) (b : Block) (n : ℕ) → Each P b → Each P (merge n b)
+each-merge P nil n p = each-waiting P n nil tt
+each-merge P (skip m b) n p = each-merge P b (n + m) p
+each-merge P (act r b) n p = each-waiting P n (act r (merge 0 b)) (p .0, each-merge P b 0 (p .1))
+each-merge P (branch q a d b) n p =
+    each-waiting P n (branch q (merge 0 a) (merge 0 d) (merge 0 b)) (each-merge P a 0 (p .0), each-merge P d 0 (p .1), each-merge P b 0 (p .2))
+each-merge P (while q m a b) n p = each-waiting P n (while q m (merge 0 a) (merge 0 b)) (each-merge P a 0 (p .0), each-merge P b 0 (p .1))
+each-merge P (times q m a b) n p = each-waiting P n (times q m (merge 0 a) (merge 0 b)) (each-merge P a 0 (p .0), each-merge P b 0 (p .1))
+
+each-map : (P Q : Act → Type 0) → ((p : Act) → P p → Q p) → (b : Block) → Each P b → Each Q b
+each-map P Q f nil p = tt
+each-map P Q f (skip n b) p = each-map P Q f b p
+each-map P Q f (act r b) p = (f r (p .0), each-map P Q f b (p .1))
+each-map P Q f (branch q a d b) p = (each-map P Q f a (p .0), each-map P Q f d (p .1), each-map P Q f b (p .2))
+each-map P Q f (while q m a b) p = (each-map P Q f a (p .0), each-map P Q f b (p .1))
+each-map P Q f (times q m a b) p = (each-map P Q f a (p .0), each-map P Q f b (p .1))
+
+waiting-⧺ : (n : ℕ) (b c : Block) → waiting n (b ⧺ c) ≡ waiting n b ⧺ c
+waiting-⧺ zero b c = refl
+waiting-⧺ (suc n) b c = refl
+
+-- an act at the end is not merged
+merge-last : (a : Block) (n : ℕ) (p : Act) → merge n (a ⧺ act p nil) ≡ merge n a ⧺ act p nil
+merge-last nil n p = waiting-⧺ n nil (act p nil)
+merge-last (skip m a) n p = merge-last a (n + m) p
+merge-last (act r a) n p = rw (merge-last a 0 p) (waiting-⧺ n (act r (merge 0 a)) (act p nil))
+merge-last (branch q x y a) n p = rw (merge-last a 0 p) (waiting-⧺ n (branch q (merge 0 x) (merge 0 y) (merge 0 a)) (act p nil))
+merge-last (while q m x a) n p = rw (merge-last a 0 p) (waiting-⧺ n (while q m (merge 0 x) (merge 0 a)) (act p nil))
+merge-last (times q m x a) n p = rw (merge-last a 0 p) (waiting-⧺ n (times q m (merge 0 x) (merge 0 a)) (act p nil))
+
+-- A WHOLE RUN
+
+-- a run is steps whose BEATs have value 1, and a last BEAT of value x
+pub record LastBeat (σ : Settings) (x : ℕ) (es : List Step) : Type 0 where
+  pub front : List Step
+  pub index : ℕ
+  pub parts : es ≡ front ++ step (σ .beat) index (beats x) ∷ []
+  pub front-list : (t : ℕ) → beatList t front ≡ map (λ (u : ℕ). (u, 1)) (starts isBeat t front)
+
+loop-free-left : (a b : Block) → LoopFree (a ⧺ b) → LoopFree a
+loop-free-left nil b u = tt
+loop-free-left (skip n a) b u = loop-free-left a b u
+loop-free-left (act p a) b u = loop-free-left a b u
+loop-free-left (branch q x y a) b u = (u .0, u .1, loop-free-left a b (u .2))
+loop-free-left (while q n x a) b u = u
+loop-free-left (times q n x a) b u = u
+
+module _ (σ : Settings) (ins : List ℕ) (b : Block) (u : LoopFree b) (f : CommandFree b) where
+  -- before the last BEAT
+  begun : Block
+  begun = merge 0 (body σ b)
+
+  begun-ones : Each (λ p. One (command p)) begun
+  unfolding begun
+  begun-ones =
+      each-merge (λ p. One (command p)) (body σ b) 0
+      (woven-each (λ p. One (command p)) (λ x e. cc) (λ x e. let z : _≡_ {A = ℕ} 0 1 = cc in absurd (omega arith)) (woven-body σ b u)
+      (each-map (λ p. command p ≡ nothing) (λ p. One (command p)) (λ p c x e. let z : _≡_ {A = ℕ} 0 1 = cc in absurd (omega arith)) b f))
+
+  pub last-beat : LoopFree (merge 0 (closed σ b)) → (v : List ℕ) → overran (run σ ins (merge 0 (closed σ b)) 0 v) ≡ false
+      → LastBeat σ (lastValue σ (time σ (body σ b))) (run σ ins (merge 0 (closed σ b)) 0 v)
+  unfolding begun effect
+  last-beat w v =
+      subst (λ (es : List Step). overran es ≡ false → LastBeat σ x es)
+      (sym (ap (λ (c : Block). run σ ins c 0 v) (merge-last (body σ b) 0 (beat x)) ∙ run-⧺ σ ins begun (act (beat x) nil) 0 v))
+      (go (overran (run σ ins begun 0 v)) refl)
+    where
+      x : ℕ
+      x = lastValue σ (time σ (body σ b))
+
+      front-ones : Every OneStep (run σ ins begun 0 v) v
+      front-ones =
+          every-nil OneStep (run σ ins begun 0) v
+          (one-run σ ins begun 0 (λ w. []) (loop-free-left begun (act (beat x) nil) (subst LoopFree (merge-last (body σ b) 0 (beat x)) w)) begun-ones (λ w. tt) v)
+
+      go : (o : Bool) → overran (run σ ins begun 0 v) ≡ o
+          → overran (run σ ins begun 0 v ++ cond o [] (step (σ .beat) (0 + size begun) (beats x) ∷ [])) ≡ false
+          → LastBeat σ x (run σ ins begun 0 v ++ cond o [] (step (σ .beat) (0 + size begun) (beats x) ∷ []))
+      go true e h = absurd (true≢false (sym e ∙ ap overran (sym (append-nil (run σ ins begun 0 v))) ∙ h))
+      go false e h = record { front = run σ ins begun 0 v; index = 0 + size begun; parts = refl; front-list = λ t. one-list (run σ ins begun 0 v) v t front-ones }
