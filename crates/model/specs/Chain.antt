@@ -1,5 +1,5 @@
 -- Document 01, "Stopping and taking up", its second paragraph: the chain of calls that demand 3 speaks of, as one composition of replies.
-use Prim.Native.Nat.{ℕ, _+_, _*_, _-_, _<_}
+use Prim.Native.Nat.{ℕ, _-_}
 use mathlib.Core.Bool.{Bool, true, false, cond}
 use mathlib.Core.List.{List}
 use mathlib.Core.Path.{_≡_}
@@ -86,43 +86,43 @@ lend s f file ins v o = record { settings = s; form = f; file = file; inputs = i
 abbrev pub plainLoan : Chain → Set → Outputs → Loan
 plainLoan k x o = lend (k .settings) Task (k .task) (x .inputs) (x .variables) o
 
-abbrev pub preparedLoan : Chain → List ℕ → Outputs → Loan
-preparedLoan k v o = lend (k .settings) Laid (laidFile k) (k .two .inputs) v o
+abbrev pub preparedLoan : Chain → Outputs → Loan
+preparedLoan k o = lend (k .settings) Laid (laidFile k) (k .two .inputs) (k .two .variables) o
 
-abbrev pub wholeLoan : Chain → Loan
-wholeLoan k = preparedLoan k (k .two .variables) (k .whole)
+-- STOPPED ONCE AND TAKEN UP
 
-abbrev pub stoppedLoan : Chain → Loan
-stoppedLoan k = preparedLoan k (k .two .variables) (k .stopped)
+-- a run c, stopped at a tick with a lent image buffer: whether there is an image, and the outputs that it left
+abbrev pub hasImage : Loan → List ℕ → ℕ → Bool
+hasImage c image stop = eqb (valueAt 2 (stopReply c image stop)) 1
 
--- the stop, and what it left
-abbrev pub stopping : Chain → Verdict
-stopping k = stopReply (stoppedLoan k) (k .image) (k .stop)
-
-abbrev pub hasImage : Chain → Bool
-hasImage k = eqb (valueAt 2 (stopping k)) 1
-
-abbrev pub imageLeft : Chain → List ℕ
-imageLeft k = stopImage (stoppedLoan k) (k .image) (k .stop)
-
-abbrev pub outputsLeft : Chain → Outputs
-outputsLeft k =
-    let b = stopBuffers (stoppedLoan k) (k .image) (k .stop) in
-    record { levels = b .levels; marks = b .marks }
+abbrev pub outputsLeft : Loan → List ℕ → ℕ → Outputs
+outputsLeft c image stop = record { levels = stopBuffers c image stop .levels; marks = stopBuffers c image stop .marks }
 
 -- "Taking up gets that same file and the same inputs, with the image and outputs as the stop left them, or, with no finished SAVE, the
 -- first variables at record 0 and tick 0."
-abbrev pub resumeLoan : Chain → Loan
-resumeLoan k = preparedLoan k (k .spare) (outputsLeft k)
+abbrev pub again : Loan → List ℕ → Outputs → Loan
+again c v o = lend (c .settings) (c .form) (c .file) (c .inputs) v o
 
-abbrev pub restartLoan : Chain → Loan
-restartLoan k = preparedLoan k (k .two .variables) (outputsLeft k)
+abbrev pub takingUp : Loan → List ℕ → List ℕ → ℕ → Verdict
+takingUp c image spare stop =
+    cond (hasImage c image stop)
+    (resumeReply (again c spare (outputsLeft c image stop)) (stopImage c image stop))
+    (restartReply (again c (c .buffers .variables) (outputsLeft c image stop)))
 
-abbrev pub takingUp : Chain → Verdict
-takingUp k = cond (hasImage k) (resumeReply (resumeLoan k) (imageLeft k)) (restartReply (restartLoan k))
+abbrev pub takenUpBuffers : Loan → List ℕ → List ℕ → ℕ → Buffers
+takenUpBuffers c image spare stop =
+    cond (hasImage c image stop)
+    (resumeBuffers (again c spare (outputsLeft c image stop)) (stopImage c image stop))
+    (restartBuffers (again c (c .buffers .variables) (outputsLeft c image stop)))
 
-abbrev pub takenUpBuffers : Chain → Buffers
-takenUpBuffers k = cond (hasImage k) (resumeBuffers (resumeLoan k) (imageLeft k)) (restartBuffers (restartLoan k))
+-- "The ticks run twice are the stop tick less the end of the last finished checkpoint, or the stop tick itself if there is none"
+abbrev pub imageTick : Loan → List ℕ → ℕ → ℕ
+imageTick c image stop = cond (hasImage c image stop) (imageOf (stopImage c image stop) .tick) 0
+
+abbrev pub runTwice : Loan → List ℕ → ℕ → ℕ
+runTwice c image stop = stop - imageTick c image stop
+
+-- ENDS
 
 -- "Ends are alike when the 16 variables, 8 levels, 8 marks and the answers on overrun are equal; end ticks are not compared."
 pub record End : Type 0 where
@@ -132,24 +132,22 @@ pub record End : Type 0 where
 abbrev pub endOf : Verdict → Buffers → End
 endOf r b = record { buffers = b; overran = valueAt 1 r }
 
-abbrev pub plainEnd : Chain → Set → Outputs → End
-plainEnd k x o = endOf (runReply (plainLoan k x o)) (runBuffers (plainLoan k x o))
+abbrev pub runEnd : Loan → End
+runEnd c = endOf (runReply c) (runBuffers c)
+
+abbrev pub takenUpEnd : Loan → List ℕ → List ℕ → ℕ → End
+takenUpEnd c image spare stop = endOf (takingUp c image spare stop) (takenUpBuffers c image spare stop)
+
+-- "Run, by the meanings in document 01, the task as written on the first set, and its prepared form on the second, whole or stopped
+-- once .. and taken up"; and the task as written on the second set
+abbrev pub plainEndOne : Chain → End
+plainEndOne k = runEnd (plainLoan k (k .one) (k .plainOne))
+
+abbrev pub plainEndTwo : Chain → End
+plainEndTwo k = runEnd (plainLoan k (k .two) (k .plainTwo))
 
 abbrev pub wholeEnd : Chain → End
-wholeEnd k = endOf (runReply (wholeLoan k)) (runBuffers (wholeLoan k))
+wholeEnd k = runEnd (preparedLoan k (k .whole))
 
-abbrev pub takenUpEnd : Chain → End
-takenUpEnd k = endOf (takingUp k) (takenUpBuffers k)
-
--- the end ticks, and "The ticks run twice": the stop tick less the end of the last finished checkpoint, or the stop tick
-abbrev pub wholeTick : Chain → ℕ
-wholeTick k = valueAt 0 (runReply (wholeLoan k))
-
-abbrev pub takenUpTick : Chain → ℕ
-takenUpTick k = valueAt 0 (takingUp k)
-
-abbrev pub imageTick : Chain → ℕ
-imageTick k = cond (hasImage k) (imageOf (imageLeft k) .tick) 0
-
-abbrev pub runTwice : Chain → ℕ
-runTwice k = k .stop - imageTick k
+abbrev pub stoppedEnd : Chain → End
+stoppedEnd k = takenUpEnd (preparedLoan k (k .stopped)) (k .image) (k .spare) (k .stop)

@@ -1,9 +1,10 @@
 -- What the statements on runs say of ticks and steps.
 use Prim.Native.Nat.{ℕ, zero, suc, _+_, _%_}
-use mathlib.Core.Bool.{Bool, cond}
+use mathlib.Core.Path.{_≡_}
+use mathlib.Core.Bool.{Bool, true, cond}
 use mathlib.Core.List.{List, [], _∷_, _++_}
 use lib.Dec.{eqb, leb}
-use Rattle.model.specs.Runs.{Effect, nothing, assigns, outputs, beats, saves, overruns, Step}
+use Rattle.model.specs.Runs.{Effect, nothing, assigns, outputs, beats, saves, overruns, Step, isBeat, isSave}
 
 -- of the n ticks from t on those that p picks, and the multiples of h below n
 abbrev pub picks : (ℕ → Bool) → ℕ → ℕ → List ℕ
@@ -26,7 +27,19 @@ abbrev pub beatList : ℕ → List Step → List (ℕ × ℕ)
 beatList t [] = []
 beatList t (e ∷ es) = beatAt t (e .does) ++ beatList (t + e .lasts) es
 
+-- steps of which the last is a BEAT
+pub record EndsInBeat (es : List Step) : Type 0 where
+  pub before : List Step
+  pub beat : Step
+  pub parts : es ≡ before ++ beat ∷ []
+  pub is : isBeat (beat .does) ≡ true
+
 -- the steps among those of which the first begins at tick t whose end is at or before c, each judged by itself
 abbrev pub endedBy : ℕ → ℕ → List Step → List Step
 endedBy c t [] = []
 endedBy c t (e ∷ es) = cond (leb (t + e .lasts) c) (e ∷ []) [] ++ endedBy c (t + e .lasts) es
+
+-- the end of the last SAVE among steps of which the first begins at tick t, or d if there is none
+abbrev pub lastSaveEnd : ℕ → ℕ → List Step → ℕ
+lastSaveEnd d t [] = d
+lastSaveEnd d t (e ∷ es) = lastSaveEnd (cond (isSave (e .does)) (t + e .lasts) d) (t + e .lasts) es

@@ -14,7 +14,7 @@ use Rattle.model.specs.Settings.{settingsOf, outOfRange, badSettings}
 use Rattle.model.specs.Trees.{size, fileTree}
 use Rattle.model.specs.Refusals.{Fault, sound, faulty, fault}
 use Rattle.model.specs.Answers.{Verdict, finished, refused}
-use Rattle.model.specs.Replies.{turnDown, unless, reading, longest, shortWindow, above, noRoom, fileTime}
+use Rattle.model.specs.Replies.{turnDown, unless, reading, longest, shortWindow, above, noRoom, fileTime, timeReply}
 use Rattle.model.specs.Replies.{equalisedTree, equaliseReply, laidTree, laidTotal, layOutReply, Loan, badBuffers, ready}
 use Rattle.model.specs.Placement.{Fits}
 
@@ -174,11 +174,20 @@ lay-out-accepted s file room xs e =
       answers = let q = p9 .1 in cc;
     }
 
+-- a file within P is timed
+pub times : (s : List ℕ) (f : Form) (file : List ℕ) → badSettings s ≡ false → fault f file ≡ sound → fileTime s file ≤ settingsOf s .period
+    → timeReply s f file ≡ finished (fileTime s file ∷ [])
+unfolding timeReply
+times s f file g h t = reads s f file _ g h ∙ rw (le-ltb (settingsOf s .period) (fileTime s file) t)
+
 -- rows 6, 1 to 5, 8 and 10, which every run tries
-pub runs : (c : Loan) (cause : Bool) (next : Verdict)
-    → badSettings (c .settings) ≡ false → fault (c .form) (c .file) ≡ sound → fileTime (c .settings) (c .file) ≤ settingsOf (c .settings) .period
-    → badBuffers c ≡ false → cause ≡ false
+pub readied : (c : Loan) (cause : Bool) (next : Verdict)
+    → badSettings (c .settings) ≡ false
+    → fault (c .form) (c .file) ≡ sound
+    → fileTime (c .settings) (c .file) ≤ settingsOf (c .settings) .period
+    → badBuffers c ≡ false
+    → cause ≡ false
     → ready c cause next ≡ next
 unfolding ready
-runs c cause next g h t b d =
+readied c cause next g h t b d =
     reads (c .settings) (c .form) (c .file) _ g h ∙ rw (le-ltb (settingsOf (c .settings) .period) (fileTime (c .settings) (c .file)) t, b, d)

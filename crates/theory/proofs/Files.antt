@@ -3,18 +3,21 @@ use Prim.Native.Nat.{ℕ, _*_, _≤_}
 use native.Mathlib.Omega.{arith}
 use mathlib.Core.Path.{_≡_, refl, ap, sym, _∙_}
 use mathlib.Core.List.{List, _++_}
-use lib.ListN.{length, take, drop}
+use lib.ListN.{length, getD, take, drop}
 use lib.Seq.{take-append-seam}
+use Rattle.model.specs.declared.Form.{Form}
 use Rattle.model.specs.declared.Form.the-variants.{Task, Equalised, Laid}
 use Rattle.model.specs.Records.{bytes}
 use Rattle.model.specs.Settings.{settingsOf}
 use Rattle.model.specs.Trees.{Block, size, depth, flatten, fileTree}
 use Rattle.model.specs.Times.{time}
+use Rattle.model.specs.Runs.{run}
 use Rattle.model.specs.Equalising.{equalise}
 use Rattle.model.specs.Layout.{layout, total}
 use Rattle.model.specs.Refusals.{sound, fault}
 use Rattle.model.specs.Answers.{finished}
-use Rattle.model.specs.Replies.{over, kept, fileTime, equalisedTree, equaliseReply, equaliseOut, laidTree, laidTotal, layOutReply, layOutOut}
+use Rattle.model.specs.Replies.{over, kept, fileTime, equalisedTree, equaliseReply, equaliseOut, laidTree, laidTotal, layOutReply, layOutOut, stepsOf}
+use Rattle.model.specs.Chain.{valueAt, Outputs, lend}
 use Rattle.model.proofs.Sound.{OfForm, Sound, sound-file}
 use Rattle.model.proofs.Passes.{passes, tree-back, length-file}
 use Rattle.theory.proofs.Times.{time-equalise}
@@ -29,6 +32,11 @@ fileOf b = bytes (flatten b)
 -- the file that a buffer holds after it was written
 in-buffer : (b : Block) (out : List ℕ) (n : ℕ) → n ≡ 12 * size b → take n (over (fileOf b) out) ≡ fileOf b
 in-buffer b out n e = rw (e ∙ sym (length-file b)) (take-append-seam (fileOf b) (drop (length (fileOf b)) out))
+
+-- the steps of a run of it
+pub steps-of : (s : List ℕ) (f : Form) (b : Block) (ins v : List ℕ) (o : Outputs) → stepsOf (lend s f (fileOf b) ins v o) ≡ run (settingsOf s) ins b 0 v
+unfolding stepsOf
+steps-of s f b ins v o = rw (tree-back b)
 
 -- EQUALISED
 
@@ -55,6 +63,13 @@ pub equalised-written : (s task out xs : List ℕ) → equaliseReply s task (len
 unfolding equaliseOut
 equalised-written s task out xs e = rw e
 
+-- what the answer says was written
+pub equalised-file : (s task out xs : List ℕ) → equaliseReply s task (length out) ≡ finished xs
+    → take (valueAt 0 (equaliseReply s task (length out))) (equaliseOut s task out) ≡ fileOf (equalisedTree s task)
+equalised-file s task out xs e =
+    let n = ap (valueAt 0) e ∙ ap (λ (ys : List ℕ). getD ys 0 0) (sym (equalise-accepted s task (length out) xs e .answers)) in
+    ap (take (valueAt 0 (equaliseReply s task (length out)))) (equalised-written s task out xs e) ∙ in-buffer (equalisedTree s task) out _ n
+
 -- LAID
 
 module _ (s file : List ℕ) (room : ℕ) (xs : List ℕ) (a : LayOutAccepted s file room xs) where
@@ -78,3 +93,9 @@ pub laid-written : (s file out xs : List ℕ) → layOutReply s file (length out
     → layOutOut s file out ≡ over (fileOf (laidTree s file)) out
 unfolding layOutOut
 laid-written s file out xs e = rw e
+
+pub laid-file : (s file out xs : List ℕ) → layOutReply s file (length out) ≡ finished xs
+    → take (valueAt 0 (layOutReply s file (length out))) (layOutOut s file out) ≡ fileOf (laidTree s file)
+laid-file s file out xs e =
+    let n = ap (valueAt 0) e ∙ ap (λ (ys : List ℕ). getD ys 0 0) (sym (lay-out-accepted s file (length out) xs e .answers)) in
+    ap (take (valueAt 0 (layOutReply s file (length out)))) (laid-written s file out xs e) ∙ in-buffer (laidTree s file) out _ n

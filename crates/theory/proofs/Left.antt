@@ -7,7 +7,7 @@ use mathlib.Core.Bool.{true, false, false≢true}
 use mathlib.Core.List.{List, []}
 use borrow.Author.Tests.{lt-leb, le-leb}
 use Rattle.model.specs.declared.Settings.{Settings}
-use Rattle.model.specs.Trees.{Test, Block, nil, skip, act, branch, while, times, _⧺_, size}
+use Rattle.model.specs.Trees.{Test, Act, set, read, write, check, beat, save, Block, nil, skip, act, branch, while, times, _⧺_, size}
 use Rattle.model.specs.Times.{ticks}
 use Rattle.model.specs.Runs.{Effect, nothing, assigns, outputs, beats, saves, overruns, isSave, isOverrun, Step, step}
 use Rattle.model.specs.Runs.{onVariables, effect, Run, _⊳_, run}
@@ -17,13 +17,14 @@ use Rattle.theory.proofs.Sequences.{⊳-assoc, ⊳-nil, run-⧺}
 use Rattle.theory.proofs.Blind.{blind, _∼_, ∼-refl, ∼-trans, ∼-eq, ∼-⊳, ∼-move}
 use Rattle.theory.proofs.Every.{Every, every-nil, every-single, every-choose}
 
--- an overrun is the last step; after a SAVE, R at the next record does what is left
+-- an overrun is the last step, of one tick; after a SAVE, R at the next record does what is left
 pub record Goes (R : ℕ → Run) (e : Step) (v : List ℕ) (es : List Step) : Type 0 where
   pub ends : isOverrun (e .does) ≡ true → es ≡ []
+  pub one : isOverrun (e .does) ≡ true → e .lasts ≡ 1
   pub resumes : isSave (e .does) ≡ true → blind (R (e .index + 1) (onVariables (e .does) v)) ≡ blind es
 
 idle : (R : ℕ → Run) (d i : ℕ) (v : List ℕ) (es : List Step) → Goes R (step d i nothing) v es
-idle R d i v es = record { ends = λ x. absurd (false≢true x); resumes = λ x. absurd (false≢true x) }
+idle R d i v es = record { ends = λ x. absurd (false≢true x); one = λ x. absurd (false≢true x); resumes = λ x. absurd (false≢true x) }
 
 -- a SAVE is no overrun
 pub save-calm : (d : Effect) → isSave d ≡ true → isOverrun d ≡ false
@@ -33,6 +34,16 @@ save-calm (outputs q x) p = refl
 save-calm (beats x) p = refl
 save-calm (saves m) p = refl
 save-calm overruns p = absurd (false≢true p)
+
+-- only a test overruns
+overrun-one : (σ : Settings) (ins : List ℕ) (p : Act) (v : List ℕ) → isOverrun (effect ins p v) ≡ true → ticks σ p ≡ 1
+unfolding effect
+overrun-one σ ins (set o t l x) v e = absurd (false≢true e)
+overrun-one σ ins (read a p) v e = absurd (false≢true e)
+overrun-one σ ins (write a p) v e = absurd (false≢true e)
+overrun-one σ ins (check q) v e = refl
+overrun-one σ ins (beat x) v e = absurd (false≢true e)
+overrun-one σ ins (save m) v e = absurd (false≢true e)
 
 pub rest-0 : (b : Block) → rest b 0 ≡ b
 rest-0 nil = refl
@@ -97,7 +108,7 @@ module _ (σ : Settings) (ins : List ℕ) (R : ℕ → Run) where
       let next = leads-tail i (act p b) b g refl (λ j. refl) c in
       let w = effect ins p v in
       every-single (Goes R) (ticks σ p) i (effect ins p) (run σ ins b (i + 1)) g v
-      (record { ends = λ x. rw x; resumes = λ x. rw (save-calm w x) (leads-here (i + 1) b g next .same-steps (onVariables w v)) })
+      (record { ends = λ x. rw x; one = overrun-one σ ins p v; resumes = λ x. rw (save-calm w x) (leads-here (i + 1) b g next .same-steps (onVariables w v)) })
       (goes-⊳ b (i + 1) g u next h (onVariables w v))
   goes-⊳ (branch q a d b) i g u c h v =
       let k = i + 3 + size a + size d in

@@ -3,6 +3,7 @@ pub mod Times
 pub mod Sequences
 pub mod Traces
 pub mod Agreement
+pub mod Within
 pub mod Lasts
 pub mod Forms
 pub mod Unrolling
@@ -22,6 +23,13 @@ pub mod Left
 pub mod Images
 pub mod Resuming
 pub mod Checkpoints
+pub mod LaidRuns
 pub mod Accepted
 pub mod Files
+pub mod Replies
+pub mod StoppedOnce
+pub mod Prepared
+pub mod Ends
+pub mod Demand2
+pub mod Demand3
 pub mod Bench

@@ -37,7 +37,7 @@ pub record OverrunLast (es : List Step) : Type 0 where
   pub last : Step
   pub parts : es ≡ pre ++ last ∷ []
   pub over : isOverrun (last .does) ≡ true
-  pub calm : overran pre ≡ false
+  pub one : last .lasts ≡ 1
 
 pub overrun-last : (σ : Settings) (ins : List ℕ) (b : Block) → LoopFree b → (i : ℕ) (v : List ℕ) → overran (run σ ins b i v) ≡ true → OverrunLast (run σ ins b i v)
 overrun-last σ ins b u i v = found (λ j. run σ ins (rest b (j - i)) j) (run σ ins b i v) v (goes-run σ ins b u i v)
@@ -47,10 +47,10 @@ overrun-last σ ins b u i v = found (λ j. run σ ins (rest b (j - i)) j) (run �
     found R (x ∷ es) v p e = go (isOverrun (x .does)) refl e (found R es (onVariables (x .does) v) (p .1))
       where
         go : (o : Bool) → isOverrun (x .does) ≡ o → (o || overran es) ≡ true → (overran es ≡ true → OverrunLast es) → OverrunLast (x ∷ es)
-        go true k e next = record { pre = []; last = x; parts = ap (λ (fs : List Step). x ∷ fs) (p .0 .ends k); over = k; calm = refl }
+        go true k e next = record { pre = []; last = x; parts = ap (λ (fs : List Step). x ∷ fs) (p .0 .ends k); over = k; one = p .0 .one k }
         go false k e next =
             let n = next e in
-            record { pre = x ∷ n .pre; last = n .last; parts = ap (λ (fs : List Step). x ∷ fs) (n .parts); over = n .over; calm = rw (k, n .calm) }
+            record { pre = x ∷ n .pre; last = n .last; parts = ap (λ (fs : List Step). x ∷ fs) (n .parts); over = n .over; one = n .one }
 
 -- TAKING UP
 
@@ -135,5 +135,5 @@ module _ (σ : Settings) (ins : List ℕ) (b : Block) (v : List ℕ) (c : ℕ) w
         same-end = omega (arith, s .tick-is, blind-duration again onward (s .follows), ap duration parts, duration-++ (s .front) onward);
       }
 
-pub taken-up : (σ : Settings) (ins : List ℕ) (b : Block) → LoopFree b → (v : List ℕ) (c : ℕ) → c < duration (run σ ins b 0 v) → TakenUp σ ins b v c
-taken-up σ ins b u v c l = from-since σ ins b v c (since σ ins b v c u (lastImage (upto c (run σ ins b 0 v)) 0 v none) refl)
+pub taken-up : (σ : Settings) (ins : List ℕ) (b : Block) → LoopFree b → (v : List ℕ) (c : ℕ) → TakenUp σ ins b v c
+taken-up σ ins b u v c = from-since σ ins b v c (since σ ins b v c u (lastImage (upto c (run σ ins b 0 v)) 0 v none) refl)

@@ -10,7 +10,7 @@ use borrow.Author.Tests.{ltb-true, ltb-false, eqb-true, eqb-false, eq-eqb, ne-eq
 use Rattle.model.specs.declared.Settings.{Settings}
 use Rattle.model.specs.Runs.{Effect, isBeat, isSave, Step, starts, duration}
 use Rattle.model.specs.Placement.{Fits, InPlace, StepsPlaced}
-use Rattle.model.specs.Timeline.{picks, multiples}
+use Rattle.model.specs.Timeline.{picks, multiples, EndsInBeat}
 use Rattle.theory.proofs.Sequences.{duration-++}
 use Rattle.theory.proofs.Clock.{mod-within, mod-over}
 use Rattle.theory.proofs.Windows.{round, window-pos, window-round, round-pos, round-small, window-on}
@@ -73,13 +73,6 @@ step-placed σ (x ∷ pre) e post t p = rw (← add-assoc t (x .lasts) (duration
 pub uncrossed : (σ : Settings) (pre : List Step) (e : Step) (post : List Step) → StepsPlaced σ 0 (pre ++ e ∷ post)
     → duration pre % σ .window + e .lasts ≤ σ .window
 uncrossed σ pre e post p = rw (zero-add (duration pre)) at (step-placed σ pre e post 0 p .ends)
-
--- steps of which the last is a BEAT
-pub record AfterBeat (pre : List Step) : Type 0 where
-  pub before : List Step
-  pub beat : Step
-  pub parts : pre ≡ before ++ beat ∷ []
-  pub is : isBeat (beat .does) ≡ true
 
 -- the ticks where a BEAT, a SAVE and a round start
 abbrev beatAt : Settings → ℕ → Bool
@@ -216,13 +209,13 @@ module _ (σ : Settings) (fits : Fits σ) where
       go false b = absurd (late (p .clear b) (ltb (t % σ .window + x .lasts) (σ .window)) refl)
 
   last-beat : (x : Step) (xs : List Step) (e : Step) (post : List Step) (t : ℕ) → StepsPlaced σ t (x ∷ (xs ++ e ∷ post)) → isSave (e .does) ≡ true
-      → AfterBeat (x ∷ xs)
+      → EndsInBeat (x ∷ xs)
   last-beat x [] e post t p s = record { before = []; beat = x; parts = refl; is = beat-before t x e (p .0) (p .1 .0) s }
   last-beat x (y ∷ ys) e post t p s =
       let r = last-beat y ys e post (t + x .lasts) (p .1) s in
       record { before = x ∷ r .before; beat = r .beat; parts = ap (λ (l : List Step). x ∷ l) (r .parts); is = r .is }
 
-  pub after-beat : (pre : List Step) (e : Step) (post : List Step) → StepsPlaced σ 0 (pre ++ e ∷ post) → isSave (e .does) ≡ true → AfterBeat pre
+  pub after-beat : (pre : List Step) (e : Step) (post : List Step) → StepsPlaced σ 0 (pre ++ e ∷ post) → isSave (e .does) ≡ true → EndsInBeat pre
   after-beat [] e post p s =
       absurd (omega (arith, zero-mod (round σ), eqb-true (0 % round σ) (σ .beat) (sym (p .0 .save-at) ∙ s)))
   after-beat (x ∷ xs) e post p s = last-beat x xs e post 0 p s

@@ -2,7 +2,7 @@
 use Prim.Native.Nat.{ℕ, _+_, _*_, _%_, _≤_, _<_}
 use native.Mathlib.Omega.{arith}
 use native.Mathlib.Nat.{zero-mod, add-zero}
-use mathlib.Core.Path.{_≡_, refl, _∙_}
+use mathlib.Core.Path.{_≡_, refl, ap, _∙_}
 use mathlib.Core.Bool.{Bool, true, false, cond}
 use mathlib.Core.List.{List, [], _∷_, _++_}
 use lib.Dec.{ltb}
@@ -11,6 +11,7 @@ use Rattle.model.specs.declared.Settings.{Settings}
 use Rattle.model.specs.Runs.{isSave, Step, duration, onVariables}
 use Rattle.model.specs.Stopping.{Image, Saved, none, saved, lastImage}
 use Rattle.model.specs.Placement.{Fits, InPlace, StepsPlaced}
+use Rattle.model.specs.Timeline.{lastSaveEnd}
 use Rattle.theory.proofs.Clock.{mod-within, mod-over}
 use Rattle.theory.proofs.Windows.{round, window-pos, window-round, round-pos, round-small, round-ends}
 
@@ -18,6 +19,17 @@ use Rattle.theory.proofs.Windows.{round, window-pos, window-round, roun
 abbrev pub savedTick : Saved → ℕ
 savedTick none = 0
 savedTick (saved m) = m .tick
+
+pub saved-tick : (es : List Step) (t : ℕ) (v : List ℕ) (m : Saved) → savedTick (lastImage es t v m) ≡ lastSaveEnd (savedTick m) t es
+saved-tick [] t v m = refl
+saved-tick (e ∷ es) t v m =
+    let u = t + e .lasts in
+    let w = onVariables (e .does) v in
+    saved-tick es u w _ ∙ ap (λ (d : ℕ). lastSaveEnd d u es) (go (isSave (e .does)) (record { index = e .index + 1; tick = u; variables = w }))
+  where
+    go : (o : Bool) (i : Image) → savedTick (cond o (saved i) m) ≡ cond o (i .tick) (savedTick m)
+    go true i = refl
+    go false i = refl
 
 -- Where the start t of a step stands to the last finished SAVE's end s: after the commands of its round, at the BEAT of a new
 -- round, or at its SAVE.

@@ -1,0 +1,207 @@
+-- DEMAND 2, over bytes and replies: each part under the words that it answers. The proofs are in the files that are cited.
+use Prim.Native.Nat.{ℕ, _+_, _*_, _-_, _%_, _≤_, _<_}
+use native.Mathlib.Omega.{arith}
+use mathlib.Core.Path.{_≡_, refl, ap, sym, _∙_, subst}
+use mathlib.Core.Bool.{true, false}
+use mathlib.Core.List.{List, [], _∷_, _++_, map}
+use lib.ListN.{length, drop}
+use Rattle.model.specs.declared.Settings.{Settings}
+use Rattle.model.specs.declared.Form.{Form}
+use Rattle.model.specs.declared.Form.the-variants.{Task, Equalised, Laid}
+use Rattle.model.specs.Records.{bytes}
+use Rattle.model.specs.Settings.{settingsOf, badSettings}
+use Rattle.model.specs.Trees.{Block, flatten, fileTree}
+use Rattle.model.specs.Times.{time}
+use Rattle.model.specs.Runs.{Step, isBeat, isSave, starts, duration, overran, leave, cleared, run}
+use Rattle.model.specs.Equalising.{F, merge, equalise}
+use Rattle.model.specs.Layout.{ceiling, layout, total}
+use Rattle.model.specs.Stopping.{upto, none, lastImage}
+use Rattle.model.specs.Refusals.{sound, fault}
+use Rattle.model.specs.Answers.{finished}
+use Rattle.model.specs.Replies.{fileTime, timeReply, equalisedTree, equaliseReply, equaliseOut, laidTree, laidTotal, layOutReply, layOutOut}
+use Rattle.model.specs.Replies.{Loan, badBuffers, ended, stepsOf, runReply, imageAt, stopReply, stopBuffers, imageOver, stopImage}
+use Rattle.model.specs.Placement.{Fits, Placed}
+use Rattle.model.specs.Timeline.{multiples, beatList, EndsInBeat, endedBy}
+use Rattle.model.specs.Chain.{Outputs, lend}
+use Rattle.model.proofs.Sound.{OfForm, sound-file}
+use Rattle.model.proofs.Passes.{length-file}
+use Rattle.theory.proofs.Lasts.{equalised-lasts}
+use Rattle.theory.proofs.Laid.{placed-laid, total-longer, last-start, laid-lasts}
+use Rattle.theory.proofs.LaidRuns.{laid-beats, whole-starts, whole-values, whole-saves, cut-saves, save-follows, no-crossing}
+use Rattle.theory.proofs.Stops.{beyond, upto-beyond, upto-only, upto-all, upto-ended}
+use Rattle.theory.proofs.Accepted.{EqualiseAccepted, equalise-accepted, LayOutAccepted, lay-out-accepted, times, readied}
+use Rattle.theory.proofs.Files.{steps-of, equalised-sound, equalised-time, equalised-written, laid-sound, laid-time, laid-written}
+
+-- A RUN
+
+-- of a file whose stated time is t
+pub record Runs (c : Loan) (t : ℕ) : Type 0 where
+  -- it is not refused: "A run answers its end tick .. and whether it overran."
+  pub answers : runReply c ≡ ended 0 (stepsOf c)
+  -- "its stated time is the time of each of its runs that does not overrun a loop count", "the whole lasts exactly the total stated for it"
+  pub lasts : overran (stepsOf c) ≡ false → duration (stepsOf c) ≡ t
+
+-- EQUALISING
+
+-- the bytes of the tree that 003's rules give, with SKIPs merged
+abbrev pub equalisedBytes : List ℕ → List ℕ → List ℕ
+equalisedBytes s task = bytes (flatten (merge 0 (F (settingsOf s) (fileTree task))))
+
+-- for settings s, a task, a lent buffer and an answer xs
+pub record Equalises (s task out xs : List ℕ) : Type 0 where
+  -- "equalising answers the bytes written and the time"
+  pub answers : xs ≡ length (equalisedBytes s task) ∷ fileTime s task ∷ []
+  -- "The equalised task is the one that the rules of source document 003 give", and the bytes after it are untouched
+  pub writes : equaliseOut s task out ≡ equalisedBytes s task ++ drop (length (equalisedBytes s task)) out
+  -- the stated time is that of the task and of the file
+  pub task-time : timeReply s Task task ≡ finished (fileTime s task ∷ [])
+  pub file-time : timeReply s Equalised (equalisedBytes s task) ≡ finished (fileTime s task ∷ [])
+  -- and of its runs, from any variables and inputs, with anything in the outputs
+  pub runs : (ins v : List ℕ) (o : Outputs) → badBuffers (lend s Equalised (equalisedBytes s task) ins v o) ≡ false
+      → Runs (lend s Equalised (equalisedBytes s task) ins v o) (fileTime s task)
+
+-- LAYING OUT
+
+-- the steps of a run of a laid file whose total is t
+pub record LaidSteps (σ : Settings) (t : ℕ) (es : List Step) : Type 0 where
+  -- "a heartbeat starts at every multiple of the window and at no other tick, on every such run": 0, H, 2H, …, total − B
+  pub beats : overran es ≡ false → starts isBeat 0 es ≡ multiples (σ .window) (t - σ .beat) ++ (t - σ .beat) ∷ []
+  -- "BEAT (value 1)"; "one last BEAT .. with value ceil((P − total) / H)"
+  pub values : overran es ≡ false
+      → beatList 0 es ≡ map (λ u. (u, 1)) (multiples (σ .window) (t - σ .beat)) ++ (t - σ .beat, ceiling (σ .period - t) (σ .window)) ∷ []
+  -- "a SAVE directly after it if that multiple is also one of K × H"; at the last BEAT "never a SAVE"
+  pub saves : overran es ≡ false → starts isSave 0 es ≡ map (λ u. σ .beat + u) (multiples (σ .spacing * σ .window) (t - σ .beat))
+  -- a run that overruns, up to its end tick; the BEATs of any run
+  pub beats-so-far : starts isBeat 0 es ≡ multiples (σ .window) (duration es)
+  pub saves-so-far : overran es ≡ true → starts isSave 0 es ≡ map (λ u. σ .beat + u) (multiples (σ .spacing * σ .window) (duration es))
+  -- a SAVE starts at the end of its BEAT
+  pub save-after-beat : (pre : List Step) (e : Step) (post : List Step) → es ≡ pre ++ e ∷ post → isSave (e .does) ≡ true → EndsInBeat pre
+  -- "A step longer than the ticks left to the next multiple of H waits": no step crosses one
+  pub uncrossed : (pre : List Step) (e : Step) (post : List Step) → es ≡ pre ++ e ∷ post → duration pre % σ .window + e .lasts ≤ σ .window
+
+abbrev pub laidBytes : List ℕ → List ℕ → List ℕ
+laidBytes s file = bytes (flatten (layout (settingsOf s) (fileTree file)))
+
+-- for settings s, any equalised file, a lent buffer and an answer xs
+pub record LaysOut (s file out xs : List ℕ) : Type 0 where
+  -- "laying out [answers] the bytes written and the total"
+  pub answers : xs ≡ length (laidBytes s file) ∷ laidTotal s file ∷ []
+  pub writes : layOutOut s file out ≡ laidBytes s file ++ drop (length (laidBytes s file)) out
+  -- what was written is a laid file whose time is the total
+  pub file-time : timeReply s Laid (laidBytes s file) ≡ finished (laidTotal s file ∷ [])
+  -- "the file's time, or the total laid out, above P": the total decides
+  pub no-shorter : fileTime s file ≤ laidTotal s file
+  -- the last BEAT starts at a multiple of H
+  pub last-start : (laidTotal s file - settingsOf s .beat) % settingsOf s .window ≡ 0
+  -- on every path each record is in place, and both sides of an IF end at one tick
+  pub placed : Placed (settingsOf s) (layout (settingsOf s) (fileTree file)) 0
+  -- each run, from any variables and inputs, with anything in the outputs
+  pub runs : (ins v : List ℕ) (o : Outputs) → badBuffers (lend s Laid (laidBytes s file) ins v o) ≡ false
+      → Runs (lend s Laid (laidBytes s file) ins v o) (laidTotal s file)
+  pub steps : (ins v : List ℕ) (o : Outputs) → LaidSteps (settingsOf s) (laidTotal s file) (stepsOf (lend s Laid (laidBytes s file) ins v o))
+
+-- STOPPING
+
+-- "A run stopped at a tick has done the steps that end by then and no others": for anything lent, at any tick
+pub record Stops (c : Loan) (image : List ℕ) (stop : ℕ) : Type 0 where
+  -- the steps done are those of which each one's end is at or before the stop
+  pub done : upto stop (stepsOf c) ≡ endedBy stop 0 (stepsOf c)
+  -- they are the longest such beginning of the run
+  pub begins : (left : List Step) × (stepsOf c ≡ upto stop (stepsOf c) ++ left)
+  pub longest : (pre : List Step) (y : Step) (ys : List Step) → stepsOf c ≡ pre ++ y ∷ ys → duration pre ≤ stop → stop < duration pre + y .lasts
+      → upto stop (stepsOf c) ≡ pre
+  pub all : duration (stepsOf c) ≤ stop → upto stop (stepsOf c) ≡ stepsOf c
+  -- "The lent variables and outputs then show the state after the last step done", and the image is that of the last SAVE among them
+  pub leaves : (xs : List ℕ) → stopReply c image stop ≡ finished xs
+      → stopBuffers c image stop ≡ leave (endedBy stop 0 (stepsOf c)) (cleared (c .buffers .variables))
+  pub saves : (xs : List ℕ) → stopReply c image stop ≡ finished xs
+      → stopImage c image stop ≡ imageOver (lastImage (endedBy stop 0 (stepsOf c)) 0 (c .buffers .variables) none) image
+
+-- DEMAND 2
+
+pub record Demand2 : Type 0 where
+  pub equalising : (s task out xs : List ℕ) → equaliseReply s task (length out) ≡ finished xs → Equalises s task out xs
+  pub laying-out : (s file out xs : List ℕ) → layOutReply s file (length out) ≡ finished xs → LaysOut s file out xs
+  pub stopping : (c : Loan) (image : List ℕ) (stop : ℕ) → Stops c image stop
+
+-- WHERE EACH PART IS PROVED
+
+-- a sound file within P is run
+run-answers : (s : List ℕ) (f : Form) (file ins v : List ℕ) (o : Outputs) → badSettings s ≡ false → fault f file ≡ sound
+    → fileTime s file ≤ settingsOf s .period → badBuffers (lend s f file ins v o) ≡ false
+    → runReply (lend s f file ins v o) ≡ ended 0 (stepsOf (lend s f file ins v o))
+unfolding runReply
+run-answers s f file ins v o g h t b = readied (lend s f file ins v o) false (ended 0 (stepsOf (lend s f file ins v o))) g h t b refl
+
+equalises : (s task out xs : List ℕ) → equaliseReply s task (length out) ≡ finished xs → Equalises s task out xs
+unfolding equalisedTree equalise
+equalises s task out xs e =
+    let σ = settingsOf s in
+    let b = merge 0 (F σ (fileTree task)) in
+    let a = equalise-accepted s task (length out) xs e in
+    let same = equalised-time s task (length out) xs a in
+    let good = equalised-sound s task (length out) xs a in
+    let in-time : fileTime s (bytes (flatten b)) ≤ σ .period = omega (arith, same, a .in-time) in
+    record {
+      answers = sym (ap (λ (n : ℕ). n ∷ fileTime s task ∷ []) (length-file b) ∙ a .answers);
+      writes = equalised-written s task out xs e;
+      task-time = times s Task task (a .settings-good) (a .file-sound) (a .in-time);
+      file-time = times s Equalised (bytes (flatten b)) (a .settings-good) good in-time ∙ ap (λ (t : ℕ). finished (t ∷ [])) same;
+      runs = λ ins v o h. record {
+        answers = run-answers s Equalised (bytes (flatten b)) ins v o (a .settings-good) good in-time h;
+        lasts = rw (steps-of s Equalised b ins v o) (equalised-lasts σ ins (fileTree task) 0 .in-all v);
+      };
+    }
+
+laid-steps : (σ : Settings) → Fits σ → (b : Block) → OfForm Equalised b → (ins v : List ℕ) → LaidSteps σ (total σ b) (run σ ins (layout σ b) 0 v)
+laid-steps σ fits b p ins v = record {
+  beats = whole-starts σ fits b p ins v;
+  values = whole-values σ fits b p ins v;
+  saves = whole-saves σ fits b p ins v;
+  beats-so-far = laid-beats σ fits b p ins v;
+  saves-so-far = cut-saves σ fits b p ins v;
+  save-after-beat = save-follows σ fits b p ins v;
+  uncrossed = no-crossing σ fits b p ins v;
+}
+
+lays-out : (s file out xs : List ℕ) → layOutReply s file (length out) ≡ finished xs → LaysOut s file out xs
+unfolding laidTree
+lays-out s file out xs e =
+    let σ = settingsOf s in
+    let tree = fileTree file in
+    let b = layout σ tree in
+    let a = lay-out-accepted s file (length out) xs e in
+    let p = sound-file Equalised file (a .file-sound) .of-form in
+    let same = laid-time s file (length out) xs a in
+    let good = laid-sound s file (length out) xs a in
+    let in-time : fileTime s (bytes (flatten b)) ≤ σ .period = omega (arith, same, a .in-time) in
+    record {
+      answers = sym (ap (λ (n : ℕ). n ∷ laidTotal s file ∷ []) (length-file b) ∙ a .answers);
+      writes = laid-written s file out xs e;
+      file-time = times s Laid (bytes (flatten b)) (a .settings-good) good in-time ∙ ap (λ (t : ℕ). finished (t ∷ [])) same;
+      no-shorter = total-longer σ tree p;
+      last-start = last-start σ tree p (a .fits-window);
+      placed = placed-laid σ tree p (a .fits-window);
+      runs = λ ins v o h. record {
+        answers = run-answers s Laid (bytes (flatten b)) ins v o (a .settings-good) good in-time h;
+        lasts = rw (steps-of s Laid b ins v o) (laid-lasts σ tree p (a .fits-window) ins v);
+      };
+      steps = λ ins v o. rw (steps-of s Laid b ins v o) (laid-steps σ (a .fits-window) tree p ins v);
+    }
+
+stops : (c : Loan) (image : List ℕ) (stop : ℕ) → Stops c image stop
+unfolding stopBuffers stopImage imageAt
+stops c image stop =
+    let es = stepsOf c in
+    let ended-steps = upto-ended stop es in
+    record {
+      done = ended-steps;
+      begins = (beyond stop es, upto-beyond stop es);
+      longest = λ pre y ys e l h. ap (upto stop) e ∙ upto-only stop pre y ys l h;
+      all = upto-all stop es;
+      leaves = λ xs e. rw e (ap (λ (ds : List Step). leave ds (cleared (c .buffers .variables))) ended-steps);
+      saves = λ xs e. rw e (ap (λ (ds : List Step). imageOver (lastImage ds 0 (c .buffers .variables) none) image) ended-steps);
+    }
+
+pub demand2 : Demand2
+demand2 = record { equalising = equalises; laying-out = lays-out; stopping = stops }

@@ -1,0 +1,114 @@
+-- What the calls that run a file answer and leave, once nothing refuses: whole, stopped, and taken up.
+use Prim.Native.Nat.{ℕ, _+_, _*_, _≤_, _<_}
+use native.Mathlib.Omega.{arith}
+use mathlib.Core.Path.{_≡_, refl, ap, ap₂, sym, _∙_, subst}
+use mathlib.Core.Bool.{Bool, true, false, cond, not, _||_}
+use mathlib.Core.List.{List, [], _∷_}
+use lib.Dec.{eqb, leb}
+use lib.ListN.{length, replicate}
+use borrow.Author.Tests.{eq-eqb, lt-leb, le-ltb}
+use Rattle.model.specs.declared.Form.{Form}
+use Rattle.model.specs.Settings.{settingsOf, badSettings}
+use Rattle.model.specs.Trees.{Block, fileTree}
+use Rattle.model.specs.Times.{time}
+use Rattle.model.specs.Runs.{Step, duration, variablesAfter, outputsAfter, level, mark, overran, Buffers, leave, cleared, run}
+use Rattle.model.specs.Stopping.{upto, Image, Saved, none, saved, lastImage, imageBytes, imageOf, start, takeUp}
+use Rattle.model.specs.Refusals.{sound, fault}
+use Rattle.model.specs.Answers.{Verdict, finished, bit}
+use Rattle.model.specs.Replies.{Loan, badBuffers, badImage, ready, ended, stepsOf, runReply, runBuffers, imageAt, isSaved, stopReply, stopBuffers, imageOver, stopImage}
+use Rattle.model.specs.Replies.{takenUp, takenBuffers, afterSave, strayImage, resumeReply, resumeBuffers, restartReply, restartBuffers}
+use Rattle.model.specs.Chain.{Outputs, lend}
+use Rattle.theory.proofs.Accepted.{readied}
+
+-- a file that reads as the block b, within P
+pub record Runnable (s : List ℕ) (f : Form) (file : List ℕ) (b : Block) : Type 0 where
+  pub settings-good : badSettings s ≡ false
+  pub file-sound : fault f file ≡ sound
+  pub tree : fileTree file ≡ b
+  pub in-time : time (settingsOf s) b ≤ settingsOf s .period
+
+-- the image of the last SAVE that is finished at the stop
+abbrev pub savedAt : ℕ → List Step → List ℕ → Saved
+savedAt stop es v = lastImage (upto stop es) 0 v none
+
+-- what steps from an image on leave, with the outputs o before
+abbrev pub onward : List Step → Image → Outputs → Buffers
+onward es m o = leave es (record { variables = m .variables; levels = o .levels; marks = o .marks })
+
+-- the table's lengths
+pub record LentLengths (ins v : List ℕ) (o : Outputs) : Type 0 where
+  pub inputs : length ins ≡ 8
+  pub variables : length v ≡ 16
+  pub levels : length (o .levels) ≡ 8
+  pub marks : length (o .marks) ≡ 8
+
+module _ (s : List ℕ) (f : Form) (file : List ℕ) (b : Block) (r : Runnable s f file b) (ins v : List ℕ) (o : Outputs) (l : LentLengths ins v o) where
+  ready-to-run : (cause : Bool) (next : Verdict) → cause ≡ false → ready (lend s f file ins v o) cause next ≡ next
+  ready-to-run cause next =
+      readied (lend s f file ins v o) cause next (r .settings-good) (r .file-sound) (rw (r .tree) (r .in-time))
+      (rw (eq-eqb (length v) 16 (l .variables), eq-eqb (length ins) 8 (l .inputs), eq-eqb (length (o .levels)) 8 (l .levels), eq-eqb (length (o .marks)) 8 (l .marks)))
+
+  steps : stepsOf (lend s f file ins v o) ≡ run (settingsOf s) ins b 0 v
+  unfolding stepsOf
+  steps = rw (r .tree)
+
+  -- WHOLE
+
+  pub run-answer : runReply (lend s f file ins v o) ≡ ended 0 (run (settingsOf s) ins b 0 v)
+  unfolding runReply
+  run-answer = ready-to-run false (ended 0 (stepsOf (lend s f file ins v o))) refl ∙ ap (ended 0) steps
+
+  pub run-leaves : runBuffers (lend s f file ins v o) ≡ leave (run (settingsOf s) ins b 0 v) (cleared v)
+  unfolding runBuffers
+  run-leaves = rw (run-answer, steps)
+
+  -- STOPPED
+
+  module _ (image : List ℕ) (has-room : length image ≡ 72) (stop : ℕ) (early : stop < duration (run (settingsOf s) ins b 0 v)) where
+    image-at : imageAt (lend s f file ins v o) stop ≡ savedAt stop (run (settingsOf s) ins b 0 v) v
+    unfolding imageAt
+    image-at = rw steps
+
+    pub stop-answer : stopReply (lend s f file ins v o) image stop ≡ finished (stop ∷ 0 ∷ bit (isSaved (savedAt stop (run (settingsOf s) ins b 0 v) v)) ∷ [])
+    unfolding stopReply
+    stop-answer =
+        ready-to-run (badImage image) _ (rw (eq-eqb (length image) 72 has-room))
+        ∙ rw (steps, lt-leb (duration (run (settingsOf s) ins b 0 v)) stop early, image-at)
+
+    pub stop-leaves : stopBuffers (lend s f file ins v o) image stop ≡ leave (upto stop (run (settingsOf s) ins b 0 v)) (cleared v)
+    unfolding stopBuffers
+    stop-leaves = rw (stop-answer, steps)
+
+    pub stop-image : stopImage (lend s f file ins v o) image stop ≡ imageOver (savedAt stop (run (settingsOf s) ins b 0 v) v) image
+    unfolding stopImage
+    stop-image = rw (stop-answer, image-at)
+
+  -- TAKEN UP
+
+  taken : (m : Image) → takenUp (lend s f file ins v o) m ≡ takeUp (settingsOf s) ins b m
+  unfolding takenUp
+  taken m = rw (r .tree)
+
+  taken-leaves : (m : Image) → takenBuffers (lend s f file ins v o) m ≡ onward (takeUp (settingsOf s) ins b m) m o
+  unfolding takenBuffers
+  taken-leaves m = rw (taken m)
+
+  pub restart-answer : restartReply (lend s f file ins v o) ≡ ended 0 (takeUp (settingsOf s) ins b (start v))
+  unfolding restartReply
+  restart-answer = ready-to-run false _ refl ∙ ap (ended 0) (taken (start v))
+
+  pub restart-leaves : restartBuffers (lend s f file ins v o) ≡ onward (takeUp (settingsOf s) ins b (start v)) (start v) o
+  unfolding restartBuffers
+  restart-leaves = rw (restart-answer, taken-leaves (start v))
+
+  module _ (image : List ℕ) (m : Image) (reads : imageOf image ≡ m) (whole : length image ≡ 72)
+      (after : afterSave file (m .index) ≡ true) (early : m .tick ≤ settingsOf s .period) where
+    pub resume-answer : resumeReply (lend s f file ins v o) image ≡ ended (m .tick) (takeUp (settingsOf s) ins b m)
+    unfolding resumeReply
+    resume-answer =
+        ready-to-run (badImage image) _ (rw (eq-eqb (length image) 72 whole))
+        ∙ rw (reads, after, le-ltb (settingsOf s .period) (m .tick) early, taken m)
+
+    pub resume-leaves : resumeBuffers (lend s f file ins v o) image ≡ onward (takeUp (settingsOf s) ins b m) m o
+    unfolding resumeBuffers
+    resume-leaves = rw (resume-answer, reads, taken-leaves m)

@@ -1,0 +1,158 @@
+-- A laid file, run, stopped once and taken up, over replies: it ends as the whole run does.
+use Prim.Native.Nat.{ℕ, _+_, _*_, _≤_, _<_}
+use native.Mathlib.Omega.{arith}
+use mathlib.Core.Path.{_≡_, refl, ap, ap₂, sym, _∙_, subst}
+use mathlib.Core.Bool.{Bool, true, false, cond}
+use mathlib.Core.List.{List, [], _∷_, _++_}
+use lib.Dec.{eqb}
+use lib.ListN.{length, replicate}
+use Rattle.model.specs.declared.Form.the-variants.{Laid}
+use Rattle.model.specs.Settings.{settingsOf}
+use Rattle.model.specs.Trees.{Block}
+use Rattle.model.specs.Times.{time}
+use Rattle.model.specs.Runs.{Step, duration, variablesAfter, outputsAfter, level, mark, overran, Buffers, leave, cleared, run}
+use Rattle.model.specs.Stopping.{upto, Image, Saved, none, saved, lastImage, imageBytes, imageOf, start, takeUp}
+use Rattle.model.specs.Answers.{bit}
+use Rattle.model.specs.Replies.{Loan, ended, isSaved, imageOver, stopBuffers, stopImage, afterSave, resumeReply, resumeBuffers, restartReply, restartBuffers}
+use Rattle.model.specs.Placement.{Fits, Placed, StepsPlaced}
+use Rattle.model.specs.Chain.{valueAt, isFinished, Outputs, lend, hasImage, outputsLeft, again, takingUp, takenUpBuffers, imageTick, End, endOf, runEnd, takenUpEnd}
+use Rattle.model.proofs.Images.{image-length, image-back}
+use Rattle.theory.proofs.Within.{run-within}
+use Rattle.theory.proofs.Placing.{placed-loop-free, placed-run}
+use Rattle.theory.proofs.Twice.{savedTick, few-twice}
+use Rattle.theory.proofs.Stops.{beyond, upto-beyond, beyond-late, cut-off}
+use Rattle.theory.proofs.Outputs.{length-outputs}
+use Rattle.theory.proofs.Resuming.{orStart, TakenUp, taken-up}
+use Rattle.theory.proofs.Checkpoints.{checkpoint}
+use Rattle.theory.proofs.Files.{fileOf}
+use Rattle.theory.proofs.Replies.{Runnable, LentLengths, savedAt, onward, stop-answer, stop-leaves, stop-image}
+use Rattle.theory.proofs.Replies.{restart-answer, restart-leaves, resume-answer, resume-leaves}
+
+-- the end that steps from the start lead to
+abbrev pub endFrom : List Step → List ℕ → End
+endFrom es v = record { buffers = leave es (cleared v); overran = bit (overran es) }
+
+-- what the run that is taken up answers and leaves, against the steps es of the whole run
+pub record Ends (c : Loan) (image spare : List ℕ) (stop : ℕ) (es : List Step) (v : List ℕ) (z : Saved) : Type 0 where
+  pub finishes : isFinished (takingUp c image spare stop) ≡ true
+  pub end-tick : valueAt 0 (takingUp c image spare stop) ≡ duration es
+  pub end : takenUpEnd c image spare stop ≡ endFrom es v
+  pub image-tick : imageTick c image stop ≡ savedTick z
+
+bit-back : (x : Bool) → eqb (bit x) 1 ≡ x
+bit-back true = refl
+bit-back false = refl
+
+module _ (s : List ℕ) (b : Block) (r : Runnable s Laid (fileOf b) b) (fits : Fits (settingsOf s)) (placed : Placed (settingsOf s) b 0)
+    (ins v : List ℕ) (o : Outputs) (l : LentLengths ins v o)
+    (image : List ℕ) (image-room : length image ≡ 72) (spare : List ℕ) (spare-room : length spare ≡ 16)
+    (stop : ℕ) (early : stop < duration (run (settingsOf s) ins b 0 v)) where
+  -- the steps of the whole run, the last image at the stop, and the outputs that the stop left
+  abbrev es : List Step
+  es = run (settingsOf s) ins b 0 v
+
+  abbrev z : Saved
+  z = savedAt stop es v
+
+  abbrev left : Outputs
+  left = record { levels = outputsAfter level (upto stop es) (replicate 8 0); marks = outputsAfter mark (upto stop es) (replicate 8 0) }
+
+  abbrev c : Loan
+  c = lend s Laid (fileOf b) ins v o
+
+  left-lent : (w : List ℕ) → length w ≡ 16 → LentLengths ins w left
+  left-lent w h = record {
+    inputs = l .inputs;
+    variables = h;
+    levels = length-outputs level (upto stop es) (replicate 8 0);
+    marks = length-outputs mark (upto stop es) (replicate 8 0);
+  }
+
+  has : hasImage c image stop ≡ isSaved z
+  has = rw (stop-answer s Laid (fileOf b) b r ins v o l image image-room stop early) (bit-back (isSaved z))
+
+  state : stopBuffers c image stop ≡ leave (upto stop es) (cleared v)
+  state = stop-leaves s Laid (fileOf b) b r ins v o l image image-room stop early
+
+  written : stopImage c image stop ≡ imageOver z image
+  written = stop-image s Laid (fileOf b) b r ins v o l image image-room stop early
+
+  -- the calls as what the stop left decides them
+  taking-up : takingUp c image spare stop
+      ≡ cond (isSaved z) (resumeReply (lend s Laid (fileOf b) ins spare left) (imageOver z image)) (restartReply (lend s Laid (fileOf b) ins v left))
+  taking-up = rw (has, state, written)
+
+  taken-up-leaves : takenUpBuffers c image spare stop
+      ≡ cond (isSaved z) (resumeBuffers (lend s Laid (fileOf b) ins spare left) (imageOver z image)) (restartBuffers (lend s Laid (fileOf b) ins v left))
+  taken-up-leaves = rw (has, state, written)
+
+  image-is : imageTick c image stop ≡ cond (isSaved z) (imageOf (imageOver z image) .tick) 0
+  image-is = rw (has, written)
+
+  -- from m on, the run ends as the whole one
+  record From (m : Image) : Type 0 where
+    leaves : onward (takeUp (settingsOf s) ins b m) m left ≡ leave es (cleared v)
+    over : overran (takeUp (settingsOf s) ins b m) ≡ overran es
+    ends : m .tick + duration (takeUp (settingsOf s) ins b m) ≡ duration es
+
+  from : (m : Image) → orStart v z ≡ m → From m
+  from m e =
+      let t = taken-up (settingsOf s) ins b (placed-loop-free (settingsOf s) b 0 placed) v stop in
+      subst From e (record {
+        leaves = rw (t .same-variables, t .same-outputs level (replicate 8 0), t .same-outputs mark (replicate 8 0));
+        over = t .same-overrun;
+        ends = t .same-end;
+      })
+
+  finish : (m : Image) → orStart v z ≡ m → takingUp c image spare stop ≡ ended (m .tick) (takeUp (settingsOf s) ins b m)
+      → takenUpBuffers c image spare stop ≡ onward (takeUp (settingsOf s) ins b m) m left
+      → imageTick c image stop ≡ savedTick z
+      → Ends c image spare stop es v z
+  finish m e a w i =
+      let f = from m e in
+      record {
+        finishes = rw a;
+        end-tick = rw a (f .ends);
+        end = ap₂ endOf a (w ∙ f .leaves) ∙ ap (λ (x : Bool). record { buffers = leave es (cleared v); overran = bit x }) (f .over);
+        image-tick = i;
+      }
+
+  at-end : (y : Saved) → z ≡ y → Ends c image spare stop es v z
+  at-end none e =
+      let q = left-lent v (l .variables) in
+      finish (start v) (ap (orStart v) e)
+      (taking-up ∙ rw e (restart-answer s Laid (fileOf b) b r ins v left q))
+      (taken-up-leaves ∙ rw e (restart-leaves s Laid (fileOf b) b r ins v left q))
+      (image-is ∙ rw e)
+  at-end (saved m) e =
+      let q = left-lent spare spare-room in
+      let k = checkpoint (settingsOf s) ins b (placed-loop-free (settingsOf s) b 0 placed) v stop m e in
+      let sixteen = k .as-many ∙ l .variables in
+      let back = image-back m sixteen in
+      let long = image-length m sixteen in
+      let in-time : m .tick ≤ settingsOf s .period = omega (arith, k .in-time, run-within (settingsOf s) ins b 0 .in-all v, r .in-time) in
+      finish m (ap (orStart v) e)
+      (taking-up ∙ rw e (resume-answer s Laid (fileOf b) b r ins spare left q (imageBytes m) m back long (k .after-save) in-time))
+      (taken-up-leaves ∙ rw e (resume-leaves s Laid (fileOf b) b r ins spare left q (imageBytes m) m back long (k .after-save) in-time))
+      (image-is ∙ rw (e, back))
+
+  pub ends-alike : Ends c image spare stop es v z
+  ends-alike = at-end z refl
+
+  -- fewer than K × H ticks are run twice
+  pub soon : stop < savedTick z + settingsOf s .spacing * settingsOf s .window
+  soon =
+      let n = cut-off stop es early in
+      let parts : es ≡ upto stop es ++ n .next ∷ n .later = upto-beyond stop es ∙ ap (λ (x : List Step). upto stop es ++ x) (n .are) in
+      omega (
+        arith,
+        beyond-late stop es (n .next) (n .later) (n .are),
+        few-twice (settingsOf s) fits (upto stop es) (n .next) (n .later) v (subst (StepsPlaced (settingsOf s) 0) parts (placed-run (settingsOf s) ins b 0 0 placed v)),
+      )
+
+  pub image-early : savedTick z ≤ stop
+  image-early = go z refl
+    where
+      go : (y : Saved) → z ≡ y → savedTick y ≤ stop
+      go none e = omega arith
+      go (saved m) e = checkpoint (settingsOf s) ins b (placed-loop-free (settingsOf s) b 0 placed) v stop m e .in-time
