@@ -1,19 +1,19 @@
 -- What a call that is not refused has shown of what was handed over, and what is enough for a call not to be refused.
-use Prim.Native.Nat.{ℕ, _+_, _*_, _≤_, _<_, max}
+use Prim.Native.Nat.{ℕ, _+_, _*_, _≤_}
 use native.Mathlib.Omega.{arith}
 use mathlib.Core.Path.{_≡_, refl, _∙_}
 use mathlib.Core.Bool.{Bool, true, false, not, _||_}
 use mathlib.Core.List.{List, [], _∷_}
 use lib.Dec.{eqb, ltb}
 use lib.ListN.{length}
-use borrow.Author.Tests.{eqb-false, ltb-false, eq-eqb, le-ltb}
+use borrow.Author.Tests.{eqb-false, ltb-false, le-ltb}
 use Rattle.model.specs.declared.Settings.{Settings}
 use Rattle.model.specs.declared.Form.{Form}
 use Rattle.model.specs.declared.Form.the-variants.{Task, Equalised}
 use Rattle.model.specs.Settings.{settingsOf, outOfRange, badSettings}
-use Rattle.model.specs.Trees.{size, fileTree}
+use Rattle.model.specs.Trees.{size}
 use Rattle.model.specs.Refusals.{Fault, sound, faulty, fault}
-use Rattle.model.specs.Answers.{Verdict, finished, refused}
+use Rattle.model.specs.Answers.{Verdict, finished}
 use Rattle.model.specs.Replies.{turnDown, unless, reading, longest, shortWindow, above, noRoom, fileTime, timeReply}
 use Rattle.model.specs.Replies.{equalisedTree, equaliseReply, laidTree, laidTotal, layOutReply, Loan, badBuffers, ready}
 use Rattle.model.specs.Placement.{Fits}

@@ -20,7 +20,7 @@ use Rattle.theory.proofs.Sequences.{duration-++, either}
 use Rattle.theory.proofs.Stops.{beyond, upto-within}
 use Rattle.theory.proofs.Outputs.{length-variables}
 use Rattle.theory.proofs.Every.{Every, every-at, every-nil, every-single, every-choose}
-use Rattle.theory.proofs.Images.{Made, made, made-within}
+use Rattle.theory.proofs.LastImage.{Made, made, made-within}
 
 pub record Checkpoint (b : Block) (v : List ℕ) (c : ℕ) (m : Image) : Type 0 where
   pub after-save : afterSave (bytes (flatten b)) (m .index) ≡ true

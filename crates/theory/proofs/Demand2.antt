@@ -1,7 +1,7 @@
 -- DEMAND 2, over bytes and replies: each part under the words that it answers. The proofs are in the files that are cited.
 use Prim.Native.Nat.{ℕ, _+_, _*_, _-_, _%_, _≤_, _<_}
 use native.Mathlib.Omega.{arith}
-use mathlib.Core.Path.{_≡_, refl, ap, sym, _∙_, subst}
+use mathlib.Core.Path.{_≡_, refl, ap, sym, _∙_}
 use mathlib.Core.Bool.{true, false}
 use mathlib.Core.List.{List, [], _∷_, _++_, map}
 use lib.ListN.{length, drop}
@@ -11,7 +11,6 @@ use Rattle.model.specs.declared.Form.the-variants.{Task, Equalised, Laid}
 use Rattle.model.specs.Records.{bytes}
 use Rattle.model.specs.Settings.{settingsOf, badSettings}
 use Rattle.model.specs.Trees.{Block, flatten, fileTree}
-use Rattle.model.specs.Times.{time}
 use Rattle.model.specs.Runs.{Step, isBeat, isSave, starts, duration, overran, leave, cleared, run}
 use Rattle.model.specs.Equalising.{F, merge, equalise}
 use Rattle.model.specs.Layout.{ceiling, layout, total}
@@ -29,7 +28,7 @@ use Rattle.theory.proofs.Lasts.{equalised-lasts}
 use Rattle.theory.proofs.Laid.{placed-laid, total-longer, last-start, laid-lasts}
 use Rattle.theory.proofs.LaidRuns.{laid-beats, whole-starts, whole-values, whole-saves, cut-saves, save-follows, no-crossing}
 use Rattle.theory.proofs.Stops.{beyond, upto-beyond, upto-only, upto-all, upto-ended}
-use Rattle.theory.proofs.Accepted.{EqualiseAccepted, equalise-accepted, LayOutAccepted, lay-out-accepted, times, readied}
+use Rattle.theory.proofs.Accepted.{equalise-accepted, lay-out-accepted, times, readied}
 use Rattle.theory.proofs.Files.{steps-of, equalised-sound, equalised-time, equalised-written, laid-sound, laid-time, laid-written}
 
 -- A RUN

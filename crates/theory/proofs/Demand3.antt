@@ -1,5 +1,5 @@
 -- DEMAND 3, as one statement over the chain of replies: each part under the words that it answers. The proofs are in the files that are cited.
-use Prim.Native.Nat.{ℕ, _+_, _*_, _-_, _<_}
+use Prim.Native.Nat.{_+_, _*_, _-_, _<_}
 use mathlib.Core.Path.{_≡_, sym, _∙_}
 use mathlib.Core.Logic.{_↔_}
 use mathlib.Core.Bool.{true}

@@ -1,36 +1,40 @@
 -- The ends of the runs of a chain that equalising and laying out did not refuse.
 use Prim.Native.Nat.{ℕ, _+_, _*_, _-_, _≤_, _<_}
 use native.Mathlib.Omega.{arith}
-use native.Mathlib.Nat.{zero-add}
-use mathlib.Core.Path.{_≡_, refl, ap, ap₂, sym, _∙_, subst}
-use mathlib.Core.Bool.{Bool, true}
+use mathlib.Core.Path.{_≡_, ap, ap₂, sym, _∙_, subst}
+use mathlib.Core.Bool.{true}
 use mathlib.Core.List.{List}
 use lib.ListN.{replicate}
 use Rattle.model.specs.declared.Form.{Form}
 use Rattle.model.specs.declared.Form.the-variants.{Task, Laid}
 use Rattle.model.specs.Settings.{settingsOf}
 use Rattle.model.specs.Trees.{Block, fileTree}
-use Rattle.model.specs.Runs.{Step, duration, level, mark, overran, leave, cleared, run}
+use Rattle.model.specs.Runs.{Step, duration, level, mark, run}
 use Rattle.model.specs.Equalising.{equalise}
 use Rattle.model.specs.Layout.{layout}
 use Rattle.model.specs.Stopping.{upto, none}
-use Rattle.model.specs.Answers.{bit}
 use Rattle.model.specs.Replies.{Loan, stepsOf, runReply, stopReply, ended}
 use Rattle.model.specs.Timeline.{endedBy, lastSaveEnd}
 use Rattle.model.specs.Chain.{isFinished, valueAt, Set, Outputs, Chain, LentSet, LentOutputs, Lent, equalising, layingOut, laidFile, lend, plainLoan, preparedLoan}
 use Rattle.model.specs.Chain.{takingUp, imageTick, runTwice, End, endOf, runEnd, plainEndTwo, wholeEnd, stoppedEnd}
-use Rattle.theory.proofs.Traces.{trace, same-variables, same-outputs, same-overran}
-use Rattle.theory.proofs.Twice.{savedTick, saved-tick}
+use Rattle.theory.proofs.Views.{see, same-variables, same-outputs, same-overran}
+use Rattle.theory.proofs.Traces.{traced}
+use Rattle.theory.proofs.Twice.{saved-tick}
 use Rattle.theory.proofs.Stops.{upto-ended}
 use Rattle.theory.proofs.Files.{fileOf, steps-of}
-use Rattle.theory.proofs.Replies.{Runnable, LentLengths, savedAt, run-answer, run-leaves, stop-answer}
+use Rattle.theory.proofs.Running.{Runnable, LentLengths, savedAt, run-answer, run-leaves, stop-answer}
 use Rattle.theory.proofs.StoppedOnce.{endFrom, Ends, ends-alike, soon, image-early}
 use Rattle.theory.proofs.Prepared.{Prepared, prepared}
 
 -- equal traces lead to equal ends
-same-end : (es fs : List Step) (v : List ℕ) → trace es ≡ trace fs → endFrom es v ≡ endFrom fs v
+same-end : (es fs : List Step) (v : List ℕ) → see traced es ≡ see traced fs → endFrom es v ≡ endFrom fs v
 same-end es fs v e =
-    rw (same-variables es fs v e, same-outputs level es fs (replicate 8 0) e, same-outputs mark es fs (replicate 8 0) e, same-overran es fs e)
+    rw (
+      same-variables traced es fs e v,
+      same-outputs traced es fs e level (replicate 8 0),
+      same-outputs traced es fs e mark (replicate 8 0),
+      same-overran traced es fs e,
+    )
 
 lengths : (x : Set) (o : Outputs) → LentSet x → LentOutputs o → LentLengths (x .inputs) (x .variables) o
 lengths x o p q = record { inputs = p .eight; variables = p .sixteen; levels = q .levels-eight; marks = q .marks-eight }

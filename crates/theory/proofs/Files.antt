@@ -1,22 +1,19 @@
 -- What equalising and laying out wrote is read back: the tree that the rules give, of its form, with the time that was stated.
-use Prim.Native.Nat.{ℕ, _*_, _≤_}
+use Prim.Native.Nat.{ℕ, _*_}
 use native.Mathlib.Omega.{arith}
-use mathlib.Core.Path.{_≡_, refl, ap, sym, _∙_}
-use mathlib.Core.List.{List, _++_}
+use mathlib.Core.Path.{_≡_, ap, sym, _∙_}
+use mathlib.Core.List.{List}
 use lib.ListN.{length, getD, take, drop}
 use lib.Seq.{take-append-seam}
 use Rattle.model.specs.declared.Form.{Form}
 use Rattle.model.specs.declared.Form.the-variants.{Task, Equalised, Laid}
 use Rattle.model.specs.Records.{bytes}
 use Rattle.model.specs.Settings.{settingsOf}
-use Rattle.model.specs.Trees.{Block, size, depth, flatten, fileTree}
-use Rattle.model.specs.Times.{time}
+use Rattle.model.specs.Trees.{Block, size, flatten, fileTree}
 use Rattle.model.specs.Runs.{run}
-use Rattle.model.specs.Equalising.{equalise}
-use Rattle.model.specs.Layout.{layout, total}
 use Rattle.model.specs.Refusals.{sound, fault}
 use Rattle.model.specs.Answers.{finished}
-use Rattle.model.specs.Replies.{over, kept, fileTime, equalisedTree, equaliseReply, equaliseOut, laidTree, laidTotal, layOutReply, layOutOut, stepsOf}
+use Rattle.model.specs.Replies.{over, fileTime, equalisedTree, equaliseReply, equaliseOut, laidTree, laidTotal, layOutReply, layOutOut, stepsOf}
 use Rattle.model.specs.Chain.{valueAt, Outputs, lend}
 use Rattle.model.proofs.Sound.{OfForm, Sound, sound-file}
 use Rattle.model.proofs.Passes.{passes, tree-back, length-file}

@@ -1,5 +1,5 @@
 -- What laying out makes of an equalised file: its time, its records, its depth, what its runs leave, and that its records are in place.
-use Prim.Native.Nat.{ℕ, zero, suc, _+_, _*_, _-_, _/_, _%_, _≤_, _<_}
+use Prim.Native.Nat.{ℕ, zero, suc, _+_, _-_, _%_, _≤_}
 use native.Mathlib.Omega.{arith}
 use native.Mathlib.Nat.{div-eq-of-lt, div-le-of-le-mul, mul-le-mul-right}
 use mathlib.Core.Path.{_≡_, refl, ap, _∙_}
@@ -8,10 +8,9 @@ use mathlib.Core.List.{List}
 use borrow.Author.Tests.{le-leb}
 use Rattle.model.specs.declared.Settings.{Settings}
 use Rattle.model.specs.declared.Form.the-variants.{Equalised, Laid}
-use Rattle.model.specs.Trees.{beat, save, Block, nil, act, _⧺_, depth, actRec}
+use Rattle.model.specs.Trees.{beat, Block, nil, act, depth, actRec}
 use Rattle.model.specs.Times.{time}
 use Rattle.model.specs.Runs.{overran, duration, effect, run}
-use Rattle.model.specs.Equalising.{merge}
 use Rattle.model.specs.Layout.{unroll, body, ceiling, lastValue, closed, layout, total}
 use Rattle.model.specs.Refusals.{fieldsFit}
 use Rattle.model.specs.Placement.{Fits, Placed}
@@ -19,7 +18,8 @@ use Rattle.model.proofs.Shapes.{Fit}
 use Rattle.model.proofs.Sound.{OfForm}
 use Rattle.theory.proofs.Times.{time-⧺, time-merge, time-unroll}
 use Rattle.theory.proofs.Sequences.{run-⧺}
-use Rattle.theory.proofs.Traces.{_≈_, ≈-trans, ≈-eq, silent-behind}
+use Rattle.theory.proofs.Views.{Alike, alike-trans, alike-eq}
+use Rattle.theory.proofs.Traces.{traced, silent-behind}
 use Rattle.theory.proofs.Agreement.{run-merge, run-unroll}
 use Rattle.theory.proofs.Forms.{Formed, formed, formed-⧺, merged-of-form, depth-⧺, depth-merge}
 use Rattle.theory.proofs.Unrolling.{unrolled-loop-free, unrolled-command-free, unrolled-formed, depth-unroll}
@@ -83,15 +83,15 @@ module _ (σ : Settings) (b : Block) where
           depth-unroll b,
         )
 
-    pub run-laid : (ins : List ℕ) (i j : ℕ) → run σ ins (layout σ b) i ≈ run σ ins b j
+    pub run-laid : (ins : List ℕ) (i j : ℕ) → Alike traced (run σ ins (layout σ b) i) (run σ ins b j)
     unfolding layout effect
     run-laid ins i j =
         let u = unroll b in
         let x = act (beat (lastValue σ (time σ (body σ u)))) nil in
-        ≈-trans (run-merge σ ins (closed σ u) 0 i i)
-        (≈-trans (≈-eq (run-⧺ σ ins (body σ u) x i))
-        (≈-trans (silent-behind {f = run σ ins (body σ u) i} {g = run σ ins x _} (record { none = λ v. refl }))
-        (≈-trans (run-woven σ ins woven i i)
+        alike-trans (run-merge σ ins (closed σ u) 0 i i)
+        (alike-trans (alike-eq (run-⧺ σ ins (body σ u) x i))
+        (alike-trans (silent-behind {f = run σ ins (body σ u) i} {g = run σ ins x _} (record { none = λ v. refl }))
+        (alike-trans (run-woven σ ins woven i i)
         (run-unroll σ ins b i j))))
 
     -- the file's time above P puts the total above P too

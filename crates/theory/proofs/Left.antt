@@ -14,14 +14,15 @@ use Rattle.model.specs.Runs.{onVariables, effect, Run, _⊳_, run}
 use Rattle.model.specs.Stopping.{rest}
 use Rattle.model.specs.Placement.{LoopFree}
 use Rattle.theory.proofs.Sequences.{⊳-assoc, ⊳-nil, run-⧺}
-use Rattle.theory.proofs.Blind.{blind, _∼_, ∼-refl, ∼-trans, ∼-eq, ∼-⊳, ∼-move}
+use Rattle.theory.proofs.Views.{see, Alike, alike-refl, alike-trans, alike-eq, alike-⊳, alike-move}
+use Rattle.theory.proofs.Unindexed.{unindexed}
 use Rattle.theory.proofs.Every.{Every, every-nil, every-single, every-choose}
 
 -- an overrun is the last step, of one tick; after a SAVE, R at the next record does what is left
 pub record Goes (R : ℕ → Run) (e : Step) (v : List ℕ) (es : List Step) : Type 0 where
   pub ends : isOverrun (e .does) ≡ true → es ≡ []
   pub one : isOverrun (e .does) ≡ true → e .lasts ≡ 1
-  pub resumes : isSave (e .does) ≡ true → blind (R (e .index + 1) (onVariables (e .does) v)) ≡ blind es
+  pub resumes : isSave (e .does) ≡ true → see unindexed (R (e .index + 1) (onVariables (e .does) v)) ≡ see unindexed es
 
 idle : (R : ℕ → Run) (d i : ℕ) (v : List ℕ) (es : List Step) → Goes R (step d i nothing) v es
 idle R d i v es = record { ends = λ x. absurd (false≢true x); one = λ x. absurd (false≢true x); resumes = λ x. absurd (false≢true x) }
@@ -56,16 +57,16 @@ rest-0 (times q n a b) = refl
 module _ (σ : Settings) (ins : List ℕ) (R : ℕ → Run) where
   -- b stands at record i, and then comes g: R at each of its records does what is left of b, and then g
   record Leads (i : ℕ) (b : Block) (g : Run) : Type 0 where
-    at : (j : ℕ) → j ≤ size b → R (i + j) ∼ (run σ ins (rest b j) (i + j) ⊳ g)
+    at : (j : ℕ) → j ≤ size b → Alike unindexed (R (i + j)) (run σ ins (rest b j) (i + j) ⊳ g)
 
   -- a part and the block after it, and then g: the part, and then the block and g
-  apart : (r : Run) (a b : Block) (i k : ℕ) (g : Run) → r ∼ (run σ ins (a ⧺ b) i ⊳ g) → r ∼ (run σ ins a i ⊳ (run σ ins b k ⊳ g))
+  apart : (r : Run) (a b : Block) (i k : ℕ) (g : Run) → Alike unindexed r (run σ ins (a ⧺ b) i ⊳ g) → Alike unindexed r (run σ ins a i ⊳ (run σ ins b k ⊳ g))
   apart r a b i k g e =
       let f = run σ ins a i in
-      let both : run σ ins (a ⧺ b) i ∼ (f ⊳ run σ ins b k) = ∼-trans (∼-eq (run-⧺ σ ins a b i)) (∼-⊳ {f = f} {f′ = f} ∼-refl (∼-move σ ins b (i + size a) k)) in
-      ∼-trans e (∼-trans (∼-⊳ {g = g} {g′ = g} both ∼-refl) (∼-eq (⊳-assoc f (run σ ins b k) g)))
+      let both : Alike unindexed (run σ ins (a ⧺ b) i) (f ⊳ run σ ins b k) = alike-trans (alike-eq (run-⧺ σ ins a b i)) (alike-⊳ {f = f} {f′ = f} alike-refl (alike-move σ ins b (i + size a) k)) in
+      alike-trans e (alike-trans (alike-⊳ {g = g} {g′ = g} both alike-refl) (alike-eq (⊳-assoc f (run σ ins b k) g)))
 
-  leads-here : (i : ℕ) (b : Block) (g : Run) → Leads i b g → R i ∼ (run σ ins b i ⊳ g)
+  leads-here : (i : ℕ) (b : Block) (g : Run) → Leads i b g → Alike unindexed (R i) (run σ ins b i ⊳ g)
   leads-here i b g c = rw (rest-0 b, add-zero i) at (c .at 0 (omega arith))
 
   -- behind a record that is no IF
@@ -108,7 +109,7 @@ module _ (σ : Settings) (ins : List ℕ) (R : ℕ → Run) where
       let next = leads-tail i (act p b) b g refl (λ j. refl) c in
       let w = effect ins p v in
       every-single (Goes R) (ticks σ p) i (effect ins p) (run σ ins b (i + 1)) g v
-      (record { ends = λ x. rw x; one = overrun-one σ ins p v; resumes = λ x. rw (save-calm w x) (leads-here (i + 1) b g next .same-steps (onVariables w v)) })
+      (record { ends = λ x. rw x; one = overrun-one σ ins p v; resumes = λ x. rw (save-calm w x) (leads-here (i + 1) b g next .at (onVariables w v)) })
       (goes-⊳ b (i + 1) g u next h (onVariables w v))
   goes-⊳ (branch q a d b) i g u c h v =
       let k = i + 3 + size a + size d in
@@ -127,4 +128,4 @@ module _ (σ : Settings) (ins : List ℕ) (b : Block) (u : LoopFree b) (i : ℕ)
       R j = run σ ins (rest b (j - i)) j
 
       leads : Leads σ ins R i b (λ w. [])
-      leads = record { at = λ j l. let e : i + j - i ≡ j = omega arith in rw e (∼-eq (λ w. sym (⊳-nil (run σ ins (rest b j) (i + j)) w))) }
+      leads = record { at = λ j l. let e : i + j - i ≡ j = omega arith in rw e (alike-eq (λ w. sym (⊳-nil (run σ ins (rest b j) (i + j)) w))) }

@@ -1,35 +1,42 @@
--- The theorems on the definitions.
+-- The theorems on the definitions. Start with Demand2 and Demand3; the others stand in the order in which they build on each other.
+pub mod Demand2
+pub mod Demand3
+pub mod Bench
+-- times and runs
 pub mod Times
 pub mod Sequences
-pub mod Traces
-pub mod Agreement
 pub mod Within
 pub mod Lasts
+pub mod Views
+pub mod Traces
+pub mod Agreement
+-- what is written
 pub mod Forms
 pub mod Unrolling
 pub mod Weaving
+-- ticks and windows
 pub mod Clock
 pub mod Windows
 pub mod Placing
 pub mod Starts
-pub mod Twice
-pub mod Laid
-pub mod Values
+-- steps, images and taking up
+pub mod Every
 pub mod Stops
 pub mod Outputs
-pub mod Blind
-pub mod Every
+pub mod LastImage
+pub mod Unindexed
 pub mod Left
-pub mod Images
 pub mod Resuming
 pub mod Checkpoints
+pub mod Twice
+-- laid files
+pub mod Laid
+pub mod Values
 pub mod LaidRuns
+-- replies
 pub mod Accepted
 pub mod Files
-pub mod Replies
+pub mod Running
 pub mod StoppedOnce
 pub mod Prepared
 pub mod Ends
-pub mod Demand2
-pub mod Demand3
-pub mod Bench

@@ -1,28 +1,28 @@
 -- The files of a chain that equalising and laying out did not refuse: each run on them is not refused, and leaves what the task's run leaves.
-use Prim.Native.Nat.{ℕ, _*_, _≤_}
+use Prim.Native.Nat.{ℕ}
 use native.Mathlib.Omega.{arith}
-use mathlib.Core.Path.{_≡_, refl, ap, ap₂, sym, _∙_, subst}
+use mathlib.Core.Path.{_≡_, refl, ap, sym, _∙_, subst}
 use mathlib.Core.Bool.{true}
-use mathlib.Core.List.{List, [], _∷_}
+use mathlib.Core.List.{List}
 use lib.ListN.{length, take}
-use Rattle.model.specs.declared.Settings.{Settings}
-use Rattle.model.specs.declared.Form.the-variants.{Task, Equalised, Laid}
+use Rattle.model.specs.declared.Form.the-variants.{Task, Laid}
 use Rattle.model.specs.Settings.{settingsOf}
-use Rattle.model.specs.Trees.{Block, size, fileTree}
+use Rattle.model.specs.Trees.{Block, fileTree}
 use Rattle.model.specs.Runs.{run}
 use Rattle.model.specs.Equalising.{equalise}
 use Rattle.model.specs.Layout.{layout, total}
 use Rattle.model.specs.Answers.{Verdict, finished, refused}
 use Rattle.model.specs.Replies.{equalisedTree, laidTree, layOutReply, layOutOut}
 use Rattle.model.specs.Placement.{Fits, Placed}
-use Rattle.model.specs.Chain.{isFinished, valueAt, Chain, equalising, equalisedFile, layingOut, laidFile}
+use Rattle.model.specs.Chain.{isFinished, valueAt, Chain, equalising, layingOut, laidFile}
 use Rattle.model.proofs.Passes.{tree-back}
-use Rattle.theory.proofs.Traces.{_≈_, ≈-trans}
+use Rattle.theory.proofs.Views.{Alike, alike-trans}
+use Rattle.theory.proofs.Traces.{traced}
 use Rattle.theory.proofs.Agreement.{run-equalise}
 use Rattle.theory.proofs.Laid.{time-laid, placed-laid, run-laid}
 use Rattle.theory.proofs.Accepted.{EqualiseAccepted, equalise-accepted, lay-out-accepted}
 use Rattle.theory.proofs.Files.{fileOf, equalised-form, equalised-file, laid-sound, laid-file}
-use Rattle.theory.proofs.Replies.{Runnable}
+use Rattle.theory.proofs.Running.{Runnable}
 
 -- an answer that is no refusal
 finish : (r : Verdict) → isFinished r ≡ true → (xs : List ℕ) × (r ≡ finished xs)
@@ -36,7 +36,7 @@ pub record Prepared (s task file : List ℕ) (t b : Block) : Type 0 where
   pub is : file ≡ fileOf b
   pub fits : Fits (settingsOf s)
   pub placed : Placed (settingsOf s) b 0
-  pub agrees : (ins : List ℕ) (i j : ℕ) → run (settingsOf s) ins b i ≈ run (settingsOf s) ins t j
+  pub agrees : (ins : List ℕ) (i j : ℕ) → Alike traced (run (settingsOf s) ins b i) (run (settingsOf s) ins t j)
 
 -- of a task that was equalised, laid out from the file that holds it
 laid-from : (s task : List ℕ) (room : ℕ) (xs : List ℕ) → EqualiseAccepted s task room xs
@@ -63,7 +63,7 @@ laid-from s task room xs a out ys q =
       is = laid-file s (fileOf e) out ys q ∙ ap fileOf same;
       fits = l .fits-window;
       placed = placed-laid σ e form (l .fits-window);
-      agrees = λ ins i j. ≈-trans (run-laid σ e form ins i i) (run-equalise σ ins t i j);
+      agrees = λ ins i j. alike-trans (run-laid σ e form ins i i) (run-equalise σ ins t i j);
     }
 
 pub prepared : (k : Chain) → isFinished (equalising k) ≡ true → isFinished (layingOut k) ≡ true

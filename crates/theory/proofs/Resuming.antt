@@ -1,5 +1,5 @@
 -- A run that is stopped and taken up from its last image ends as the whole run.
-use Prim.Native.Nat.{ℕ, _+_, _-_, _<_}
+use Prim.Native.Nat.{ℕ, _+_, _-_}
 use native.Mathlib.Omega.{arith}
 use mathlib.Core.Path.{_≡_, refl, ap, ap₂, sym, _∙_, subst}
 use mathlib.Core.Bool.{Bool, true, false, _||_, false≢true}
@@ -12,10 +12,11 @@ use Rattle.model.specs.Placement.{LoopFree}
 use Rattle.theory.proofs.Sequences.{duration-++, variables-++, outputs-++, overran-++}
 use Rattle.theory.proofs.Stops.{beyond, upto-beyond}
 use Rattle.theory.proofs.Outputs.{outputs-again}
-use Rattle.theory.proofs.Blind.{blind, blind-duration, blind-variables, blind-outputs, blind-overran}
+use Rattle.theory.proofs.Views.{see, same-variables, same-outputs, same-overran}
+use Rattle.theory.proofs.Unindexed.{unindexed, same-duration}
 use Rattle.theory.proofs.Every.{Every, every-at}
 use Rattle.theory.proofs.Left.{Goes, save-calm, rest-0, goes-run}
-use Rattle.theory.proofs.Images.{made, made-within}
+use Rattle.theory.proofs.LastImage.{made, made-within}
 
 -- AN OVERRUN IS THE LAST STEP
 
@@ -67,7 +68,7 @@ record Since (v : List ℕ) (done left again : List Step) (m : Image) : Type 0 w
   variables-are : m .variables ≡ variablesAfter front v
   tick-is : m .tick ≡ duration front
   calm : overran front ≡ false
-  follows : blind again ≡ blind (twice ++ left)
+  follows : see unindexed again ≡ see unindexed (twice ++ left)
 
 module _ (σ : Settings) (ins : List ℕ) (b : Block) (v : List ℕ) (c : ℕ) where
   abbrev pub whole : List Step
@@ -95,7 +96,7 @@ module _ (σ : Settings) (ins : List ℕ) (b : Block) (v : List ℕ) (c : ℕ) w
     variables-are = refl;
     tick-is = refl;
     calm = refl;
-    follows = rw (rest-0 b) (ap blind (upto-beyond c whole));
+    follows = rw (rest-0 b) (ap (see unindexed) (upto-beyond c whole));
   }
   since u (saved m) e =
       let R : ℕ → Run = λ j. run σ ins (rest b (j - 0)) j in
@@ -111,7 +112,7 @@ module _ (σ : Settings) (ins : List ℕ) (b : Block) (v : List ℕ) (c : ℕ) w
         tick-is = omega (arith, n .tick-is, duration-++ (n .front) (n .save ∷ []));
         calm = overran-++ (n .front) (n .save ∷ []) ∙ rw (calm-before R (n .front) (n .save) after v g, save-calm (n .save .does) (n .saves));
         follows =
-            ap₂ (λ (j : ℕ) (w : List ℕ). blind (run σ ins (rest b j) j w)) (n .index-is) (n .variables-are)
+            ap₂ (λ (j : ℕ) (w : List ℕ). see unindexed (run σ ins (rest b j) j w)) (n .index-is) (n .variables-are)
             ∙ (rw z at (every-at (Goes R) (n .front) (n .save) after v g .resumes (n .saves)));
       }
 
@@ -123,16 +124,16 @@ module _ (σ : Settings) (ins : List ℕ) (b : Block) (v : List ℕ) (c : ℕ) w
       let parts : whole ≡ s .front ++ onward = upto-beyond c whole ∙ ap (λ (es : List Step). es ++ left) (s .parts) ∙ append-assoc (s .front) (s .twice) left in
       record {
         same-variables =
-            blind-variables (image .variables) again onward (s .follows) ∙ ap (variablesAfter onward) (s .variables-are)
+            same-variables unindexed again onward (s .follows) (image .variables) ∙ ap (variablesAfter onward) (s .variables-are)
             ∙ sym (variables-++ (s .front) onward v) ∙ ap (λ (es : List Step). variablesAfter es v) (sym parts);
-        same-overrun = blind-overran again onward (s .follows) ∙ sym (ap overran parts ∙ overran-++ (s .front) onward ∙ rw (s .calm));
+        same-overrun = same-overran unindexed again onward (s .follows) ∙ sym (ap overran parts ∙ overran-++ (s .front) onward ∙ rw (s .calm));
         same-outputs = λ f l.
             let now = outputsAfter f done l in
             let q : now ≡ outputsAfter f (s .twice) (outputsAfter f (s .front) l) = ap (λ (es : List Step). outputsAfter f es l) (s .parts) ∙ outputs-++ f (s .front) (s .twice) l in
-            blind-outputs f now again onward (s .follows) ∙ outputs-++ f (s .twice) left now
+            same-outputs unindexed again onward (s .follows) f now ∙ outputs-++ f (s .twice) left now
             ∙ ap (outputsAfter f left) (ap (outputsAfter f (s .twice)) q ∙ outputs-again f (s .twice) (outputsAfter f (s .front) l) ∙ sym q)
             ∙ sym (outputs-++ f done left l) ∙ ap (λ (es : List Step). outputsAfter f es l) (sym (upto-beyond c whole));
-        same-end = omega (arith, s .tick-is, blind-duration again onward (s .follows), ap duration parts, duration-++ (s .front) onward);
+        same-end = omega (arith, s .tick-is, same-duration again onward (s .follows), ap duration parts, duration-++ (s .front) onward);
       }
 
 pub taken-up : (σ : Settings) (ins : List ℕ) (b : Block) → LoopFree b → (v : List ℕ) (c : ℕ) → TakenUp σ ins b v c

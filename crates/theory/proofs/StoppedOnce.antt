@@ -1,32 +1,31 @@
 -- A laid file, run, stopped once and taken up, over replies: it ends as the whole run does.
 use Prim.Native.Nat.{ℕ, _+_, _*_, _≤_, _<_}
 use native.Mathlib.Omega.{arith}
-use mathlib.Core.Path.{_≡_, refl, ap, ap₂, sym, _∙_, subst}
+use mathlib.Core.Path.{_≡_, refl, ap, ap₂, _∙_, subst}
 use mathlib.Core.Bool.{Bool, true, false, cond}
-use mathlib.Core.List.{List, [], _∷_, _++_}
+use mathlib.Core.List.{List, _∷_, _++_}
 use lib.Dec.{eqb}
 use lib.ListN.{length, replicate}
 use Rattle.model.specs.declared.Form.the-variants.{Laid}
 use Rattle.model.specs.Settings.{settingsOf}
 use Rattle.model.specs.Trees.{Block}
-use Rattle.model.specs.Times.{time}
-use Rattle.model.specs.Runs.{Step, duration, variablesAfter, outputsAfter, level, mark, overran, Buffers, leave, cleared, run}
-use Rattle.model.specs.Stopping.{upto, Image, Saved, none, saved, lastImage, imageBytes, imageOf, start, takeUp}
+use Rattle.model.specs.Runs.{Step, duration, outputsAfter, level, mark, overran, leave, cleared, run}
+use Rattle.model.specs.Stopping.{upto, Image, Saved, none, saved, imageBytes, imageOf, start, takeUp}
 use Rattle.model.specs.Answers.{bit}
-use Rattle.model.specs.Replies.{Loan, ended, isSaved, imageOver, stopBuffers, stopImage, afterSave, resumeReply, resumeBuffers, restartReply, restartBuffers}
+use Rattle.model.specs.Replies.{Loan, ended, isSaved, imageOver, stopBuffers, stopImage, resumeReply, resumeBuffers, restartReply, restartBuffers}
 use Rattle.model.specs.Placement.{Fits, Placed, StepsPlaced}
-use Rattle.model.specs.Chain.{valueAt, isFinished, Outputs, lend, hasImage, outputsLeft, again, takingUp, takenUpBuffers, imageTick, End, endOf, runEnd, takenUpEnd}
+use Rattle.model.specs.Chain.{valueAt, isFinished, Outputs, lend, hasImage, takingUp, takenUpBuffers, imageTick, End, endOf, takenUpEnd}
 use Rattle.model.proofs.Images.{image-length, image-back}
 use Rattle.theory.proofs.Within.{run-within}
 use Rattle.theory.proofs.Placing.{placed-loop-free, placed-run}
 use Rattle.theory.proofs.Twice.{savedTick, few-twice}
-use Rattle.theory.proofs.Stops.{beyond, upto-beyond, beyond-late, cut-off}
+use Rattle.theory.proofs.Stops.{upto-beyond, beyond-late, cut-off}
 use Rattle.theory.proofs.Outputs.{length-outputs}
-use Rattle.theory.proofs.Resuming.{orStart, TakenUp, taken-up}
+use Rattle.theory.proofs.Resuming.{orStart, taken-up}
 use Rattle.theory.proofs.Checkpoints.{checkpoint}
 use Rattle.theory.proofs.Files.{fileOf}
-use Rattle.theory.proofs.Replies.{Runnable, LentLengths, savedAt, onward, stop-answer, stop-leaves, stop-image}
-use Rattle.theory.proofs.Replies.{restart-answer, restart-leaves, resume-answer, resume-leaves}
+use Rattle.theory.proofs.Running.{Runnable, LentLengths, savedAt, onward, stop-answer, stop-leaves, stop-image}
+use Rattle.theory.proofs.Running.{restart-answer, restart-leaves, resume-answer, resume-leaves}
 
 -- the end that steps from the start lead to
 abbrev pub endFrom : List Step → List ℕ → End

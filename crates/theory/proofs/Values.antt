@@ -1,17 +1,16 @@
 -- The BEATs of a whole run of a laid file, as a list of start and value: 1 each, and the last one the value that its start gives.
 use Prim.Native.Nat.{ℕ, zero, suc, _+_}
 use native.Mathlib.Omega.{arith}
-use native.Mathlib.Nat.{add-zero, add-assoc}
-use mathlib.Core.Path.{_≡_, refl, ap, ap₂, sym, _∙_, subst}
+use mathlib.Core.Path.{_≡_, refl, ap, sym, _∙_, subst}
 use mathlib.Core.Bool.{Bool, true, false, cond, true≢false}
-use mathlib.Core.List.{List, [], _∷_, _++_, append-assoc, append-nil, map}
+use mathlib.Core.List.{List, [], _∷_, _++_, append-nil, map}
 use Rattle.model.specs.declared.Settings.{Settings}
 use Rattle.model.specs.Trees.{Act, set, read, write, check, beat, save, Block, nil, skip, act, branch, while, times, _⧺_, size}
 use Rattle.model.specs.Times.{ticks, time}
 use Rattle.model.specs.Runs.{Effect, nothing, assigns, outputs, beats, saves, overruns, Step, step, isBeat, starts}
 use Rattle.model.specs.Runs.{onVariables, overran, holds, effect, Run, _⊳_, run}
 use Rattle.model.specs.Equalising.{waiting, merge}
-use Rattle.model.specs.Layout.{unroll, body, lastValue, closed, layout}
+use Rattle.model.specs.Layout.{body, lastValue, closed}
 use Rattle.model.specs.Placement.{Each, command, CommandFree, LoopFree}
 use Rattle.model.specs.Timeline.{beatAt, beatList}
 use Rattle.theory.proofs.Sequences.{run-⧺}

@@ -1,7 +1,6 @@
 -- Laying out weaves SKIPs, BEATs of value 1 and SAVEs into a block, and leaves the rest of it as it was.
 use Prim.Native.Nat.{ℕ, zero, suc, _+_, _%_, _*_, _-_, max}
-use native.Mathlib.Omega.{arith}
-use mathlib.Core.Path.{_≡_, refl, sym, subst}
+use mathlib.Core.Path.{_≡_, refl, subst}
 use mathlib.Core.List.{List}
 use lib.Dec.{eqb, ltb}
 use Rattle.model.specs.declared.Settings.{Settings}
@@ -12,7 +11,8 @@ use Rattle.model.specs.Layout.{commands, left, before, idle, idles, fill, fille
 use Rattle.model.specs.Placement.{Each, LoopFree}
 use Rattle.model.proofs.Trees.{⧺-nil}
 use Rattle.theory.proofs.Sequences.{either}
-use Rattle.theory.proofs.Traces.{_≈_, ≈-refl, ≈-⊳, ≈-single, ≈-choose}
+use Rattle.theory.proofs.Views.{Alike, alike-refl, alike-⊳, alike-single, alike-choose}
+use Rattle.theory.proofs.Traces.{traced}
 
 -- b, and b with more woven into it
 pub data Woven : Block → Block → Type 0 where
@@ -108,14 +108,14 @@ woven-each P x y (acts r p) e = (e .0, woven-each P x y p (e .1))
 woven-each P x y (branches q a d p) e = (woven-each P x y a (e .0), woven-each P x y d (e .1), woven-each P x y p (e .2))
 
 module _ (σ : Settings) (ins : List ℕ) where
-  pub run-woven : {b c : Block} → Woven b c → (i j : ℕ) → run σ ins c i ≈ run σ ins b j
+  pub run-woven : {b c : Block} → Woven b c → (i j : ℕ) → Alike traced (run σ ins c i) (run σ ins b j)
   unfolding effect
-  run-woven done i j = ≈-refl
+  run-woven done i j = alike-refl
   run-woven (waits n p) i j = record { at = λ v. run-woven p (i + 1) j .at v }
   run-woven (beats p) i j = record { at = λ v. run-woven p (i + 1) j .at v }
   run-woven (saves p) i j = record { at = λ v. run-woven p (i + 1) j .at v }
   run-woven (skips n p) i j = record { at = λ v. run-woven p i (j + 1) .at v }
-  run-woven (acts r p) i j = ≈-⊳ (≈-single (ticks σ r) (ticks σ r) i j (effect ins r)) (run-woven p (i + 1) (j + 1))
+  run-woven (acts r p) i j = alike-⊳ (alike-single (ticks σ r) i j (effect ins r)) (run-woven p (i + 1) (j + 1))
   run-woven (branches q {a} {a′} {d} {d′} x y p) i j =
-      ≈-⊳ (≈-choose q i j (run-woven x (i + 1) (j + 1)) (run-woven y (i + 2 + size a′) (j + 2 + size a)))
+      alike-⊳ (alike-choose q i j (run-woven x (i + 1) (j + 1)) (run-woven y (i + 2 + size a′) (j + 2 + size a)))
       (run-woven p (i + 3 + size a′ + size d′) (j + 3 + size a + size d))

@@ -1,22 +1,20 @@
 -- What the calls that run a file answer and leave, once nothing refuses: whole, stopped, and taken up.
-use Prim.Native.Nat.{ℕ, _+_, _*_, _≤_, _<_}
-use native.Mathlib.Omega.{arith}
-use mathlib.Core.Path.{_≡_, refl, ap, ap₂, sym, _∙_, subst}
-use mathlib.Core.Bool.{Bool, true, false, cond, not, _||_}
+use Prim.Native.Nat.{ℕ, _≤_, _<_}
+use mathlib.Core.Path.{_≡_, refl, ap, _∙_}
+use mathlib.Core.Bool.{Bool, true, false}
 use mathlib.Core.List.{List, [], _∷_}
-use lib.Dec.{eqb, leb}
-use lib.ListN.{length, replicate}
+use lib.ListN.{length}
 use borrow.Author.Tests.{eq-eqb, lt-leb, le-ltb}
 use Rattle.model.specs.declared.Form.{Form}
 use Rattle.model.specs.Settings.{settingsOf, badSettings}
 use Rattle.model.specs.Trees.{Block, fileTree}
 use Rattle.model.specs.Times.{time}
-use Rattle.model.specs.Runs.{Step, duration, variablesAfter, outputsAfter, level, mark, overran, Buffers, leave, cleared, run}
-use Rattle.model.specs.Stopping.{upto, Image, Saved, none, saved, lastImage, imageBytes, imageOf, start, takeUp}
+use Rattle.model.specs.Runs.{Step, duration, Buffers, leave, cleared, run}
+use Rattle.model.specs.Stopping.{upto, Image, Saved, none, lastImage, imageOf, start, takeUp}
 use Rattle.model.specs.Refusals.{sound, fault}
 use Rattle.model.specs.Answers.{Verdict, finished, bit}
-use Rattle.model.specs.Replies.{Loan, badBuffers, badImage, ready, ended, stepsOf, runReply, runBuffers, imageAt, isSaved, stopReply, stopBuffers, imageOver, stopImage}
-use Rattle.model.specs.Replies.{takenUp, takenBuffers, afterSave, strayImage, resumeReply, resumeBuffers, restartReply, restartBuffers}
+use Rattle.model.specs.Replies.{badImage, ready, ended, stepsOf, runReply, runBuffers, imageAt, isSaved, stopReply, stopBuffers, imageOver, stopImage}
+use Rattle.model.specs.Replies.{takenUp, takenBuffers, afterSave, resumeReply, resumeBuffers, restartReply, restartBuffers}
 use Rattle.model.specs.Chain.{Outputs, lend}
 use Rattle.theory.proofs.Accepted.{readied}
 
