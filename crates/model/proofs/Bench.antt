@@ -4,8 +4,7 @@ use mathlib.Core.Path.{_≡_, refl}
 use mathlib.Core.Bool.{Bool, true, false}
 use mathlib.Core.List.{List, [], _∷_, _++_}
 use lib.ListN.{length, getD, take, drop, replicate}
-use Rattle.model.specs.declared.Form.{Form}
-use Rattle.model.specs.declared.Form.the-variants.{Task, Laid}
+use Rattle.model.specs.declared.Form.the-variants.{Task}
 use Rattle.model.specs.Records.{firstRecords, records, bytes, SKIP, SET, READ, WRITE, IF, ELSE, WHILE, END, BEAT, SAVE}
 use Rattle.model.specs.Settings.{settingsOf, badSettings}
 use Rattle.model.specs.Trees.{flatten, stackOf, treeOf, fileTree}
@@ -18,6 +17,7 @@ use Rattle.model.specs.Answers.{Verdict, finished, refused}
 use Rattle.model.specs.Replies.{reading, timeReply, equalisedTree, equaliseReply, equaliseOut, laidTree, layOutReply, layOutOut}
 use Rattle.model.specs.Replies.{Loan, ready, stepsOf, runReply, runBuffers, imageAt, stopReply, stopBuffers, stopImage}
 use Rattle.model.specs.Replies.{takenUp, takenBuffers, resumeReply, resumeBuffers, restartReply, restartBuffers}
+use Rattle.model.specs.Chain.{Set, Outputs, Chain, layingOut, laidFile, plainLoan, preparedLoan, takingUp, takenUpBuffers, imageTick, runTwice}
 use Rattle.model.specs.Listing.{Line, Printed, listed, turnedDown, printed}
 
 -- THE TASKS
@@ -103,30 +103,28 @@ abbrev outcome : Verdict → List ℕ
 outcome (finished xs) = 0 ∷ getD xs 1 0 ∷ []
 outcome (refused n xs) = n ∷ []
 
--- the bytes that a finished result has written
-abbrev result-in : Verdict → List ℕ → List ℕ
-result-in (finished xs) out = take (getD xs 0 0) out
-result-in (refused n xs) out = []
+-- the calls on it, in buffers that hold anything, stopped at a tick
+abbrev first : Bench → Set
+first c = record { variables = replicate 16 0; inputs = c .input ∷ replicate 7 0 }
 
-abbrev equalisedFile : Bench → List ℕ
-equalisedFile c = result-in (equaliseReply (c .rack) (c .task) 600) (equaliseOut (c .rack) (c .task) (junk 600))
+abbrev outs : Outputs
+outs = record { levels = junk 8; marks = junk 8 }
 
-abbrev laying : Bench → Verdict
-laying c = layOutReply (c .rack) (equalisedFile c) 1200
-
-abbrev laidFile : Bench → List ℕ
-laidFile c = result-in (laying c) (layOutOut (c .rack) (equalisedFile c) (junk 1200))
-
-abbrev zeros : List ℕ
-zeros = replicate 16 0
-
-abbrev loan : Bench → Form → List ℕ → List ℕ → List ℕ → List ℕ → Loan
-loan c f bs v l m = record {
+abbrev chain : Bench → ℕ → Chain
+chain c stop = record {
   settings = c .rack;
-  form = f;
-  file = bs;
-  inputs = c .input ∷ replicate 7 0;
-  buffers = record { variables = v; levels = l; marks = m };
+  task = c .task;
+  equalisedRoom = junk 600;
+  laidRoom = junk 1200;
+  one = first c;
+  two = first c;
+  plainOne = outs;
+  plainTwo = outs;
+  whole = outs;
+  stopped = outs;
+  image = junk 72;
+  spare = junk 16;
+  stop = stop;
 }
 
 -- the end of a run: its answer, the levels and the marks, and variables 0 and 1
@@ -136,24 +134,13 @@ ends r b = said r ∷ b .levels ∷ b .marks ∷ take 2 (b .variables) ∷ []
 abbrev ending : Loan → List (List ℕ)
 ending c = ends (runReply c) (runBuffers c)
 
--- stopped at a tick and resumed: what the stop answers, the image's tick and the ticks run again, and the end
-abbrev takenUpAt : ℕ → Bench → List (List ℕ)
-takenUpAt stop c =
-    let file = laidFile c in
-    let first = loan c Laid file zeros (junk 8) (junk 8) in
-    let image = stopImage first (junk 72) stop in
-    let left = stopBuffers first (junk 72) stop in
-    let again = loan c Laid file (left .variables) (left .levels) (left .marks) in
-    said (stopReply first (junk 72) stop) ∷ (imageOf image .tick ∷ (stop - imageOf image .tick) ∷ []) ∷ ends (resumeReply again image) (resumeBuffers again image)
-
--- stopped at a tick and restarted: what the stop answers, and the end
-abbrev restartedAt : ℕ → Bench → List (List ℕ)
-restartedAt stop c =
-    let file = laidFile c in
-    let first = loan c Laid file zeros (junk 8) (junk 8) in
-    let left = stopBuffers first (junk 72) stop in
-    let again = loan c Laid file zeros (left .levels) (left .marks) in
-    said (stopReply first (junk 72) stop) ∷ ends (restartReply again) (restartBuffers again)
+-- stopped and taken up: what the stop answers, the image's tick and the ticks run twice, and the end
+abbrev takenUpAt : Chain → List (List ℕ)
+takenUpAt k =
+    let c = preparedLoan k (k .stopped) in
+    said (stopReply c (k .image) (k .stop))
+    ∷ (imageTick c (k .image) (k .stop) ∷ runTwice c (k .image) (k .stop) ∷ [])
+    ∷ ends (takingUp c (k .image) (k .spare) (k .stop)) (takenUpBuffers c (k .image) (k .spare) (k .stop))
 
 -- the steps that are WRITEs
 abbrev isOutput : Effect → Bool
@@ -181,20 +168,18 @@ pub data Question : Type 0 where
   listing : Question  -- the lines, and the total
   placed : Question  -- the start ticks of the BEATs, SAVEs and WRITEs of the laid file's run
   running : Question  -- the ends of the task as written and of the laid file
-  resuming : ℕ → Question  -- stopped at a tick and resumed
-  restarting : ℕ → Question  -- stopped at a tick and restarted
+  taking-up : ℕ → Question  -- stopped at a tick and taken up
 
 abbrev answer : Bench → Question → List (List ℕ)
 answer c timing = said (timeReply (c .rack) Task (c .task)) ∷ []
-answer c laying-out = let file = laidFile c in outcome (laying c) ∷ drop (length file - 12) file ∷ []
-answer c laid = laidFile c ∷ []
+answer c laying-out = let k = chain c 0 in outcome (layingOut k) ∷ drop (length (laidFile k) - 12) (laidFile k) ∷ []
+answer c laid = laidFile (chain c 0) ∷ []
 answer c listing = printedNumbers (printed (c .rack) (c .task))
 answer c placed =
-    let es = stepsOf (loan c Laid (laidFile c) zeros (junk 8) (junk 8)) in
+    let es = stepsOf (preparedLoan (chain c 0) outs) in
     starts isBeat 0 es ∷ starts isSave 0 es ∷ starts isOutput 0 es ∷ []
-answer c running = ending (loan c Task (c .task) zeros (junk 8) (junk 8)) ++ ending (loan c Laid (laidFile c) zeros (junk 8) (junk 8))
-answer c (resuming stop) = takenUpAt stop c
-answer c (restarting stop) = restartedAt stop c
+answer c running = let k = chain c 0 in ending (plainLoan k (first c) outs) ++ ending (preparedLoan k outs)
+answer c (taking-up stop) = takenUpAt (chain c stop)
 
 -- a task, a question, and the paper's answer
 pub record Lettered : Type 0 where
@@ -276,9 +261,9 @@ lettered =
     -- J
     ∷ case (settings 20 100) spinning 0 running (end 5 1 0 0 0 0 ++ end 18 1 0 0 0 0)
     -- K
-    ∷ case (settings 20 200) factorial 12 (resuming 92) ((0 ∷ 92 ∷ 0 ∷ 1 ∷ []) ∷ (13 ∷ 79 ∷ []) ∷ end 143 0 3628800 1 0 3628800)
-    ∷ case (settings 20 200) factorial 12 (resuming 93) ((0 ∷ 93 ∷ 0 ∷ 1 ∷ []) ∷ (93 ∷ 0 ∷ []) ∷ end 143 0 3628800 1 0 3628800)
-    ∷ case (settings 20 200) factorial 12 (restarting 12) ((0 ∷ 12 ∷ 0 ∷ 0 ∷ []) ∷ end 143 0 3628800 1 0 3628800)
+    ∷ case (settings 20 200) factorial 12 (taking-up 92) ((0 ∷ 92 ∷ 0 ∷ 1 ∷ []) ∷ (13 ∷ 79 ∷ []) ∷ end 143 0 3628800 1 0 3628800)
+    ∷ case (settings 20 200) factorial 12 (taking-up 93) ((0 ∷ 93 ∷ 0 ∷ 1 ∷ []) ∷ (93 ∷ 0 ∷ []) ∷ end 143 0 3628800 1 0 3628800)
+    ∷ case (settings 20 200) factorial 12 (taking-up 12) ((0 ∷ 12 ∷ 0 ∷ 0 ∷ []) ∷ (0 ∷ 12 ∷ []) ∷ end 143 0 3628800 1 0 3628800)
     -- "Nesting 8 passes, 9 is refused 5. 11 bytes are refused 1."
     ∷ case (settings 20 100) (file (nested 8 [])) 0 timing ((0 ∷ 8 ∷ []) ∷ [])
     ∷ case (settings 20 100) (file (nested 9 [])) 0 timing ((5 ∷ 8 ∷ []) ∷ [])

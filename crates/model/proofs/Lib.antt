@@ -9,3 +9,4 @@ pub mod Images
 pub mod Injective
 pub mod Bench
 pub mod TurnedDown
+pub mod Limits

@@ -1,5 +1,6 @@
 -- A file that passes the scan is the bytes of its tree, which stands in it, nests within the form's limit and has only that form's records.
-use Prim.Native.Nat.{ℕ, suc, _+_, _*_, _/_, _%_, _≤_, max}
+use Prim.Native.Nat.{ℕ, zero, suc, _+_, _*_, _/_, _%_, _≤_, _<_, max}
+use native.Mathlib.Nat.{add-zero, zero-add}
 use native.Mathlib.Omega.{arith}
 use mathlib.Core.Path.{_≡_, refl, ap, sym, subst, _∙_}
 use mathlib.Core.Bool.{Bool, true, false, cond, not, _||_}
@@ -8,12 +9,12 @@ use lib.Dec.{eqb, ltb}
 use lib.ListN.{length}
 use borrow.Author.Tests.{eqb-true, ltb-false}
 use Rattle.model.specs.declared.Form.{Form}
-use Rattle.model.specs.Records.{Rec, IF, WHILE, TIMES, records, bytes}
+use Rattle.model.specs.Records.{Rec, IF, WHILE, TIMES, kindAt, recordAt, records, bytes}
 use Rattle.model.specs.Trees.{Test, Act, set, read, write, check, beat, save, Block, nil, skip, act, branch, while, times}
 use Rattle.model.specs.Trees.{size, depth, testRec, skipRec, actRec, elseRec, endRec, flatten, treeOf, fileTree}
 use Rattle.model.specs.Refusals.{maxRecords, maxDepth, kindFits, fieldsFit, Open, first, second, loop, Nesting, misplaced, inside, nest}
 use Rattle.model.specs.Refusals.{sound, faulty, deeper, scan, fault}
-use Rattle.model.proofs.Bytes.{Bytes, bytes-records, length-records, records-at}
+use Rattle.model.proofs.Bytes.{Bytes, bytes-records, length-records, recordsAt, recordsAt-suc, records-at}
 use Rattle.model.proofs.Trees.{length-flatten, treeOf-flatten}
 use Rattle.model.proofs.Stands.{At, begins}
 use Rattle.model.proofs.Shapes.{Fit, Shape, is-skip, is-act, is-if, is-while, is-times, is-else, is-end, shape}
@@ -249,3 +250,16 @@ sound-file f s e = subst (Sound f s) (sym (ap treeOf (p .1) ∙ treeOf-flatten (
 -- the file is the bytes of its tree
 pub sound-bytes : (f : Form) (s : List ℕ) → Bytes s → fault f s ≡ sound → bytes (flatten (fileTree s)) ≡ s
 sound-bytes f s h e = rw (sound-file f s e .same) (bytes-records s h (whole f s e .even))
+
+-- every kind in it is one of the form
+kinds : (f : Form) (s : List ℕ) (n i j : ℕ) (os : List Open) → scan f j os (recordsAt s i n) ≡ sound → (k : ℕ) → k < n → kindFits f (kindAt s (i + k)) ≡ true
+kinds f s zero i j os e k l = absurd (omega arith)
+kinds f s (suc n) i j os e zero l =
+    rw (add-zero i) (passed f j os (recordAt s i) (recordsAt s (i + 1) n) (ap (scan f j os) (sym (recordsAt-suc s i n)) ∙ e) .fit .kind)
+kinds f s (suc n) i j os e (suc k) l =
+    let p = passed f j os (recordAt s i) (recordsAt s (i + 1) n) (ap (scan f j os) (sym (recordsAt-suc s i n)) ∙ e) in
+    let m : i + suc k ≡ i + 1 + k = omega arith in
+    rw m (kinds f s n (i + 1) (j + 1) (p .next) (p .after) k (omega arith))
+
+pub sound-kind : (f : Form) (s : List ℕ) → fault f s ≡ sound → (k : ℕ) → k < length s / 12 → kindFits f (kindAt s k) ≡ true
+sound-kind f s e k l = rw (zero-add k) at (kinds f s (length s / 12) 0 0 [] (ap (scan f 0 []) (sym (records-at s)) ∙ whole f s e .scanned) k l)

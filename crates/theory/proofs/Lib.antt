@@ -40,3 +40,4 @@ pub mod Running
 pub mod StoppedOnce
 pub mod Prepared
 pub mod Ends
+pub mod Reached
