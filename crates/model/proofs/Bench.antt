@@ -17,7 +17,7 @@ use Rattle.model.specs.Answers.{Verdict, finished, refused}
 use Rattle.model.specs.Replies.{reading, timeReply, equalisedTree, equaliseReply, equaliseOut, laidTree, layOutReply, layOutOut}
 use Rattle.model.specs.Replies.{Loan, ready, stepsOf, runReply, runBuffers, imageAt, stopReply, stopBuffers, stopImage}
 use Rattle.model.specs.Replies.{takenUp, takenBuffers, resumeReply, resumeBuffers, restartReply, restartBuffers}
-use Rattle.model.specs.Chain.{Set, Outputs, Chain, layingOut, laidFile, plainLoan, preparedLoan, takingUp, takenUpBuffers, imageTick, runTwice}
+use Rattle.model.specs.Chain.{Set, Outputs, Chain, layingOut, laidFile, plainLoan, wholeLoan, stoppedLoan, takingUp, takenUpBuffers, imageTick, runTwice}
 use Rattle.model.specs.Listing.{Line, Printed, listed, turnedDown, printed}
 
 -- THE TASKS
@@ -137,7 +137,7 @@ ending c = ends (runReply c) (runBuffers c)
 -- stopped and taken up: what the stop answers, the image's tick and the ticks run twice, and the end
 abbrev takenUpAt : Chain → List (List ℕ)
 takenUpAt k =
-    let c = preparedLoan k (k .stopped) in
+    let c = stoppedLoan k in
     said (stopReply c (k .image) (k .stop))
     ∷ (imageTick c (k .image) (k .stop) ∷ runTwice c (k .image) (k .stop) ∷ [])
     ∷ ends (takingUp c (k .image) (k .spare) (k .stop)) (takenUpBuffers c (k .image) (k .spare) (k .stop))
@@ -176,9 +176,9 @@ answer c laying-out = let k = chain c 0 in outcome (layingOut k) ∷ drop (lengt
 answer c laid = laidFile (chain c 0) ∷ []
 answer c listing = printedNumbers (printed (c .rack) (c .task))
 answer c placed =
-    let es = stepsOf (preparedLoan (chain c 0) outs) in
+    let es = stepsOf (wholeLoan (chain c 0)) in
     starts isBeat 0 es ∷ starts isSave 0 es ∷ starts isOutput 0 es ∷ []
-answer c running = let k = chain c 0 in ending (plainLoan k (first c) outs) ++ ending (preparedLoan k outs)
+answer c running = let k = chain c 0 in ending (plainLoan k (first c) outs) ++ ending (wholeLoan k)
 answer c (taking-up stop) = takenUpAt (chain c stop)
 
 -- a task, a question, and the paper's answer

@@ -34,6 +34,21 @@ module _ (f : Form) where
   unfolding scan
   past i os next r rs fit n l = rw (fit .kind, fit .fields, n, le-ltb (maxDepth f) (length next) l)
 
+  -- past a loop that opens with r, given that it goes past the body and what follows
+  past-loop : (r : Rec) (a b : Block) (i j : ℕ) (os : List Open) (rs : List Rec) → Fit f r → nest (r .kind) os ≡ inside (loop ∷ os) → 1 + length os ≤ maxDepth f
+      → scan f (i + 1) (loop ∷ os) (flatten a ++ endRec ∷ (flatten b ++ rs)) ≡ scan f (i + 1 + size a) (loop ∷ os) (endRec ∷ (flatten b ++ rs))
+      → scan f (i + 2 + size a) os (flatten b ++ rs) ≡ scan f j os rs
+      → scan f i os ((r ∷ (flatten a ++ endRec ∷ flatten b)) ++ rs) ≡ scan f j os rs
+  past-loop r a b i j os rs fit n l body next =
+      let ends = endRec ∷ (flatten b ++ rs) in
+      let e : i + 1 + size a + 1 ≡ i + 2 + size a = omega arith in
+      simp append-assoc
+      (past i os (loop ∷ os) r (flatten a ++ ends) fit n (omega arith)
+      ∙ body
+      ∙ past (i + 1 + size a) (loop ∷ os) os endRec (flatten b ++ rs) (end-fits f) refl (omega arith)
+      ∙ ap (λ (k : ℕ). scan f k os (flatten b ++ rs)) e
+      ∙ next)
+
   -- and past a block, up to the record with index j
   past-block : (b : Block) (i j : ℕ) (os : List Open) (rs : List Rec) → OfForm f b → depth b + length os ≤ maxDepth f → i + size b ≡ j
       → scan f i os (flatten b ++ rs) ≡ scan f j os rs
@@ -56,21 +71,13 @@ module _ (f : Form) where
       ∙ past n (second ∷ os) os endRec (flatten b ++ rs) (end-fits f) refl (omega arith)
       ∙ past-block b (n + 1) j os rs (p .3) (omega arith) (omega arith))
   past-block (while q n a b) i j os rs p l e =
-      let m = i + 1 + size a in
-      let ends = endRec ∷ (flatten b ++ rs) in
-      simp append-assoc
-      (past i os (loop ∷ os) (testRec WHILE q n) (flatten a ++ ends) (p .0) refl (omega arith)
-      ∙ past-block a (i + 1) m (loop ∷ os) ends (p .1) (omega arith) refl
-      ∙ past m (loop ∷ os) os endRec (flatten b ++ rs) (end-fits f) refl (omega arith)
-      ∙ past-block b (m + 1) j os rs (p .2) (omega arith) (omega arith))
+      past-loop (testRec WHILE q n) a b i j os rs (p .0) refl (omega arith)
+      (past-block a (i + 1) (i + 1 + size a) (loop ∷ os) (endRec ∷ (flatten b ++ rs)) (p .1) (omega arith) refl)
+      (past-block b (i + 2 + size a) j os rs (p .2) (omega arith) (omega arith))
   past-block (times q n a b) i j os rs p l e =
-      let m = i + 1 + size a in
-      let ends = endRec ∷ (flatten b ++ rs) in
-      simp append-assoc
-      (past i os (loop ∷ os) (testRec TIMES q n) (flatten a ++ ends) (p .0) refl (omega arith)
-      ∙ past-block a (i + 1) m (loop ∷ os) ends (p .1) (omega arith) refl
-      ∙ past m (loop ∷ os) os endRec (flatten b ++ rs) (end-fits f) refl (omega arith)
-      ∙ past-block b (m + 1) j os rs (p .2) (omega arith) (omega arith))
+      past-loop (testRec TIMES q n) a b i j os rs (p .0) refl (omega arith)
+      (past-block a (i + 1) (i + 1 + size a) (loop ∷ os) (endRec ∷ (flatten b ++ rs)) (p .1) (omega arith) refl)
+      (past-block b (i + 2 + size a) j os rs (p .2) (omega arith) (omega arith))
 
 pub length-file : (b : Block) → length (bytes (flatten b)) ≡ 12 * size b
 length-file b = rw (length-bytes (flatten b), length-flatten b)

@@ -89,6 +89,12 @@ plainLoan k x o = lend (k .settings) Task (k .task) (x .inputs) (x .variables) o
 abbrev pub preparedLoan : Chain → Outputs → Loan
 preparedLoan k o = lend (k .settings) Laid (laidFile k) (k .two .inputs) (k .two .variables) o
 
+abbrev pub wholeLoan : Chain → Loan
+wholeLoan k = preparedLoan k (k .whole)
+
+abbrev pub stoppedLoan : Chain → Loan
+stoppedLoan k = preparedLoan k (k .stopped)
+
 -- STOPPED ONCE AND TAKEN UP
 
 -- a run c, stopped at a tick with a lent image buffer: whether there is an image, and the outputs that it left
@@ -147,7 +153,7 @@ abbrev pub plainEndTwo : Chain → End
 plainEndTwo k = runEnd (plainLoan k (k .two) (k .plainTwo))
 
 abbrev pub wholeEnd : Chain → End
-wholeEnd k = runEnd (preparedLoan k (k .whole))
+wholeEnd k = runEnd (wholeLoan k)
 
 abbrev pub stoppedEnd : Chain → End
-stoppedEnd k = takenUpEnd (preparedLoan k (k .stopped)) (k .image) (k .spare) (k .stop)
+stoppedEnd k = takenUpEnd (stoppedLoan k) (k .image) (k .spare) (k .stop)

@@ -10,18 +10,22 @@ use Rattle.model.specs.Times.{ticks, time}
 use Rattle.model.specs.Runs.{Effect, nothing, beats, saves, isBeat, isSave, Step}
 use Rattle.model.specs.Replies.{longest}
 
--- what rows 6 and 7 leave of the settings
-pub record Fits (σ : Settings) : Type 0 where
+-- "All are at least 1", and what row 7 leaves of the settings
+pub record Positive (σ : Settings) : Type 0 where
   pub set-lasts : 1 ≤ σ .set
   pub read-lasts : 1 ≤ σ .read
   pub write-lasts : 1 ≤ σ .write
-  pub multiply-lasts : 1 ≤ σ .multiply
   pub beat-lasts : 1 ≤ σ .beat
   pub save-lasts : 1 ≤ σ .save
+  pub multiply-lasts : 1 ≤ σ .multiply
   pub spaced : 1 ≤ σ .spacing
+  pub window-lasts : 1 ≤ σ .window
+
+pub record Fits (σ : Settings) : Type 0 where
+  pub positive : Positive σ
   pub wide : σ .beat + σ .save + longest σ ≤ σ .window
 
--- "an equalised file [holds kinds] 1 to 6, 8 and 9": no BEAT and no SAVE; and "TIMES becoming its rounds and one CHECK": no loop
+-- what a command does, BEAT or SAVE, and nothing for any other act
 abbrev pub command : Act → Effect
 command (set o t l x) = nothing
 command (read a p) = nothing
@@ -39,9 +43,11 @@ Each P (branch q a d b) = Each P a × Each P d × Each P b
 Each P (while q n a b) = Each P a × Each P b
 Each P (times q n a b) = Each P a × Each P b
 
+-- no command: an equalised file holds "1 to 6, 8 and 9"
 abbrev pub CommandFree : Block → Type 0
 CommandFree b = Each (λ p. command p ≡ nothing) b
 
+-- no loop: "The equalised file is unrolled, TIMES becoming its rounds and one CHECK."
 abbrev pub LoopFree : Block → Type 0
 LoopFree nil = Unit {0}
 LoopFree (skip n b) = LoopFree b

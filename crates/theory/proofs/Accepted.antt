@@ -16,17 +16,13 @@ use Rattle.model.specs.Refusals.{Fault, sound, faulty, fault}
 use Rattle.model.specs.Answers.{Verdict, finished}
 use Rattle.model.specs.Replies.{turnDown, unless, reading, longest, shortWindow, above, noRoom, fileTime, timeReply}
 use Rattle.model.specs.Replies.{equalisedTree, equaliseReply, laidTree, laidTotal, layOutReply, Loan, badBuffers, ready}
-use Rattle.model.specs.Placement.{Fits}
+use Rattle.model.specs.Placement.{Positive, Fits}
 
 -- ROWS
 
-pub neither : (a b : Bool) → (a || b) ≡ false → (a ≡ false) × (b ≡ false)
+neither : (a b : Bool) → (a || b) ≡ false → (a ≡ false) × (b ≡ false)
 neither true b e = let z : _≡_ {A = ℕ} 0 1 = cc in absurd (omega arith)
 neither false b e = (refl, e)
-
-pub not-true : (a : Bool) → not a ≡ false → a ≡ true
-not-true true e = refl
-not-true false e = let z : _≡_ {A = ℕ} 0 1 = cc in absurd (omega arith)
 
 passed : (n : ℕ) (cause : Bool) (next : Verdict) (xs : List ℕ) → turnDown n cause next ≡ finished xs → (cause ≡ false) × (next ≡ finished xs)
 passed n true next xs e = let z : _≡_ {A = ℕ} 0 1 = cc in absurd (omega arith)
@@ -54,18 +50,11 @@ reads s f file next g h = rw (g, h)
 -- SETTINGS
 
 pub record InRange (σ : Settings) : Type 0 where
-  pub set-lasts : 1 ≤ σ .set
-  pub read-lasts : 1 ≤ σ .read
-  pub write-lasts : 1 ≤ σ .write
-  pub beat-lasts : 1 ≤ σ .beat
-  pub save-lasts : 1 ≤ σ .save
-  pub multiply-lasts : 1 ≤ σ .multiply
-  pub spaced : 1 ≤ σ .spacing
-  pub window-lasts : 1 ≤ σ .window
+  pub positive : Positive σ
   pub short : σ .period ≤ 1000000
 
-positive : (n : ℕ) → eqb n 0 ≡ false → 1 ≤ n
-positive n e = let h = eqb-false n 0 e in omega arith
+at-least-1 : (n : ℕ) → eqb n 0 ≡ false → 1 ≤ n
+at-least-1 n e = let h = eqb-false n 0 e in omega arith
 
 in-range : (s : List ℕ) → badSettings s ≡ false → InRange (settingsOf s)
 unfolding badSettings
@@ -83,28 +72,21 @@ in-range s e = go (settingsOf s) (neither (not (eqb (length s) 12)) (outOfRange 
         let h1 = neither _ (eqb (σ .write) 0) (h2 .0) in
         let h0 = neither (eqb (σ .set) 0) (eqb (σ .read) 0) (h1 .0) in
         record {
-          set-lasts = positive (σ .set) (h0 .0);
-          read-lasts = positive (σ .read) (h0 .1);
-          write-lasts = positive (σ .write) (h1 .1);
-          beat-lasts = positive (σ .beat) (h2 .1);
-          save-lasts = positive (σ .save) (h3 .1);
-          multiply-lasts = positive (σ .multiply) (h4 .1);
-          spaced = positive (σ .spacing) (h5 .1);
-          window-lasts = positive (σ .window) (h6 .1);
+          positive = record {
+            set-lasts = at-least-1 (σ .set) (h0 .0);
+            read-lasts = at-least-1 (σ .read) (h0 .1);
+            write-lasts = at-least-1 (σ .write) (h1 .1);
+            beat-lasts = at-least-1 (σ .beat) (h2 .1);
+            save-lasts = at-least-1 (σ .save) (h3 .1);
+            multiply-lasts = at-least-1 (σ .multiply) (h4 .1);
+            spaced = at-least-1 (σ .spacing) (h5 .1);
+            window-lasts = at-least-1 (σ .window) (h6 .1);
+          };
           short = ltb-false 1000000 (σ .period) (h8 .1);
         }
 
-pub fits : (σ : Settings) → InRange σ → shortWindow σ ≡ false → Fits σ
-fits σ r e = record {
-  set-lasts = r .set-lasts;
-  read-lasts = r .read-lasts;
-  write-lasts = r .write-lasts;
-  multiply-lasts = r .multiply-lasts;
-  beat-lasts = r .beat-lasts;
-  save-lasts = r .save-lasts;
-  spaced = r .spaced;
-  wide = ltb-false (σ .window) (σ .beat + σ .save + longest σ) e;
-}
+fits : (σ : Settings) → Positive σ → shortWindow σ ≡ false → Fits σ
+fits σ p e = record { positive = p; wide = ltb-false (σ .window) (σ .beat + σ .save + longest σ) e }
 
 -- CALLS
 
@@ -167,7 +149,7 @@ lay-out-accepted s file room xs e =
     record {
       settings-good = r .settings-good;
       in-range = g;
-      fits-window = fits σ g (p7 .0);
+      fits-window = fits σ (g .positive) (p7 .0);
       file-sound = r .file-sound;
       in-time = ltb-false (σ .period) t (neither (above s (fileTime s file)) (above s t) (p8 .0) .1);
       has-room = room-left room n (p9 .0);

@@ -1,7 +1,7 @@
 -- Ticks within a window, at its end, and in a round of windows.
 use Prim.Native.Nat.{ℕ, _+_, _*_, _%_, _/_, _<_}
 use native.Mathlib.Omega.{arith}
-use native.Mathlib.Nat.{div-add-mod, mul-add-mod-self-left, mod-eq-of-lt, mod-lt, mod-self, mul-add-div, div-eq-of-lt, mul-le-mul-left, add-zero}
+use native.Mathlib.Nat.{div-add-mod, mul-add-mod-self-left, mod-eq-of-lt, mod-lt, mod-self, mul-le-mul-left}
 use mathlib.Core.Path.{_≡_, ap, _∙_}
 
 module _ (h : ℕ) (pos : 0 < h) where
@@ -10,9 +10,6 @@ module _ (h : ℕ) (pos : 0 < h) where
 
   pub mod-within : (t d : ℕ) → t % h + d < h → (t + d) % h ≡ t % h + d
   mod-within t d l = ap (λ (x : ℕ). x % h) (whole t d) ∙ mul-add-mod-self-left h (t / h) (t % h + d) ∙ mod-eq-of-lt l
-
-  pub div-within : (t d : ℕ) → t % h + d < h → (t + d) / h ≡ t / h
-  div-within t d l = ap (λ (x : ℕ). x / h) (whole t d) ∙ mul-add-div pos (t / h) (t % h + d) ∙ rw (div-eq-of-lt l, add-zero)
 
   pub mod-over : (t d : ℕ) → t % h + d ≡ h → (t + d) % h ≡ 0
   mod-over t d e = ap (λ (x : ℕ). x % h) (whole t d) ∙ mul-add-mod-self-left h (t / h) (t % h + d) ∙ rw (e, mod-self)

@@ -6,61 +6,65 @@ use mathlib.Core.Bool.{true}
 use Rattle.model.specs.Settings.{settingsOf}
 use Rattle.model.specs.Replies.{stepsOf, runReply, stopReply}
 use Rattle.model.specs.Timeline.{endedBy, lastSaveEnd}
-use Rattle.model.specs.Chain.{isFinished, valueAt, Chain, Lent, equalising, layingOut, plainLoan, preparedLoan}
+use Rattle.model.specs.Chain.{isFinished, valueAt, Chain, Lent, equalising, layingOut, plainLoan, wholeLoan, stoppedLoan}
 use Rattle.model.specs.Chain.{takingUp, imageTick, runTwice, End, plainEndOne, plainEndTwo, wholeEnd, stoppedEnd}
 use Rattle.theory.proofs.Ends.{plain-runs, whole-runs, whole-same, stop-runs, take-up-runs, stopped-same, twice, counted, few}
 
--- for all that is handed over: settings, task, room for both files, two sets, outputs and image buffer that hold anything, and a stop tick
+-- of the prepared form stopped once and taken up, for all that is handed over
+pub record Stopped (k : Chain) : Type 0 where
+  -- neither call is refused
+  pub stop-runs : isFinished (stopReply (stoppedLoan k) (k .image) (k .stop)) ≡ true
+  pub take-up-runs : isFinished (takingUp (stoppedLoan k) (k .image) (k .spare) (k .stop)) ≡ true
+  -- "The two ends are alike .. exactly when the ends of two runs of the task as written, one on each set, are alike"
+  pub alike : (plainEndOne k ≡ stoppedEnd k) ↔ (plainEndOne k ≡ plainEndTwo k)
+  -- "on one and the same set the prepared form .. stopped and taken up, ends as the task as written does"
+  pub same : stoppedEnd k ≡ plainEndTwo k
+  -- "The ticks run twice are the stop tick less the end of the last finished checkpoint, or the stop tick itself if there is none"
+  pub twice : runTwice (stoppedLoan k) (k .image) (k .stop) ≡ k .stop - lastSaveEnd 0 0 (endedBy (k .stop) 0 (stepsOf (stoppedLoan k)))
+  -- they are what the stopped run and the one taken up ran more than the whole one
+  pub counted : k .stop + (valueAt 0 (takingUp (stoppedLoan k) (k .image) (k .spare) (k .stop)) - imageTick (stoppedLoan k) (k .image) (k .stop))
+      ≡ valueAt 0 (runReply (wholeLoan k)) + runTwice (stoppedLoan k) (k .image) (k .stop)
+  -- "and always fewer than the checkpoint spacing in the settings": "The spacing is K × H ticks."
+  pub few : runTwice (stoppedLoan k) (k .image) (k .stop) < settingsOf (k .settings) .spacing * settingsOf (k .settings) .window
+
+-- "A stop never shows in the result."
 pub record Unseen (k : Chain) : Type 0 where
-  -- no call of the chain is refused
+  -- no run of the task as written is refused, nor of the prepared form
   pub plain-one-runs : isFinished (runReply (plainLoan k (k .one) (k .plainOne))) ≡ true
   pub plain-two-runs : isFinished (runReply (plainLoan k (k .two) (k .plainTwo))) ≡ true
-  pub whole-runs : isFinished (runReply (preparedLoan k (k .whole))) ≡ true
-  pub stop-runs : isFinished (stopReply (preparedLoan k (k .stopped)) (k .image) (k .stop)) ≡ true
-  pub take-up-runs : isFinished (takingUp (preparedLoan k (k .stopped)) (k .image) (k .spare) (k .stop)) ≡ true
+  pub whole-runs : isFinished (runReply (wholeLoan k)) ≡ true
   -- "The two ends are alike in all variables, in the last level set at each port, or that none was, and in whether a loop overran, exactly
-  -- when the ends of two runs of the task as written, one on each set, are alike in all of these": the prepared form whole, and stopped
-  pub whole-alike : (plainEndOne k ≡ wholeEnd k) ↔ (plainEndOne k ≡ plainEndTwo k)
-  pub stopped-alike : (plainEndOne k ≡ stoppedEnd k) ↔ (plainEndOne k ≡ plainEndTwo k)
-  -- "So on one and the same set the prepared form, whole or stopped and taken up, ends as the task as written does."
-  pub whole-same : wholeEnd k ≡ plainEndTwo k
-  pub stopped-same : stoppedEnd k ≡ plainEndTwo k
-  -- "The ticks run twice are the stop tick less the end of the last finished checkpoint, or the stop tick itself if there is none"
-  pub twice : runTwice (preparedLoan k (k .stopped)) (k .image) (k .stop)
-      ≡ k .stop - lastSaveEnd 0 0 (endedBy (k .stop) 0 (stepsOf (preparedLoan k (k .stopped))))
-  -- they are what the stopped run and the one taken up ran more than the whole one
-  pub counted : k .stop + (valueAt 0 (takingUp (preparedLoan k (k .stopped)) (k .image) (k .spare) (k .stop)) - imageTick (preparedLoan k (k .stopped)) (k .image) (k .stop))
-      ≡ valueAt 0 (runReply (preparedLoan k (k .whole))) + runTwice (preparedLoan k (k .stopped)) (k .image) (k .stop)
-  -- "and always fewer than the checkpoint spacing in the settings": "The spacing is K × H ticks."
-  pub few : runTwice (preparedLoan k (k .stopped)) (k .image) (k .stop) < settingsOf (k .settings) .spacing * settingsOf (k .settings) .window
+  -- when the ends of two runs of the task as written, one on each set, are alike in all of these."
+  pub alike : (plainEndOne k ≡ wholeEnd k) ↔ (plainEndOne k ≡ plainEndTwo k)
+  -- "So on one and the same set the prepared form, whole .., ends as the task as written does."
+  pub same : wholeEnd k ≡ plainEndTwo k
+  -- "stopped once, at whichever tick before its end"
+  pub stopped : k .stop < valueAt 0 (runReply (wholeLoan k)) → Stopped k
 
--- "Take any task prepared without refusal and any two sets of variables and inputs"; stopped "at whichever tick before its end"
+-- "Take any task prepared without refusal and any two sets of variables and inputs."
 abbrev pub Demand3 : Type 0
-Demand3 =
-    (k : Chain) → Lent k
-    → isFinished (equalising k) ≡ true
-    → isFinished (layingOut k) ≡ true
-    → k .stop < valueAt 0 (runReply (preparedLoan k (k .whole)))
-    → Unseen k
+Demand3 = (k : Chain) → Lent k → isFinished (equalising k) ≡ true → isFinished (layingOut k) ≡ true → Unseen k
 
 -- WHERE EACH PART IS PROVED
 
 -- alike to what is the same
-alike : (a b c : End) → b ≡ c → (a ≡ b) ↔ (a ≡ c)
-alike a b c e = (λ q. q ∙ e, λ q. q ∙ sym e)
+alike-to : (a b c : End) → b ≡ c → (a ≡ b) ↔ (a ≡ c)
+alike-to a b c e = (λ q. q ∙ e, λ q. q ∙ sym e)
 
 pub demand3 : Demand3
-demand3 k lent equalised laid before = record {
+demand3 k lent equalised laid = record {
   plain-one-runs = plain-runs k lent equalised laid (k .one) (k .plainOne) (lent .one-lent) (lent .plain-one-lent);
   plain-two-runs = plain-runs k lent equalised laid (k .two) (k .plainTwo) (lent .two-lent) (lent .plain-two-lent);
   whole-runs = whole-runs k lent equalised laid;
-  stop-runs = stop-runs k lent equalised laid before;
-  take-up-runs = take-up-runs k lent equalised laid before;
-  whole-alike = alike (plainEndOne k) (wholeEnd k) (plainEndTwo k) (whole-same k lent equalised laid);
-  stopped-alike = alike (plainEndOne k) (stoppedEnd k) (plainEndTwo k) (stopped-same k lent equalised laid before);
-  whole-same = whole-same k lent equalised laid;
-  stopped-same = stopped-same k lent equalised laid before;
-  twice = twice k lent equalised laid before;
-  counted = counted k lent equalised laid before;
-  few = few k lent equalised laid before;
+  alike = alike-to (plainEndOne k) (wholeEnd k) (plainEndTwo k) (whole-same k lent equalised laid);
+  same = whole-same k lent equalised laid;
+  stopped = λ before. record {
+    stop-runs = stop-runs k lent equalised laid before;
+    take-up-runs = take-up-runs k lent equalised laid before;
+    alike = alike-to (plainEndOne k) (stoppedEnd k) (plainEndTwo k) (stopped-same k lent equalised laid before);
+    same = stopped-same k lent equalised laid before;
+    twice = twice k lent equalised laid before;
+    counted = counted k lent equalised laid before;
+    few = few k lent equalised laid before;
+  };
 }

@@ -15,7 +15,7 @@ use Rattle.model.specs.Layout.{layout}
 use Rattle.model.specs.Stopping.{upto, none}
 use Rattle.model.specs.Replies.{Loan, stepsOf, runReply, stopReply, ended}
 use Rattle.model.specs.Timeline.{endedBy, lastSaveEnd}
-use Rattle.model.specs.Chain.{isFinished, valueAt, Set, Outputs, Chain, LentSet, LentOutputs, Lent, equalising, layingOut, laidFile, lend, plainLoan, preparedLoan}
+use Rattle.model.specs.Chain.{isFinished, valueAt, Set, Outputs, Chain, LentSet, LentOutputs, Lent, equalising, layingOut, laidFile, lend, plainLoan, preparedLoan, wholeLoan, stoppedLoan}
 use Rattle.model.specs.Chain.{takingUp, imageTick, runTwice, End, endOf, runEnd, plainEndTwo, wholeEnd, stoppedEnd}
 use Rattle.theory.proofs.Views.{see, same-variables, same-outputs, same-overran}
 use Rattle.theory.proofs.Traces.{traced}
@@ -79,10 +79,10 @@ module _ (k : Chain) (lent : Lent k) (equalised : isFinished (equalising k) ≡ 
     plain-end = run-ends s Task (k .task) t (p .plain) (x .inputs) (x .variables) o (lengths x o q r)
 
   -- the prepared form, whole
-  whole-answer : runReply (preparedLoan k (k .whole)) ≡ ended 0 es
+  whole-answer : runReply (wholeLoan k) ≡ ended 0 es
   whole-answer = ap runReply (loan (k .whole)) ∙ run-answer s Laid (fileOf b) b (p .laid) ins v (k .whole) (lengths (k .two) (k .whole) (lent .two-lent) (lent .whole-lent))
 
-  pub whole-runs : isFinished (runReply (preparedLoan k (k .whole))) ≡ true
+  pub whole-runs : isFinished (runReply (wholeLoan k)) ≡ true
   whole-runs = rw whole-answer
 
   -- on the second set it ends as the task as written
@@ -96,9 +96,9 @@ module _ (k : Chain) (lent : Lent k) (equalised : isFinished (equalising k) ≡ 
       (ap runEnd (loan (k .whole)) ∙ run-ends s Laid (fileOf b) b (p .laid) ins v (k .whole) (lengths (k .two) (k .whole) (lent .two-lent) (lent .whole-lent)))
 
   -- the prepared form, stopped once and taken up
-  module _ (before : k .stop < valueAt 0 (runReply (preparedLoan k (k .whole)))) where
+  module _ (before : k .stop < valueAt 0 (runReply (wholeLoan k))) where
     abbrev c : Loan
-    c = preparedLoan k (k .stopped)
+    c = stoppedLoan k
 
     early : k .stop < duration es
     early = omega (arith, ap (valueAt 0) whole-answer)
@@ -146,5 +146,5 @@ module _ (k : Chain) (lent : Lent k) (equalised : isFinished (equalising k) ≡ 
     few = omega (arith, soon-enough, no-later)
 
     pub counted : k .stop + (valueAt 0 (takingUp c (k .image) (k .spare) (k .stop)) - imageTick c (k .image) (k .stop))
-        ≡ valueAt 0 (runReply (preparedLoan k (k .whole))) + runTwice c (k .image) (k .stop)
+        ≡ valueAt 0 (runReply (wholeLoan k)) + runTwice c (k .image) (k .stop)
     counted = omega (arith, ends .end-tick, no-later, early, ap (valueAt 0) whole-answer)

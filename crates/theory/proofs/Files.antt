@@ -1,9 +1,9 @@
 -- What equalising and laying out wrote is read back: the tree that the rules give, of its form, with the time that was stated.
 use Prim.Native.Nat.{ℕ, _*_}
 use native.Mathlib.Omega.{arith}
-use mathlib.Core.Path.{_≡_, ap, sym, _∙_}
-use mathlib.Core.List.{List}
-use lib.ListN.{length, getD, take, drop}
+use mathlib.Core.Path.{_≡_}
+use mathlib.Core.List.{List, [], _∷_}
+use lib.ListN.{length, take, drop}
 use lib.Seq.{take-append-seam}
 use Rattle.model.specs.declared.Form.{Form}
 use Rattle.model.specs.declared.Form.the-variants.{Task, Equalised, Laid}
@@ -12,8 +12,8 @@ use Rattle.model.specs.Settings.{settingsOf}
 use Rattle.model.specs.Trees.{Block, size, flatten, fileTree}
 use Rattle.model.specs.Runs.{run}
 use Rattle.model.specs.Refusals.{sound, fault}
-use Rattle.model.specs.Answers.{finished}
-use Rattle.model.specs.Replies.{over, fileTime, equalisedTree, equaliseReply, equaliseOut, laidTree, laidTotal, layOutReply, layOutOut, stepsOf}
+use Rattle.model.specs.Answers.{Verdict, finished}
+use Rattle.model.specs.Replies.{over, kept, fileTime, equalisedTree, equaliseReply, equaliseOut, laidTree, laidTotal, layOutReply, layOutOut, stepsOf}
 use Rattle.model.specs.Chain.{valueAt, Outputs, lend}
 use Rattle.model.proofs.Sound.{OfForm, Sound, sound-file}
 use Rattle.model.proofs.Passes.{passes, tree-back, length-file}
@@ -26,9 +26,11 @@ use Rattle.theory.proofs.Accepted.{EqualiseAccepted, equalise-accepted,
 abbrev pub fileOf : Block → List ℕ
 fileOf b = bytes (flatten b)
 
--- the file that a buffer holds after it was written
-in-buffer : (b : Block) (out : List ℕ) (n : ℕ) → n ≡ 12 * size b → take n (over (fileOf b) out) ≡ fileOf b
-in-buffer b out n e = rw (e ∙ sym (length-file b)) (take-append-seam (fileOf b) (drop (length (fileOf b)) out))
+-- what an answer says was written, of a result b in a lent buffer
+file-in : (r : Verdict) (b : Block) (out xs : List ℕ) (t : ℕ) → r ≡ finished xs → 12 * size b ∷ t ∷ [] ≡ xs
+    → take (valueAt 0 r) (kept r (over (fileOf b) out) out) ≡ fileOf b
+file-in r b out xs t e a =
+    rw (e, ← a, ← length-file b) (take-append-seam (fileOf b) (drop (length (fileOf b)) out))
 
 -- the steps of a run of it
 pub steps-of : (s : List ℕ) (f : Form) (b : Block) (ins v : List ℕ) (o : Outputs) → stepsOf (lend s f (fileOf b) ins v o) ≡ run (settingsOf s) ins b 0 v
@@ -60,12 +62,10 @@ pub equalised-written : (s task out xs : List ℕ) → equaliseReply s task (len
 unfolding equaliseOut
 equalised-written s task out xs e = rw e
 
--- what the answer says was written
 pub equalised-file : (s task out xs : List ℕ) → equaliseReply s task (length out) ≡ finished xs
     → take (valueAt 0 (equaliseReply s task (length out))) (equaliseOut s task out) ≡ fileOf (equalisedTree s task)
-equalised-file s task out xs e =
-    let n = ap (valueAt 0) e ∙ ap (λ (ys : List ℕ). getD ys 0 0) (sym (equalise-accepted s task (length out) xs e .answers)) in
-    ap (take (valueAt 0 (equaliseReply s task (length out)))) (equalised-written s task out xs e) ∙ in-buffer (equalisedTree s task) out _ n
+unfolding equaliseOut
+equalised-file s task out xs e = file-in _ (equalisedTree s task) out xs (fileTime s task) e (equalise-accepted s task (length out) xs e .answers)
 
 -- LAID
 
@@ -79,7 +79,7 @@ module _ (s file : List ℕ) (room : ℕ) (xs : List ℕ) (a : LayOutAccepted s 
       let σ = settingsOf s in
       let b = fileTree file in
       passes Laid (laidTree s file)
-      (laid-of-form σ b (file-tree .of-form) (a .in-range .window-lasts) (a .in-range .short) (omega (arith, a .in-time, a .in-range .short)))
+      (laid-of-form σ b (file-tree .of-form) (a .in-range .positive .window-lasts) (a .in-range .short) (omega (arith, a .in-time, a .in-range .short)))
       (omega (arith, depth-laid σ b (file-tree .of-form), file-tree .shallow)) (a .has-room .few)
 
   pub laid-time : fileTime s (fileOf (laidTree s file)) ≡ laidTotal s file
@@ -93,6 +93,5 @@ laid-written s file out xs e = rw e
 
 pub laid-file : (s file out xs : List ℕ) → layOutReply s file (length out) ≡ finished xs
     → take (valueAt 0 (layOutReply s file (length out))) (layOutOut s file out) ≡ fileOf (laidTree s file)
-laid-file s file out xs e =
-    let n = ap (valueAt 0) e ∙ ap (λ (ys : List ℕ). getD ys 0 0) (sym (lay-out-accepted s file (length out) xs e .answers)) in
-    ap (take (valueAt 0 (layOutReply s file (length out)))) (laid-written s file out xs e) ∙ in-buffer (laidTree s file) out _ n
+unfolding layOutOut
+laid-file s file out xs e = file-in _ (laidTree s file) out xs (laidTotal s file) e (lay-out-accepted s file (length out) xs e .answers)

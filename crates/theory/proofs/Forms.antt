@@ -97,7 +97,7 @@ act-fits (check q) p = record { kind = p .kind; fields = p .fields }
 act-fits (beat x) p = record { kind = p .kind; fields = p .fields }
 act-fits (save m) p = record { kind = p .kind; fields = p .fields }
 
-pub formed-F : (σ : Settings) (b : Block) → Formed Task b → Formed Equalised (F σ b)
+formed-F : (σ : Settings) (b : Block) → Formed Task b → Formed Equalised (F σ b)
 unfolding fieldsFit
 formed-F σ nil p = tt
 formed-F σ (skip n b) p = formed-F σ b p
@@ -139,7 +139,7 @@ depth-merge (branch q a d b) n = rw (depth-waiting n, depth-merge a 0, depth-mer
 depth-merge (while q m a b) n = rw (depth-waiting n, depth-merge a 0, depth-merge b 0)
 depth-merge (times q m a b) n = rw (depth-waiting n, depth-merge a 0, depth-merge b 0)
 
-pub depth-F : (σ : Settings) (b : Block) → depth (F σ b) ≤ 2 * depth b
+depth-F : (σ : Settings) (b : Block) → depth (F σ b) ≤ 2 * depth b
 depth-F σ nil = omega arith
 depth-F σ (skip n b) = depth-F σ b
 depth-F σ (act p b) = depth-F σ b

@@ -15,7 +15,7 @@ use Rattle.theory.proofs.Sequences.{duration-++, overran-++}
 pub record Lasts (f : Run) (n : ℕ) : Type 0 where
   pub in-all : (v : List ℕ) → overran (f v) ≡ false → duration (f v) ≡ n
 
-pub lasts-⊳ : {f g : Run} {m n : ℕ} → Lasts f m → Lasts g n → Lasts (f ⊳ g) (m + n)
+lasts-⊳ : {f g : Run} {m n : ℕ} → Lasts f m → Lasts g n → Lasts (f ⊳ g) (m + n)
 lasts-⊳ {f} {g} {m} {n} p q = record { in-all = λ v h. go v (overran (f v)) refl h }
   where
     go : (v : List ℕ) (o : Bool) → overran (f v) ≡ o → overran (f v ++ cond o [] (g (variablesAfter (f v) v))) ≡ false

@@ -49,7 +49,7 @@ save-there f file j e a = go (eqb j 0) a (ltb (j - 1) (length file / 12)) refl
     go false h false k =
         let is = eqb-true (kindAt file (j - 1)) SAVE h in
         let none : kindAt file (j - 1) ≡ 0 =
-            List·getD-eq-default file 0 (omega (arith, ltb-false (j - 1) (length file / 12) k, sound-file f file e .whole-records)) in
+        List·getD-eq-default file 0 (omega (arith, ltb-false (j - 1) (length file / 12) k, sound-file f file e .whole-records)) in
         absurd (omega arith)
 
 -- what is listed

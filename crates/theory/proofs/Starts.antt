@@ -104,7 +104,7 @@ module _ (σ : Settings) (fits : Fits σ) where
         inside = λ j k l. ne-eqb ((t + j) % σ .window) 0 (λ z. omega (arith, on t (e .lasts) j (e .does) p l));
       }
 
-  pub save-starts : (es : List Step) (t : ℕ) → StepsPlaced σ t es
+  save-starts : (es : List Step) (t : ℕ) → StepsPlaced σ t es
       → starts isSave t es ≡ picks (λ u. eqb (u % (σ .spacing * σ .window)) (σ .beat)) t (duration es)
   save-starts = starts-picks σ isSave (saveAt σ) told
     where

@@ -25,7 +25,7 @@ module _ (σ : Settings) where
   time-F (while q n a b) = let e : 1 + max (time σ a) (time σ a + 0) + 0 ≡ time σ a + 1 = omega arith in rw (time-F a, time-F b, e)
   time-F (times q n a b) = rw (time-F a, time-F b)
 
-  pub time-waiting : (n : ℕ) (b : Block) → time σ (waiting n b) ≡ n + time σ b
+  time-waiting : (n : ℕ) (b : Block) → time σ (waiting n b) ≡ n + time σ b
   time-waiting zero b = omega arith
   time-waiting (suc n) b = refl
 
@@ -41,7 +41,7 @@ module _ (σ : Settings) where
   unfolding equalise
   time-equalise b = time-merge (F σ b) 0 ∙ omega (arith, time-F b)
 
-  pub time-copies : (n : ℕ) (b : Block) → time σ (copies n b) ≡ n * time σ b
+  time-copies : (n : ℕ) (b : Block) → time σ (copies n b) ≡ n * time σ b
   time-copies zero b = omega arith
   time-copies (suc n) b = omega (arith, time-⧺ b (copies n b), time-copies n b)
 

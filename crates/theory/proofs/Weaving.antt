@@ -67,7 +67,7 @@ module _ (σ : Settings) where
   woven-filled : (t e : ℕ) {a a′ : Block} → Woven a a′ → Woven a (filled σ t a′ e)
   woven-filled t e {a} {a′} p = behind p (woven-fill (e - (t + time σ a′)) (t + time σ a′) e)
 
-  pub woven-lay : (b : Block) (t : ℕ) → LoopFree b → Woven b (lay σ b t)
+  woven-lay : (b : Block) (t : ℕ) → LoopFree b → Woven b (lay σ b t)
   woven-lay nil t u = done
   woven-lay (skip n b) t u = skips n (woven-⧺ (woven-idles n t) (woven-lay b (t + time σ (idles σ n t)) u))
   woven-lay (act p b) t u =

@@ -30,7 +30,7 @@ module _ (σ : Settings) where
   filled-longer t e a = omega (arith, time-⧺ σ a (fill σ (e - (t + time σ a)) (t + time σ a) e))
 
   -- the time of a block is at most that of what is laid of it, from any tick
-  pub lay-longer : (b : Block) (t : ℕ) → LoopFree b → time σ b ≤ time σ (lay σ b t)
+  lay-longer : (b : Block) (t : ℕ) → LoopFree b → time σ b ≤ time σ (lay σ b t)
   lay-longer nil t p = omega arith
   lay-longer (skip n b) t p =
       rw (time-⧺ σ (idles σ n t)) (omega (arith, idles-longer n t, lay-longer b (t + time σ (idles σ n t)) p))
@@ -88,7 +88,7 @@ module _ (σ : Settings) (fits : Fits σ) where
   window-pos = omega arith
 
   pub window-round : σ .window ≤ round σ
-  window-round = omega (arith, mul-le-mul-right (σ .window) (fits .spaced))
+  window-round = omega (arith, mul-le-mul-right (σ .window) (fits .positive .spaced))
 
   pub round-pos : 0 < round σ
   round-pos = omega (arith, window-round)
@@ -99,8 +99,8 @@ module _ (σ : Settings) (fits : Fits σ) where
 
   pub round-ends : (t d : ℕ) → t % σ .window + d ≤ σ .window → t % round σ + d ≤ round σ
   round-ends t d l =
-      rw (mod-round (σ .window) window-pos (σ .spacing) (fits .spaced) t)
-      (omega (arith, mul-le-mul-left (σ .window) (mod-lt (t / σ .window) (fits .spaced))))
+      rw (mod-round (σ .window) window-pos (σ .spacing) (fits .positive .spaced) t)
+      (omega (arith, mul-le-mul-left (σ .window) (mod-lt (t / σ .window) (fits .positive .spaced))))
 
   pub window-on : (t d : ℕ) → t % σ .window + d < σ .window → (t + d) % σ .window ≡ t % σ .window + d
   window-on = mod-within (σ .window) window-pos
