@@ -52,10 +52,14 @@ isOverrun (beats x) = false
 isOverrun (saves m) = false
 isOverrun overruns = true
 
--- the start ticks of those that p picks, where the first begins at tick t
+-- what f takes of the start tick and the effect of each step, where the first begins at tick t
+abbrev pub gather : {A : Type 0} → (ℕ → Effect → List A) → ℕ → List Step → List A
+gather f t [] = []
+gather f t (e ∷ es) = f t (e .does) ++ gather f (t + e .lasts) es
+
+-- the start ticks of those that p picks
 abbrev pub starts : (Effect → Bool) → ℕ → List Step → List ℕ
-starts p t [] = []
-starts p t (e ∷ es) = cond (p (e .does)) (t ∷ []) [] ++ starts p (t + e .lasts) es
+starts p = gather (λ t w. cond (p w) (t ∷ []) [])
 
 -- WHAT STEPS LEAVE
 

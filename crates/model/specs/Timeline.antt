@@ -4,7 +4,7 @@ use mathlib.Core.Path.{_≡_}
 use mathlib.Core.Bool.{Bool, true, cond}
 use mathlib.Core.List.{List, [], _∷_, _++_}
 use lib.Dec.{eqb, leb}
-use Rattle.model.specs.Runs.{Effect, nothing, assigns, outputs, beats, saves, overruns, Step, isBeat, isSave}
+use Rattle.model.specs.Runs.{Effect, nothing, assigns, outputs, beats, saves, overruns, Step, isBeat, isSave, gather}
 
 -- of the n ticks from t on those that p picks, and the multiples of h below n
 abbrev pub picks : (ℕ → Bool) → ℕ → ℕ → List ℕ
@@ -24,8 +24,7 @@ beatAt t (saves m) = []
 beatAt t overruns = []
 
 abbrev pub beatList : ℕ → List Step → List (ℕ × ℕ)
-beatList t [] = []
-beatList t (e ∷ es) = beatAt t (e .does) ++ beatList (t + e .lasts) es
+beatList = gather beatAt
 
 -- steps of which the last is a BEAT
 pub record EndsInBeat (es : List Step) : Type 0 where

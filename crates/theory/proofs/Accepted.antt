@@ -11,11 +11,13 @@ use Rattle.model.specs.declared.Settings.{Settings}
 use Rattle.model.specs.declared.Form.{Form}
 use Rattle.model.specs.declared.Form.the-variants.{Task, Equalised}
 use Rattle.model.specs.Settings.{settingsOf, outOfRange, badSettings}
-use Rattle.model.specs.Trees.{size}
+use Rattle.model.specs.Trees.{Block, size, fileTree}
+use Rattle.model.specs.Times.{time}
 use Rattle.model.specs.Refusals.{Fault, sound, faulty, fault}
 use Rattle.model.specs.Answers.{Verdict, finished}
 use Rattle.model.specs.Replies.{turnDown, unless, reading, longest, shortWindow, above, noRoom, fileTime, timeReply}
-use Rattle.model.specs.Replies.{equalisedTree, equaliseReply, laidTree, laidTotal, layOutReply, Loan, badBuffers, ready}
+use Rattle.model.specs.Replies.{equalisedTree, equaliseReply, laidTree, laidTotal, layOutReply, badBuffers, ready}
+use Rattle.model.specs.Chain.{Outputs, lend}
 use Rattle.model.specs.Placement.{Positive, Fits}
 
 -- ROWS
@@ -156,20 +158,23 @@ lay-out-accepted s file room xs e =
       answers = let q = p9 .1 in cc;
     }
 
--- a file within P is timed
-pub times : (s : List ℕ) (f : Form) (file : List ℕ) → badSettings s ≡ false → fault f file ≡ sound → fileTime s file ≤ settingsOf s .period
-    → timeReply s f file ≡ finished (fileTime s file ∷ [])
-unfolding timeReply
-times s f file g h t = reads s f file _ g h ∙ rw (le-ltb (settingsOf s .period) (fileTime s file) t)
+-- RUNS
 
--- rows 6, 1 to 5, 8 and 10, which every run tries
-pub readied : (c : Loan) (cause : Bool) (next : Verdict)
-    → badSettings (c .settings) ≡ false
-    → fault (c .form) (c .file) ≡ sound
-    → fileTime (c .settings) (c .file) ≤ settingsOf (c .settings) .period
-    → badBuffers c ≡ false
-    → cause ≡ false
-    → ready c cause next ≡ next
-unfolding ready
-readied c cause next g h t b d =
-    reads (c .settings) (c .form) (c .file) _ g h ∙ rw (le-ltb (settingsOf (c .settings) .period) (fileTime (c .settings) (c .file)) t, b, d)
+-- a file that reads as the block b, within P
+pub record Runnable (s : List ℕ) (f : Form) (file : List ℕ) (b : Block) : Type 0 where
+  pub settings-good : badSettings s ≡ false
+  pub file-sound : fault f file ≡ sound
+  pub tree : fileTree file ≡ b
+  pub in-time : time (settingsOf s) b ≤ settingsOf s .period
+
+module _ (s : List ℕ) (f : Form) (file : List ℕ) (b : Block) (r : Runnable s f file b) where
+  pub timed : timeReply s f file ≡ finished (time (settingsOf s) b ∷ [])
+  unfolding timeReply
+  timed = reads s f file _ (r .settings-good) (r .file-sound) ∙ rw (r .tree, le-ltb (settingsOf s .period) (time (settingsOf s) b) (r .in-time))
+
+  -- rows 6, 1 to 5, 8 and 10, which every run tries
+  pub readied : (ins v : List ℕ) (o : Outputs) → badBuffers (lend s f file ins v o) ≡ false → (cause : Bool) (next : Verdict) → cause ≡ false
+      → ready (lend s f file ins v o) cause next ≡ next
+  unfolding ready
+  readied ins v o h cause next e =
+      reads s f file _ (r .settings-good) (r .file-sound) ∙ rw (r .tree, le-ltb (settingsOf s .period) (time (settingsOf s) b) (r .in-time), h, e)

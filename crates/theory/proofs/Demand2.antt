@@ -1,21 +1,18 @@
 -- DEMAND 2, over bytes and replies: each part under the words that it answers. The proofs are in the files that are cited.
 use Prim.Native.Nat.{ℕ, _+_, _*_, _-_, _%_, _≤_, _<_}
-use native.Mathlib.Omega.{arith}
-use mathlib.Core.Path.{_≡_, refl, ap, sym, _∙_}
+use mathlib.Core.Path.{_≡_, ap, sym, _∙_}
 use mathlib.Core.Bool.{true, false}
 use mathlib.Core.List.{List, [], _∷_, _++_, map}
 use lib.ListN.{length, drop}
 use Rattle.model.specs.declared.Settings.{Settings}
-use Rattle.model.specs.declared.Form.{Form}
 use Rattle.model.specs.declared.Form.the-variants.{Task, Equalised, Laid}
 use Rattle.model.specs.Records.{bytes}
-use Rattle.model.specs.Settings.{settingsOf, badSettings}
+use Rattle.model.specs.Settings.{settingsOf}
 use Rattle.model.specs.Trees.{Block, flatten, fileTree}
 use Rattle.model.specs.Runs.{Step, isBeat, isSave, starts, duration, overran, leave, cleared, run}
 use Rattle.model.specs.Equalising.{F, merge, equalise}
 use Rattle.model.specs.Layout.{ceiling, layout, total}
 use Rattle.model.specs.Stopping.{upto, none, lastImage}
-use Rattle.model.specs.Refusals.{sound, fault}
 use Rattle.model.specs.Answers.{finished}
 use Rattle.model.specs.Replies.{fileTime, timeReply, equalisedTree, equaliseReply, equaliseOut, laidTree, laidTotal, layOutReply, layOutOut}
 use Rattle.model.specs.Replies.{Loan, badBuffers, ended, stepsOf, runReply, imageAt, stopReply, stopBuffers, imageOver, stopImage}
@@ -24,12 +21,14 @@ use Rattle.model.specs.Timeline.{multiples, beatList, EndsInBeat, endedBy}
 use Rattle.model.specs.Chain.{Outputs, lend}
 use Rattle.model.proofs.Sound.{OfForm, sound-file}
 use Rattle.model.proofs.Passes.{length-file}
+use Rattle.theory.proofs.Times.{time-equalise}
 use Rattle.theory.proofs.Lasts.{equalised-lasts}
-use Rattle.theory.proofs.Laid.{placed-laid, total-longer, last-start, laid-lasts}
+use Rattle.theory.proofs.Laid.{time-laid, placed-laid, total-longer, last-start, laid-lasts}
 use Rattle.theory.proofs.LaidRuns.{laid-beats, whole-starts, whole-values, whole-saves, cut-saves, save-follows, no-crossing}
 use Rattle.theory.proofs.Stops.{beyond, upto-beyond, upto-only, upto-all, upto-ended}
-use Rattle.theory.proofs.Accepted.{equalise-accepted, lay-out-accepted, times, readied}
-use Rattle.theory.proofs.Files.{steps-of, equalised-sound, equalised-time, equalised-written, laid-sound, laid-time, laid-written}
+use Rattle.theory.proofs.Accepted.{equalise-accepted, lay-out-accepted, timed}
+use Rattle.theory.proofs.Files.{task-runnable, equalised-runnable, equalised-written, laid-runnable, laid-written}
+use Rattle.theory.proofs.Running.{steps, run-steps}
 
 -- A RUN
 
@@ -125,30 +124,21 @@ pub record Demand2 : Type 0 where
 
 -- WHERE EACH PART IS PROVED
 
--- a sound file within P is run
-run-answers : (s : List ℕ) (f : Form) (file ins v : List ℕ) (o : Outputs) → badSettings s ≡ false → fault f file ≡ sound
-    → fileTime s file ≤ settingsOf s .period → badBuffers (lend s f file ins v o) ≡ false
-    → runReply (lend s f file ins v o) ≡ ended 0 (stepsOf (lend s f file ins v o))
-unfolding runReply
-run-answers s f file ins v o g h t b = readied (lend s f file ins v o) false (ended 0 (stepsOf (lend s f file ins v o))) g h t b refl
-
 equalises : (s task out xs : List ℕ) → equaliseReply s task (length out) ≡ finished xs → Equalises s task out xs
 unfolding equalisedTree equalise
 equalises s task out xs e =
     let σ = settingsOf s in
     let b = merge 0 (F σ (fileTree task)) in
     let a = equalise-accepted s task (length out) xs e in
-    let same = equalised-time s task (length out) xs a in
-    let good = equalised-sound s task (length out) xs a in
-    let in-time : fileTime s (bytes (flatten b)) ≤ σ .period = omega (arith, same, a .in-time) in
+    let r = equalised-runnable s task (length out) xs a in
     record {
       answers = sym (ap (λ (n : ℕ). n ∷ fileTime s task ∷ []) (length-file b) ∙ a .answers);
       writes = equalised-written s task out xs e;
-      task-time = times s Task task (a .settings-good) (a .file-sound) (a .in-time);
-      file-time = times s Equalised (bytes (flatten b)) (a .settings-good) good in-time ∙ ap (λ (t : ℕ). finished (t ∷ [])) same;
+      task-time = timed s Task task (fileTree task) (task-runnable s task (length out) xs a);
+      file-time = timed s Equalised (bytes (flatten b)) b r ∙ ap (λ (t : ℕ). finished (t ∷ [])) (time-equalise σ (fileTree task));
       runs = λ ins v o h. record {
-        answers = run-answers s Equalised (bytes (flatten b)) ins v o (a .settings-good) good in-time h;
-        lasts = rw (steps-of s Equalised b ins v o) (equalised-lasts σ ins (fileTree task) 0 .in-all v);
+        answers = run-steps s Equalised (bytes (flatten b)) b r ins v o h;
+        lasts = rw (steps s Equalised (bytes (flatten b)) b (r .tree) ins v o) (equalised-lasts σ ins (fileTree task) 0 .in-all v);
       };
     }
 
@@ -170,22 +160,20 @@ lays-out s file out xs e =
     let tree = fileTree file in
     let b = layout σ tree in
     let a = lay-out-accepted s file (length out) xs e in
+    let r = laid-runnable s file (length out) xs a in
     let p = sound-file Equalised file (a .file-sound) .of-form in
-    let same = laid-time s file (length out) xs a in
-    let good = laid-sound s file (length out) xs a in
-    let in-time : fileTime s (bytes (flatten b)) ≤ σ .period = omega (arith, same, a .in-time) in
     record {
       answers = sym (ap (λ (n : ℕ). n ∷ laidTotal s file ∷ []) (length-file b) ∙ a .answers);
       writes = laid-written s file out xs e;
-      file-time = times s Laid (bytes (flatten b)) (a .settings-good) good in-time ∙ ap (λ (t : ℕ). finished (t ∷ [])) same;
+      file-time = timed s Laid (bytes (flatten b)) b r ∙ ap (λ (t : ℕ). finished (t ∷ [])) (time-laid σ tree);
       no-shorter = total-longer σ tree p;
       last-start = last-start σ tree p (a .fits-window);
       placed = placed-laid σ tree p (a .fits-window);
       runs = λ ins v o h. record {
-        answers = run-answers s Laid (bytes (flatten b)) ins v o (a .settings-good) good in-time h;
-        lasts = rw (steps-of s Laid b ins v o) (laid-lasts σ tree p (a .fits-window) ins v);
+        answers = run-steps s Laid (bytes (flatten b)) b r ins v o h;
+        lasts = rw (steps s Laid (bytes (flatten b)) b (r .tree) ins v o) (laid-lasts σ tree p (a .fits-window) ins v);
       };
-      steps = λ ins v o. rw (steps-of s Laid b ins v o) (laid-steps σ (a .fits-window) tree p ins v);
+      steps = λ ins v o. rw (steps s Laid (bytes (flatten b)) b (r .tree) ins v o) (laid-steps σ (a .fits-window) tree p ins v);
     }
 
 stops : (c : Loan) (image : List ℕ) (stop : ℕ) → Stops c image stop

@@ -2,7 +2,7 @@
 use Prim.Native.Nat.{ℕ, _+_, _*_, _-_, _≤_, _<_}
 use native.Mathlib.Omega.{arith}
 use mathlib.Core.Path.{_≡_, ap, ap₂, sym, _∙_, subst}
-use mathlib.Core.Bool.{true}
+use mathlib.Core.Bool.{true, false}
 use mathlib.Core.List.{List}
 use lib.ListN.{replicate}
 use Rattle.model.specs.declared.Form.{Form}
@@ -13,7 +13,7 @@ use Rattle.model.specs.Runs.{Step, duration, level, mark, run}
 use Rattle.model.specs.Equalising.{equalise}
 use Rattle.model.specs.Layout.{layout}
 use Rattle.model.specs.Stopping.{upto, none}
-use Rattle.model.specs.Replies.{Loan, stepsOf, runReply, stopReply, ended}
+use Rattle.model.specs.Replies.{Loan, badBuffers, stepsOf, runReply, stopReply, ended}
 use Rattle.model.specs.Timeline.{endedBy, lastSaveEnd}
 use Rattle.model.specs.Chain.{isFinished, valueAt, Set, Outputs, Chain, LentSet, LentOutputs, Lent, equalising, layingOut, laidFile, lend, plainLoan, preparedLoan, wholeLoan, stoppedLoan}
 use Rattle.model.specs.Chain.{takingUp, imageTick, runTwice, End, endOf, runEnd, plainEndTwo, wholeEnd, stoppedEnd}
@@ -21,8 +21,9 @@ use Rattle.theory.proofs.Views.{see, same-variables, same-outputs, same
 use Rattle.theory.proofs.Traces.{traced}
 use Rattle.theory.proofs.Twice.{saved-tick}
 use Rattle.theory.proofs.Stops.{upto-ended}
-use Rattle.theory.proofs.Files.{fileOf, steps-of}
-use Rattle.theory.proofs.Running.{Runnable, LentLengths, savedAt, run-answer, run-leaves, stop-answer}
+use Rattle.theory.proofs.Accepted.{Runnable}
+use Rattle.theory.proofs.Files.{fileOf}
+use Rattle.theory.proofs.Running.{LentLengths, lengths-good, savedAt, steps, run-answer, run-leaves, stop-answer}
 use Rattle.theory.proofs.StoppedOnce.{endFrom, Ends, ends-alike, soon, image-early}
 use Rattle.theory.proofs.Prepared.{Prepared, prepared}
 
@@ -40,9 +41,9 @@ lengths : (x : Set) (o : Outputs) → LentSet x → LentOutputs o → LentLength
 lengths x o p q = record { inputs = p .eight; variables = p .sixteen; levels = q .levels-eight; marks = q .marks-eight }
 
 -- a run that nothing refuses
-run-ends : (s : List ℕ) (f : Form) (file : List ℕ) (b : Block) → Runnable s f file b → (ins v : List ℕ) (o : Outputs) → LentLengths ins v o
+run-ends : (s : List ℕ) (f : Form) (file : List ℕ) (b : Block) → Runnable s f file b → (ins v : List ℕ) (o : Outputs) → badBuffers (lend s f file ins v o) ≡ false
     → runEnd (lend s f file ins v o) ≡ endFrom (run (settingsOf s) ins b 0 v) v
-run-ends s f file b r ins v o l = ap₂ endOf (run-answer s f file b r ins v o l) (run-leaves s f file b r ins v o l)
+run-ends s f file b r ins v o h = ap₂ endOf (run-answer s f file b r ins v o h) (run-leaves s f file b r ins v o h)
 
 module _ (k : Chain) (lent : Lent k) (equalised : isFinished (equalising k) ≡ true) (laid : isFinished (layingOut k) ≡ true) where
   abbrev s : List ℕ
@@ -71,16 +72,22 @@ module _ (k : Chain) (lent : Lent k) (equalised : isFinished (equalising k) ≡ 
   loan o = ap (λ (file : List ℕ). lend s Laid file ins v o) (p .is)
 
   module _ (x : Set) (o : Outputs) (q : LentSet x) (r : LentOutputs o) where
+    plain-good : badBuffers (plainLoan k x o) ≡ false
+    plain-good = lengths-good s Task (k .task) (x .inputs) (x .variables) o (lengths x o q r)
+
     -- the task as written
     pub plain-runs : isFinished (runReply (plainLoan k x o)) ≡ true
-    plain-runs = rw (run-answer s Task (k .task) t (p .plain) (x .inputs) (x .variables) o (lengths x o q r))
+    plain-runs = rw (run-answer s Task (k .task) t (p .plain) (x .inputs) (x .variables) o plain-good)
 
     plain-end : runEnd (plainLoan k x o) ≡ endFrom (run (settingsOf s) (x .inputs) t 0 (x .variables)) (x .variables)
-    plain-end = run-ends s Task (k .task) t (p .plain) (x .inputs) (x .variables) o (lengths x o q r)
+    plain-end = run-ends s Task (k .task) t (p .plain) (x .inputs) (x .variables) o plain-good
 
   -- the prepared form, whole
+  laid-good : (o : Outputs) → LentOutputs o → badBuffers (lend s Laid (fileOf b) ins v o) ≡ false
+  laid-good o r = lengths-good s Laid (fileOf b) ins v o (lengths (k .two) o (lent .two-lent) r)
+
   whole-answer : runReply (wholeLoan k) ≡ ended 0 es
-  whole-answer = ap runReply (loan (k .whole)) ∙ run-answer s Laid (fileOf b) b (p .laid) ins v (k .whole) (lengths (k .two) (k .whole) (lent .two-lent) (lent .whole-lent))
+  whole-answer = ap runReply (loan (k .whole)) ∙ run-answer s Laid (fileOf b) b (p .laid) ins v (k .whole) (laid-good (k .whole) (lent .whole-lent))
 
   pub whole-runs : isFinished (runReply (wholeLoan k)) ≡ true
   whole-runs = rw whole-answer
@@ -93,7 +100,7 @@ module _ (k : Chain) (lent : Lent k) (equalised : isFinished (equalising k) ≡ 
   pub whole-same : wholeEnd k ≡ plainEndTwo k
   whole-same =
       from-prepared (wholeEnd k)
-      (ap runEnd (loan (k .whole)) ∙ run-ends s Laid (fileOf b) b (p .laid) ins v (k .whole) (lengths (k .two) (k .whole) (lent .two-lent) (lent .whole-lent)))
+      (ap runEnd (loan (k .whole)) ∙ run-ends s Laid (fileOf b) b (p .laid) ins v (k .whole) (laid-good (k .whole) (lent .whole-lent)))
 
   -- the prepared form, stopped once and taken up
   module _ (before : k .stop < valueAt 0 (runReply (wholeLoan k))) where
@@ -114,7 +121,7 @@ module _ (k : Chain) (lent : Lent k) (equalised : isFinished (equalising k) ≡ 
     pub stop-runs : isFinished (stopReply c (k .image) (k .stop)) ≡ true
     stop-runs =
         subst (λ (x : Loan). isFinished (stopReply x (k .image) (k .stop)) ≡ true) (sym (loan (k .stopped)))
-        (rw (stop-answer s Laid (fileOf b) b (p .laid) ins v (k .stopped) l (k .image) (lent .image-lent) (k .stop) early))
+        (rw (stop-answer s Laid (fileOf b) b (p .laid) ins v (k .stopped) (laid-good (k .stopped) (lent .stopped-lent)) (k .image) (lent .image-lent) (k .stop) early))
 
     pub take-up-runs : isFinished (takingUp c (k .image) (k .spare) (k .stop)) ≡ true
     take-up-runs = ends .finishes
@@ -123,14 +130,14 @@ module _ (k : Chain) (lent : Lent k) (equalised : isFinished (equalising k) ≡ 
     stopped-same = from-prepared (stoppedEnd k) (ends .end)
 
     -- ticks
-    steps : stepsOf c ≡ es
-    steps = ap stepsOf (loan (k .stopped)) ∙ steps-of s Laid b ins v (k .stopped)
+    the-steps : stepsOf c ≡ es
+    the-steps = ap stepsOf (loan (k .stopped)) ∙ steps s Laid (fileOf b) b (p .laid .tree) ins v (k .stopped)
 
     pub twice : runTwice c (k .image) (k .stop) ≡ k .stop - lastSaveEnd 0 0 (endedBy (k .stop) 0 (stepsOf c))
     twice =
         ap (λ (n : ℕ). k .stop - n)
         (ends .image-tick ∙ saved-tick (upto (k .stop) es) 0 v none
-        ∙ ap (lastSaveEnd 0 0) (upto-ended (k .stop) es ∙ ap (endedBy (k .stop) 0) (sym steps)))
+        ∙ ap (lastSaveEnd 0 0) (upto-ended (k .stop) es ∙ ap (endedBy (k .stop) 0) (sym the-steps)))
 
     soon-enough : k .stop < imageTick c (k .image) (k .stop) + settingsOf s .spacing * settingsOf s .window
     soon-enough =

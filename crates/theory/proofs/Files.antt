@@ -1,26 +1,23 @@
 -- What equalising and laying out wrote is read back: the tree that the rules give, of its form, with the time that was stated.
 use Prim.Native.Nat.{ℕ, _*_}
 use native.Mathlib.Omega.{arith}
-use mathlib.Core.Path.{_≡_}
+use mathlib.Core.Path.{_≡_, refl}
 use mathlib.Core.List.{List, [], _∷_}
 use lib.ListN.{length, take, drop}
 use lib.Seq.{take-append-seam}
-use Rattle.model.specs.declared.Form.{Form}
 use Rattle.model.specs.declared.Form.the-variants.{Task, Equalised, Laid}
 use Rattle.model.specs.Records.{bytes}
 use Rattle.model.specs.Settings.{settingsOf}
 use Rattle.model.specs.Trees.{Block, size, flatten, fileTree}
-use Rattle.model.specs.Runs.{run}
-use Rattle.model.specs.Refusals.{sound, fault}
 use Rattle.model.specs.Answers.{Verdict, finished}
-use Rattle.model.specs.Replies.{over, kept, fileTime, equalisedTree, equaliseReply, equaliseOut, laidTree, laidTotal, layOutReply, layOutOut, stepsOf}
-use Rattle.model.specs.Chain.{valueAt, Outputs, lend}
+use Rattle.model.specs.Replies.{over, kept, fileTime, equalisedTree, equaliseReply, equaliseOut, laidTree, laidTotal, layOutReply, layOutOut}
+use Rattle.model.specs.Chain.{valueAt}
 use Rattle.model.proofs.Sound.{OfForm, Sound, sound-file}
 use Rattle.model.proofs.Passes.{passes, tree-back, length-file}
 use Rattle.theory.proofs.Times.{time-equalise}
 use Rattle.theory.proofs.Forms.{equalised-of-form, depth-equalise}
 use Rattle.theory.proofs.Laid.{time-laid, laid-of-form, depth-laid}
-use Rattle.theory.proofs.Accepted.{EqualiseAccepted, equalise-accepted, LayOutAccepted, lay-out-accepted}
+use Rattle.theory.proofs.Accepted.{EqualiseAccepted, equalise-accepted, LayOutAccepted, lay-out-accepted, Runnable}
 
 -- the bytes of a block
 abbrev pub fileOf : Block → List ℕ
@@ -32,11 +29,6 @@ file-in : (r : Verdict) (b : Block) (out xs : List ℕ) (t : ℕ) → r ≡ fini
 file-in r b out xs t e a =
     rw (e, ← a, ← length-file b) (take-append-seam (fileOf b) (drop (length (fileOf b)) out))
 
--- the steps of a run of it
-pub steps-of : (s : List ℕ) (f : Form) (b : Block) (ins v : List ℕ) (o : Outputs) → stepsOf (lend s f (fileOf b) ins v o) ≡ run (settingsOf s) ins b 0 v
-unfolding stepsOf
-steps-of s f b ins v o = rw (tree-back b)
-
 -- EQUALISED
 
 module _ (s task : List ℕ) (room : ℕ) (xs : List ℕ) (a : EqualiseAccepted s task room xs) where
@@ -47,15 +39,19 @@ module _ (s task : List ℕ) (room : ℕ) (xs : List ℕ) (a : EqualiseAccepted 
   unfolding equalisedTree
   equalised-form = equalised-of-form (settingsOf s) (fileTree task) (task-tree .of-form) (omega (arith, a .in-time, a .in-range .short))
 
-  pub equalised-sound : fault Equalised (fileOf (equalisedTree s task)) ≡ sound
-  unfolding equalisedTree
-  equalised-sound =
-      passes Equalised (equalisedTree s task) equalised-form
-      (omega (arith, depth-equalise (settingsOf s) (fileTree task), task-tree .shallow)) (a .has-room .few)
+  pub task-runnable : Runnable s Task task (fileTree task)
+  task-runnable = record { settings-good = a .settings-good; file-sound = a .file-sound; tree = refl; in-time = a .in-time }
 
-  pub equalised-time : fileTime s (fileOf (equalisedTree s task)) ≡ fileTime s task
+  pub equalised-runnable : Runnable s Equalised (fileOf (equalisedTree s task)) (equalisedTree s task)
   unfolding equalisedTree
-  equalised-time = rw (tree-back (equalisedTree s task)) (time-equalise (settingsOf s) (fileTree task))
+  equalised-runnable = record {
+    settings-good = a .settings-good;
+    file-sound =
+        passes Equalised (equalisedTree s task) equalised-form
+        (omega (arith, depth-equalise (settingsOf s) (fileTree task), task-tree .shallow)) (a .has-room .few);
+    tree = tree-back (equalisedTree s task);
+    in-time = omega (arith, time-equalise (settingsOf s) (fileTree task), a .in-time);
+  }
 
 pub equalised-written : (s task out xs : List ℕ) → equaliseReply s task (length out) ≡ finished xs
     → equaliseOut s task out ≡ over (fileOf (equalisedTree s task)) out
@@ -73,18 +69,20 @@ module _ (s file : List ℕ) (room : ℕ) (xs : List ℕ) (a : LayOutAccepted s 
   file-tree : Sound Equalised file (fileTree file)
   file-tree = sound-file Equalised file (a .file-sound)
 
-  pub laid-sound : fault Laid (fileOf (laidTree s file)) ≡ sound
+  pub laid-runnable : Runnable s Laid (fileOf (laidTree s file)) (laidTree s file)
   unfolding laidTree
-  laid-sound =
+  laid-runnable =
       let σ = settingsOf s in
       let b = fileTree file in
-      passes Laid (laidTree s file)
-      (laid-of-form σ b (file-tree .of-form) (a .in-range .positive .window-lasts) (a .in-range .short) (omega (arith, a .in-time, a .in-range .short)))
-      (omega (arith, depth-laid σ b (file-tree .of-form), file-tree .shallow)) (a .has-room .few)
-
-  pub laid-time : fileTime s (fileOf (laidTree s file)) ≡ laidTotal s file
-  unfolding laidTree
-  laid-time = rw (tree-back (laidTree s file)) (time-laid (settingsOf s) (fileTree file))
+      record {
+        settings-good = a .settings-good;
+        file-sound =
+            passes Laid (laidTree s file)
+            (laid-of-form σ b (file-tree .of-form) (a .in-range .positive .window-lasts) (a .in-range .short) (omega (arith, a .in-time, a .in-range .short)))
+            (omega (arith, depth-laid σ b (file-tree .of-form), file-tree .shallow)) (a .has-room .few);
+        tree = tree-back (laidTree s file);
+        in-time = omega (arith, time-laid σ b, a .in-time);
+      }
 
 pub laid-written : (s file out xs : List ℕ) → layOutReply s file (length out) ≡ finished xs
     → layOutOut s file out ≡ over (fileOf (laidTree s file)) out

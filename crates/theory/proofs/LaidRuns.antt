@@ -3,13 +3,13 @@ use Prim.Native.Nat.{ℕ, _+_, _*_, _-_, _%_, _≤_}
 use native.Mathlib.Omega.{arith}
 use native.Mathlib.Nat.{zero-add, add-zero, add-assoc}
 use mathlib.Core.Path.{_≡_, refl, ap, ap₂, sym, _∙_, subst}
-use mathlib.Core.Bool.{Bool, true, false, cond, false≢true}
+use mathlib.Core.Bool.{true, false, false≢true}
 use mathlib.Core.List.{List, [], _∷_, _++_, map, append-assoc}
 use Rattle.model.specs.declared.Settings.{Settings}
 use Rattle.model.specs.declared.Form.the-variants.{Equalised}
 use Rattle.model.specs.Trees.{Block}
 use Rattle.model.specs.Times.{time}
-use Rattle.model.specs.Runs.{Effect, nothing, assigns, outputs, beats, saves, overruns, isBeat, isSave, isOverrun, Step, step, starts, duration, overran, run}
+use Rattle.model.specs.Runs.{Effect, nothing, assigns, outputs, beats, saves, overruns, isBeat, isSave, isOverrun, Step, step, gather, starts, duration, overran, run}
 use Rattle.model.specs.Layout.{unroll, body, ceiling, lastValue, layout, total}
 use Rattle.model.specs.Placement.{Fits, LoopFree, StepsPlaced}
 use Rattle.model.specs.Timeline.{multiples, beatAt, beatList, EndsInBeat}
@@ -23,15 +23,10 @@ use Rattle.theory.proofs.Laid.{placed-laid, laid-lasts}
 use Rattle.theory.proofs.Values.{LastBeat, last-beat}
 use Rattle.theory.proofs.Resuming.{overrun-last}
 
-starts-++ : (p : Effect → Bool) (xs ys : List Step) (t : ℕ) → starts p t (xs ++ ys) ≡ starts p t xs ++ starts p (t + duration xs) ys
-starts-++ p [] ys t = rw (add-zero t)
-starts-++ p (e ∷ xs) ys t =
-    rw (starts-++ p xs ys (t + e .lasts), ← add-assoc t (e .lasts) (duration xs)) (sym (append-assoc (cond (p (e .does)) (t ∷ []) []) (starts p (t + e .lasts) xs) _))
-
-beats-++ : (xs ys : List Step) (t : ℕ) → beatList t (xs ++ ys) ≡ beatList t xs ++ beatList (t + duration xs) ys
-beats-++ [] ys t = rw (add-zero t)
-beats-++ (e ∷ xs) ys t =
-    rw (beats-++ xs ys (t + e .lasts), ← add-assoc t (e .lasts) (duration xs)) (sym (append-assoc (beatAt t (e .does)) (beatList (t + e .lasts) xs) _))
+gather-++ : {A : Type 0} (f : ℕ → Effect → List A) (xs ys : List Step) (t : ℕ) → gather f t (xs ++ ys) ≡ gather f t xs ++ gather f (t + duration xs) ys
+gather-++ f [] ys t = rw (add-zero t)
+gather-++ f (e ∷ xs) ys t =
+    rw (gather-++ f xs ys (t + e .lasts), ← add-assoc t (e .lasts) (duration xs)) (sym (append-assoc (f t (e .does)) (gather f (t + e .lasts) xs) _))
 
 overrun-no-beat : (w : Effect) → isOverrun w ≡ true → isBeat w ≡ false
 overrun-no-beat nothing e = refl
@@ -87,7 +82,7 @@ module _ (σ : Settings) (fits : Fits σ) (b : Block) (p : OfForm Equalised b) (
     -- 0, H, 2H, …, total − B
     pub whole-starts : starts isBeat 0 (run σ ins (layout σ b) 0 v) ≡ multiples (σ .window) (total σ b - σ .beat) ++ (total σ b - σ .beat) ∷ []
     whole-starts =
-        ap (starts isBeat 0) (whole h .parts) ∙ starts-++ isBeat (whole h .front) _ 0
+        ap (starts isBeat 0) (whole h .parts) ∙ gather-++ _ (whole h .front) _ 0
         ∙ ap₂ (λ (l : List ℕ) (t : ℕ). l ++ t ∷ []) front-starts (zero-add _ ∙ front-ends)
 
     -- of value 1, but for the last
@@ -96,7 +91,7 @@ module _ (σ : Settings) (fits : Fits σ) (b : Block) (p : OfForm Equalised b) (
     unfolding lastValue
     whole-values =
         let e : total σ b - σ .beat + σ .beat ≡ total σ b = omega (arith, front-lasts) in
-        ap (beatList 0) (whole h .parts) ∙ beats-++ (whole h .front) _ 0
+        ap (beatList 0) (whole h .parts) ∙ gather-++ beatAt (whole h .front) _ 0
         ∙ ap₂ (λ (l : List (ℕ × ℕ)) (y : ℕ × ℕ). l ++ y ∷ []) (whole h .front-list 0 ∙ ap (map (λ u. (u, 1))) front-starts)
         (ap₂ (λ (t n : ℕ). (t, ceiling (σ .period - n) (σ .window))) (zero-add _ ∙ front-ends) e)
 

@@ -10,7 +10,7 @@ use Rattle.model.specs.Settings.{settingsOf}
 use Rattle.model.specs.Trees.{Block, fileTree}
 use Rattle.model.specs.Runs.{run}
 use Rattle.model.specs.Equalising.{equalise}
-use Rattle.model.specs.Layout.{layout, total}
+use Rattle.model.specs.Layout.{layout}
 use Rattle.model.specs.Answers.{Verdict, finished, refused}
 use Rattle.model.specs.Replies.{equalisedTree, laidTree, layOutReply, layOutOut}
 use Rattle.model.specs.Placement.{Fits, Placed}
@@ -19,10 +19,9 @@ use Rattle.model.proofs.Passes.{tree-back}
 use Rattle.theory.proofs.Views.{Alike, alike-trans}
 use Rattle.theory.proofs.Traces.{traced}
 use Rattle.theory.proofs.Agreement.{run-equalise}
-use Rattle.theory.proofs.Laid.{time-laid, placed-laid, run-laid}
-use Rattle.theory.proofs.Accepted.{EqualiseAccepted, equalise-accepted, lay-out-accepted}
-use Rattle.theory.proofs.Files.{fileOf, equalised-form, equalised-file, laid-sound, laid-file}
-use Rattle.theory.proofs.Running.{Runnable}
+use Rattle.theory.proofs.Laid.{placed-laid, run-laid}
+use Rattle.theory.proofs.Accepted.{EqualiseAccepted, equalise-accepted, lay-out-accepted, Runnable}
+use Rattle.theory.proofs.Files.{fileOf, equalised-form, task-runnable, equalised-file, laid-runnable, laid-file}
 
 -- an answer that is no refusal
 finish : (r : Verdict) → isFinished r ≡ true → (xs : List ℕ) × (r ≡ finished xs)
@@ -53,13 +52,8 @@ laid-from s task room xs a out ys q =
     let same : layout σ (fileTree (fileOf e)) ≡ layout σ e = ap (layout σ) (tree-back e) in
     let form = equalised-form s task room xs a in
     record {
-      plain = record { settings-good = a .settings-good; file-sound = a .file-sound; tree = refl; in-time = a .in-time };
-      laid = record {
-        settings-good = a .settings-good;
-        file-sound = rw same at (laid-sound s (fileOf e) (length out) ys l);
-        tree = tree-back (layout σ e);
-        in-time = omega (arith, time-laid σ e, ap (total σ) (tree-back e), l .in-time);
-      };
+      plain = task-runnable s task room xs a;
+      laid = subst (λ (x : Block). Runnable s Laid (fileOf x) x) same (laid-runnable s (fileOf e) (length out) ys l);
       is = laid-file s (fileOf e) out ys q ∙ ap fileOf same;
       fits = l .fits-window;
       placed = placed-laid σ e form (l .fits-window);

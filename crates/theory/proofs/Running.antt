@@ -1,29 +1,20 @@
 -- What the calls that run a file answer and leave, once nothing refuses: whole, stopped, and taken up.
 use Prim.Native.Nat.{ℕ, _≤_, _<_}
 use mathlib.Core.Path.{_≡_, refl, ap, _∙_}
-use mathlib.Core.Bool.{Bool, true, false}
+use mathlib.Core.Bool.{true, false}
 use mathlib.Core.List.{List, [], _∷_}
 use lib.ListN.{length}
 use borrow.Author.Tests.{eq-eqb, lt-leb, le-ltb}
 use Rattle.model.specs.declared.Form.{Form}
-use Rattle.model.specs.Settings.{settingsOf, badSettings}
+use Rattle.model.specs.Settings.{settingsOf}
 use Rattle.model.specs.Trees.{Block, fileTree}
-use Rattle.model.specs.Times.{time}
 use Rattle.model.specs.Runs.{Step, duration, Buffers, leave, cleared, run}
 use Rattle.model.specs.Stopping.{upto, Image, Saved, none, lastImage, imageOf, start, takeUp}
-use Rattle.model.specs.Refusals.{sound, fault}
-use Rattle.model.specs.Answers.{Verdict, finished, bit}
-use Rattle.model.specs.Replies.{badImage, ready, ended, stepsOf, runReply, runBuffers, imageAt, isSaved, stopReply, stopBuffers, imageOver, stopImage}
+use Rattle.model.specs.Answers.{finished, bit}
+use Rattle.model.specs.Replies.{badBuffers, badImage, ended, stepsOf, runReply, runBuffers, imageAt, isSaved, stopReply, stopBuffers, imageOver, stopImage}
 use Rattle.model.specs.Replies.{takenUp, takenBuffers, afterSave, resumeReply, resumeBuffers, restartReply, restartBuffers}
 use Rattle.model.specs.Chain.{Outputs, lend}
-use Rattle.theory.proofs.Accepted.{readied}
-
--- a file that reads as the block b, within P
-pub record Runnable (s : List ℕ) (f : Form) (file : List ℕ) (b : Block) : Type 0 where
-  pub settings-good : badSettings s ≡ false
-  pub file-sound : fault f file ≡ sound
-  pub tree : fileTree file ≡ b
-  pub in-time : time (settingsOf s) b ≤ settingsOf s .period
+use Rattle.theory.proofs.Accepted.{Runnable, readied}
 
 -- the image of the last SAVE that is finished at the stop
 abbrev pub savedAt : ℕ → List Step → List ℕ → Saved
@@ -40,42 +31,50 @@ pub record LentLengths (ins v : List ℕ) (o : Outputs) : Type 0 where
   pub levels : length (o .levels) ≡ 8
   pub marks : length (o .marks) ≡ 8
 
-module _ (s : List ℕ) (f : Form) (file : List ℕ) (b : Block) (r : Runnable s f file b) (ins v : List ℕ) (o : Outputs) (l : LentLengths ins v o) where
-  ready-to-run : (cause : Bool) (next : Verdict) → cause ≡ false → ready (lend s f file ins v o) cause next ≡ next
-  ready-to-run cause next =
-      readied (lend s f file ins v o) cause next (r .settings-good) (r .file-sound) (rw (r .tree) (r .in-time))
-      (rw (eq-eqb (length v) 16 (l .variables), eq-eqb (length ins) 8 (l .inputs), eq-eqb (length (o .levels)) 8 (l .levels), eq-eqb (length (o .marks)) 8 (l .marks)))
+pub lengths-good : (s : List ℕ) (f : Form) (file ins v : List ℕ) (o : Outputs) → LentLengths ins v o → badBuffers (lend s f file ins v o) ≡ false
+lengths-good s f file ins v o l =
+    rw (eq-eqb (length v) 16 (l .variables), eq-eqb (length ins) 8 (l .inputs), eq-eqb (length (o .levels)) 8 (l .levels), eq-eqb (length (o .marks)) 8 (l .marks))
 
-  steps : stepsOf (lend s f file ins v o) ≡ run (settingsOf s) ins b 0 v
-  unfolding stepsOf
-  steps = rw (r .tree)
+-- the steps of a run
+pub steps : (s : List ℕ) (f : Form) (file : List ℕ) (b : Block) → fileTree file ≡ b → (ins v : List ℕ) (o : Outputs)
+    → stepsOf (lend s f file ins v o) ≡ run (settingsOf s) ins b 0 v
+unfolding stepsOf
+steps s f file b e ins v o = rw e
+
+module _ (s : List ℕ) (f : Form) (file : List ℕ) (b : Block) (r : Runnable s f file b) (ins v : List ℕ) (o : Outputs)
+    (h : badBuffers (lend s f file ins v o) ≡ false) where
+  the-steps : stepsOf (lend s f file ins v o) ≡ run (settingsOf s) ins b 0 v
+  the-steps = steps s f file b (r .tree) ins v o
 
   -- WHOLE
 
-  pub run-answer : runReply (lend s f file ins v o) ≡ ended 0 (run (settingsOf s) ins b 0 v)
+  pub run-steps : runReply (lend s f file ins v o) ≡ ended 0 (stepsOf (lend s f file ins v o))
   unfolding runReply
-  run-answer = ready-to-run false (ended 0 (stepsOf (lend s f file ins v o))) refl ∙ ap (ended 0) steps
+  run-steps = readied s f file b r ins v o h false (ended 0 (stepsOf (lend s f file ins v o))) refl
+
+  pub run-answer : runReply (lend s f file ins v o) ≡ ended 0 (run (settingsOf s) ins b 0 v)
+  run-answer = run-steps ∙ ap (ended 0) the-steps
 
   pub run-leaves : runBuffers (lend s f file ins v o) ≡ leave (run (settingsOf s) ins b 0 v) (cleared v)
   unfolding runBuffers
-  run-leaves = rw (run-answer, steps)
+  run-leaves = rw (run-answer, the-steps)
 
   -- STOPPED
 
   module _ (image : List ℕ) (has-room : length image ≡ 72) (stop : ℕ) (early : stop < duration (run (settingsOf s) ins b 0 v)) where
     image-at : imageAt (lend s f file ins v o) stop ≡ savedAt stop (run (settingsOf s) ins b 0 v) v
     unfolding imageAt
-    image-at = rw steps
+    image-at = rw the-steps
 
     pub stop-answer : stopReply (lend s f file ins v o) image stop ≡ finished (stop ∷ 0 ∷ bit (isSaved (savedAt stop (run (settingsOf s) ins b 0 v) v)) ∷ [])
     unfolding stopReply
     stop-answer =
-        ready-to-run (badImage image) _ (rw (eq-eqb (length image) 72 has-room))
-        ∙ rw (steps, lt-leb (duration (run (settingsOf s) ins b 0 v)) stop early, image-at)
+        readied s f file b r ins v o h (badImage image) _ (rw (eq-eqb (length image) 72 has-room))
+        ∙ rw (the-steps, lt-leb (duration (run (settingsOf s) ins b 0 v)) stop early, image-at)
 
     pub stop-leaves : stopBuffers (lend s f file ins v o) image stop ≡ leave (upto stop (run (settingsOf s) ins b 0 v)) (cleared v)
     unfolding stopBuffers
-    stop-leaves = rw (stop-answer, steps)
+    stop-leaves = rw (stop-answer, the-steps)
 
     pub stop-image : stopImage (lend s f file ins v o) image stop ≡ imageOver (savedAt stop (run (settingsOf s) ins b 0 v) v) image
     unfolding stopImage
@@ -93,7 +92,7 @@ module _ (s : List ℕ) (f : Form) (file : List ℕ) (b : Block) (r : Runnable s
 
   pub restart-answer : restartReply (lend s f file ins v o) ≡ ended 0 (takeUp (settingsOf s) ins b (start v))
   unfolding restartReply
-  restart-answer = ready-to-run false _ refl ∙ ap (ended 0) (taken (start v))
+  restart-answer = readied s f file b r ins v o h false _ refl ∙ ap (ended 0) (taken (start v))
 
   pub restart-leaves : restartBuffers (lend s f file ins v o) ≡ onward (takeUp (settingsOf s) ins b (start v)) (start v) o
   unfolding restartBuffers
@@ -104,7 +103,7 @@ module _ (s : List ℕ) (f : Form) (file : List ℕ) (b : Block) (r : Runnable s
     pub resume-answer : resumeReply (lend s f file ins v o) image ≡ ended (m .tick) (takeUp (settingsOf s) ins b m)
     unfolding resumeReply
     resume-answer =
-        ready-to-run (badImage image) _ (rw (eq-eqb (length image) 72 whole))
+        readied s f file b r ins v o h (badImage image) _ (rw (eq-eqb (length image) 72 whole))
         ∙ rw (reads, after, le-ltb (settingsOf s .period) (m .tick) early, taken m)
 
     pub resume-leaves : resumeBuffers (lend s f file ins v o) image ≡ onward (takeUp (settingsOf s) ins b m) m o

@@ -12,7 +12,7 @@ use Rattle.model.specs.Trees.{Block}
 use Rattle.model.specs.Runs.{Step, duration, outputsAfter, level, mark, overran, leave, cleared, run}
 use Rattle.model.specs.Stopping.{upto, Image, Saved, none, saved, imageBytes, imageOf, start, takeUp}
 use Rattle.model.specs.Answers.{bit}
-use Rattle.model.specs.Replies.{Loan, ended, isSaved, imageOver, stopBuffers, stopImage, resumeReply, resumeBuffers, restartReply, restartBuffers}
+use Rattle.model.specs.Replies.{Loan, badBuffers, ended, isSaved, imageOver, stopBuffers, stopImage, resumeReply, resumeBuffers, restartReply, restartBuffers}
 use Rattle.model.specs.Placement.{Fits, Placed, StepsPlaced}
 use Rattle.model.specs.Chain.{valueAt, isFinished, Outputs, lend, hasImage, takingUp, takenUpBuffers, imageTick, End, endOf, takenUpEnd}
 use Rattle.model.proofs.Images.{image-length, image-back}
@@ -23,8 +23,9 @@ use Rattle.theory.proofs.Stops.{upto-beyond, beyond-late, cut-off}
 use Rattle.theory.proofs.Outputs.{length-outputs}
 use Rattle.theory.proofs.Resuming.{orStart, taken-up}
 use Rattle.theory.proofs.Checkpoints.{checkpoint}
+use Rattle.theory.proofs.Accepted.{Runnable}
 use Rattle.theory.proofs.Files.{fileOf}
-use Rattle.theory.proofs.Running.{Runnable, LentLengths, savedAt, onward, stop-answer, stop-leaves, stop-image}
+use Rattle.theory.proofs.Running.{LentLengths, lengths-good, savedAt, onward, stop-answer, stop-leaves, stop-image}
 use Rattle.theory.proofs.Running.{restart-answer, restart-leaves, resume-answer, resume-leaves}
 
 -- the end that steps from the start lead to
@@ -59,22 +60,23 @@ module _ (s : List ℕ) (b : Block) (r : Runnable s Laid (fileOf b) b) (fits : F
   abbrev c : Loan
   c = lend s Laid (fileOf b) ins v o
 
-  left-lent : (w : List ℕ) → length w ≡ 16 → LentLengths ins w left
-  left-lent w h = record {
-    inputs = l .inputs;
-    variables = h;
-    levels = length-outputs level (upto stop es) (replicate 8 0);
-    marks = length-outputs mark (upto stop es) (replicate 8 0);
-  }
+  left-good : (w : List ℕ) → length w ≡ 16 → badBuffers (lend s Laid (fileOf b) ins w left) ≡ false
+  left-good w h =
+      lengths-good s Laid (fileOf b) ins w left (record {
+        inputs = l .inputs;
+        variables = h;
+        levels = length-outputs level (upto stop es) (replicate 8 0);
+        marks = length-outputs mark (upto stop es) (replicate 8 0);
+      })
 
   has : hasImage c image stop ≡ isSaved z
-  has = rw (stop-answer s Laid (fileOf b) b r ins v o l image image-room stop early) (bit-back (isSaved z))
+  has = rw (stop-answer s Laid (fileOf b) b r ins v o (lengths-good s Laid (fileOf b) ins v o l) image image-room stop early) (bit-back (isSaved z))
 
   state : stopBuffers c image stop ≡ leave (upto stop es) (cleared v)
-  state = stop-leaves s Laid (fileOf b) b r ins v o l image image-room stop early
+  state = stop-leaves s Laid (fileOf b) b r ins v o (lengths-good s Laid (fileOf b) ins v o l) image image-room stop early
 
   written : stopImage c image stop ≡ imageOver z image
-  written = stop-image s Laid (fileOf b) b r ins v o l image image-room stop early
+  written = stop-image s Laid (fileOf b) b r ins v o (lengths-good s Laid (fileOf b) ins v o l) image image-room stop early
 
   -- the calls as what the stop left decides them
   taking-up : takingUp c image spare stop
@@ -118,13 +120,13 @@ module _ (s : List ℕ) (b : Block) (r : Runnable s Laid (fileOf b) b) (fits : F
 
   at-end : (y : Saved) → z ≡ y → Ends c image spare stop es v z
   at-end none e =
-      let q = left-lent v (l .variables) in
+      let q = left-good v (l .variables) in
       finish (start v) (ap (orStart v) e)
       (taking-up ∙ rw e (restart-answer s Laid (fileOf b) b r ins v left q))
       (taken-up-leaves ∙ rw e (restart-leaves s Laid (fileOf b) b r ins v left q))
       (image-is ∙ rw e)
   at-end (saved m) e =
-      let q = left-lent spare spare-room in
+      let q = left-good spare spare-room in
       let k = checkpoint (settingsOf s) ins b (placed-loop-free (settingsOf s) b 0 placed) v stop m e in
       let sixteen = k .as-many ∙ l .variables in
       let back = image-back m sixteen in
