@@ -39,7 +39,7 @@ abbrev copied : List ℕ
 copied = file (row READ 0 0 0 0 0 ∷ row WRITE 0 0 0 0 0 ∷ [])
 
 -- 003's factorial: variable 0 is i, 1 is o
-abbrev factorial : List ℕ
+abbrev pub factorial : List ℕ
 factorial =
     file
     (row READ 0 0 0 0 0
@@ -104,13 +104,13 @@ outcome (finished xs) = 0 ∷ getD xs 1 0 ∷ []
 outcome (refused n xs) = n ∷ []
 
 -- the calls on it, in buffers that hold anything, stopped at a tick
-abbrev first : Bench → Set
+abbrev pub first : Bench → Set
 first c = record { variables = replicate 16 0; inputs = c .input ∷ replicate 7 0 }
 
-abbrev outs : Outputs
+abbrev pub outs : Outputs
 outs = record { levels = junk 8; marks = junk 8 }
 
-abbrev chain : Bench → ℕ → Chain
+abbrev pub chain : Bench → ℕ → Chain
 chain c stop = record {
   settings = c .rack;
   task = c .task;

@@ -13,6 +13,7 @@ use Rattle.model.specs.Runs.{Step, isBeat, isSave, starts, duration, overran, l
 use Rattle.model.specs.Equalising.{F, merge, equalise}
 use Rattle.model.specs.Layout.{ceiling, layout, total}
 use Rattle.model.specs.Stopping.{upto, none, lastImage}
+use Rattle.model.specs.Refusals.{sound, fault}
 use Rattle.model.specs.Answers.{finished}
 use Rattle.model.specs.Replies.{fileTime, timeReply, equalisedTree, equaliseReply, equaliseOut, laidTree, laidTotal, layOutReply, layOutOut}
 use Rattle.model.specs.Replies.{Loan, badBuffers, ended, stepsOf, runReply, imageAt, stopReply, stopBuffers, imageOver, stopImage}
@@ -87,8 +88,6 @@ pub record LaysOut (s file out xs : List ℕ) : Type 0 where
   pub writes : layOutOut s file out ≡ laidBytes s file ++ drop (length (laidBytes s file)) out
   -- what was written is a laid file whose time is the total
   pub file-time : timeReply s Laid (laidBytes s file) ≡ finished (laidTotal s file ∷ [])
-  -- "the file's time, or the total laid out, above P": the total decides
-  pub no-shorter : fileTime s file ≤ laidTotal s file
   -- the last BEAT starts at a multiple of H
   pub last-start : (laidTotal s file - settingsOf s .beat) % settingsOf s .window ≡ 0
   -- on every path each record is in place, and both sides of an IF end at one tick
@@ -120,6 +119,8 @@ pub record Stops (c : Loan) (image : List ℕ) (stop : ℕ) : Type 0 where
 pub record Demand2 : Type 0 where
   pub equalising : (s task out xs : List ℕ) → equaliseReply s task (length out) ≡ finished xs → Equalises s task out xs
   pub laying-out : (s file out xs : List ℕ) → layOutReply s file (length out) ≡ finished xs → LaysOut s file out xs
+  -- "the file's time, or the total laid out, above P": the total decides, whatever P is
+  pub no-shorter : (s file : List ℕ) → fault Equalised file ≡ sound → fileTime s file ≤ laidTotal s file
   pub stopping : (c : Loan) (image : List ℕ) (stop : ℕ) → Stops c image stop
 
 -- WHERE EACH PART IS PROVED
@@ -166,7 +167,6 @@ lays-out s file out xs e =
       answers = sym (ap (λ (n : ℕ). n ∷ laidTotal s file ∷ []) (length-file b) ∙ a .answers);
       writes = laid-written s file out xs e;
       file-time = timed s Laid (bytes (flatten b)) b r ∙ ap (λ (t : ℕ). finished (t ∷ [])) (time-laid σ tree);
-      no-shorter = total-longer σ tree p;
       last-start = last-start σ tree p (a .fits-window);
       placed = placed-laid σ tree p (a .fits-window);
       runs = λ ins v o h. record {
@@ -191,4 +191,9 @@ stops c image stop =
     }
 
 pub demand2 : Demand2
-demand2 = record { equalising = equalises; laying-out = lays-out; stopping = stops }
+demand2 = record {
+  equalising = equalises;
+  laying-out = lays-out;
+  no-shorter = λ s file e. total-longer (settingsOf s) (fileTree file) (sound-file Equalised file e .of-form);
+  stopping = stops;
+}
