@@ -17,7 +17,8 @@ use Rattle.model.specs.Answers.{Verdict}
 use Rattle.model.specs.Replies.{reading, timeReply, equalisedTree, equaliseReply, laidTree, layOutReply}
 use Rattle.model.specs.Replies.{Loan, ready, stepsOf, runReply, imageAt, stopReply, takenUp, resumeReply}
 use Rattle.model.specs.Chain.{lend}
-use Rattle.model.proofs.Bench.{row, file, settings, junk, said}
+use Rattle.model.proofs.Bench.{row, file, settings, junk}
+use Rattle.model.proofs.TurnedDown.{Case, answered, expected}
 
 abbrev rack : List ℕ
 rack = settings 20 100
@@ -42,25 +43,12 @@ fit f bs = lent f bs 16 8 8 8
 abbrev image : ℕ → ℕ → List ℕ
 image i t = imageBytes (record { index = i; tick = t; variables = replicate 16 0 })
 
--- an answer, and what the table says
-pub record Limit : Type 0 where
-  pub answer : Verdict
-  pub expects : List ℕ
-
 infix 30 _says_
-abbrev _says_ : Verdict → List ℕ → Limit
+abbrev _says_ : Verdict → List ℕ → Case
 _says_ r xs = record { answer = r; expects = xs }
 
-abbrev pub answered : List Limit → List (List ℕ)
-answered [] = []
-answered (l ∷ ls) = said (l .answer) ∷ answered ls
-
-abbrev pub expected : List Limit → List (List ℕ)
-expected [] = []
-expected (l ∷ ls) = l .expects ∷ expected ls
-
 -- "the file's time, or the total laid out, above P", after 7; "result longer than the lent buffer"
-pub written-limits : List Limit
+pub written-limits : List Case
 written-limits =
     (timeReply rack Task (waits 100) says 0 ∷ 100 ∷ [])
     ∷ (timeReply rack Task (waits 101) says 8 ∷ [])
@@ -84,7 +72,7 @@ unfolding
 written-limits-answered = refl
 
 -- "variables not 16, inputs not 8, outputs not 8 values and 8 marks, or image buffer not 72 bytes", after 8 and before 12
-pub lent-limits : List Limit
+pub lent-limits : List Case
 lent-limits =
     (runReply (fit Laid laidA) says 0 ∷ 23 ∷ 0 ∷ [])
     ∷ (runReply (lent Laid laidA 15 8 8 8) says 10 ∷ [])
@@ -108,7 +96,7 @@ unfolding
 lent-limits-answered = refl
 
 -- "image's index not just after a SAVE, or tick above P"
-pub image-limits : List Limit
+pub image-limits : List Case
 image-limits =
     (resumeReply (fit Laid laidA) (image 0 13) says 11 ∷ [])
     ∷ (resumeReply (fit Laid laidA) (image 1 13) says 11 ∷ [])
@@ -128,7 +116,7 @@ unfolding
 image-limits-answered = refl
 
 -- "stop tick at or past the run's end"
-pub stop-limits : List Limit
+pub stop-limits : List Case
 stop-limits =
     (stopReply (fit Laid laidA) (junk 72) 0 says 0 ∷ 0 ∷ 0 ∷ 0 ∷ [])
     ∷ (stopReply (fit Laid laidA) (junk 72) 12 says 0 ∷ 12 ∷ 0 ∷ 0 ∷ [])

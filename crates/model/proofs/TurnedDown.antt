@@ -9,6 +9,7 @@ use Rattle.model.specs.Records.{firstRecords, records, SKIP, SET, READ, 
 use Rattle.model.specs.Settings.{settingsOf, badSettings}
 use Rattle.model.specs.Trees.{stackOf, treeOf, fileTree}
 use Rattle.model.specs.Refusals.{fieldsFit, scan, fault}
+use Rattle.model.specs.Answers.{Verdict}
 use Rattle.model.specs.Replies.{reading, timeReply}
 use Rattle.model.proofs.Bench.{row, file, settings, junk, said}
 
@@ -27,27 +28,25 @@ valued k a b c = k ∷ 0 ∷ 0 ∷ 0 ∷ a ∷ b ∷ c ∷ 0 ∷ 0 ∷ 0 ∷ 0 �
 abbrev counted : ℕ → ℕ → ℕ → ℕ → List ℕ
 counted k a b c = k ∷ 0 ∷ 0 ∷ 0 ∷ 0 ∷ 0 ∷ 0 ∷ 0 ∷ a ∷ b ∷ c ∷ 0 ∷ []
 
--- settings, form and rows of a file, and the answer: the number and value, or 0 and the time
-pub record Turn : Type 0 where
-  pub rack : List ℕ
-  pub form : Form
-  pub rows : List (List ℕ)
-  pub answers : List ℕ
+-- an answer, and what the table says: the number and value, or 0 and the values of a finished result
+pub record Case : Type 0 where
+  pub answer : Verdict
+  pub expects : List ℕ
 
-abbrev turn : List ℕ → Form → List (List ℕ) → List ℕ → Turn
-turn s f rs a = record { rack = s; form = f; rows = rs; answers = a }
-
--- what the calls answer, and what the table says
-abbrev pub answered : List Turn → List (List ℕ)
+abbrev pub answered : List Case → List (List ℕ)
 answered [] = []
-answered (c ∷ cs) = said (timeReply (c .rack) (c .form) (file (c .rows))) ∷ answered cs
+answered (c ∷ cs) = said (c .answer) ∷ answered cs
 
-abbrev pub expected : List Turn → List (List ℕ)
+abbrev pub expected : List Case → List (List ℕ)
 expected [] = []
-expected (c ∷ cs) = c .answers ∷ expected cs
+expected (c ∷ cs) = c .expects ∷ expected cs
+
+-- timing a file of these rows
+abbrev turn : List ℕ → Form → List (List ℕ) → List ℕ → Case
+turn s f rs a = record { answer = timeReply s f (file rs); expects = a }
 
 -- "settings not 12 bytes, or a number outside its range": before anything of the file
-pub settings-turns : List Turn
+pub settings-turns : List Case
 settings-turns =
     turn (3 ∷ 3 ∷ 3 ∷ []) Task (junk 5 ∷ []) (6 ∷ [])
     ∷ turn (settings 0 100) Task [] (6 ∷ [])
@@ -70,7 +69,7 @@ unfolding settings-turns firstRecords records settingsOf badSettings stackOf tre
 settings-turns-answered = refl
 
 -- "file not whole records, or too many"
-pub length-turns : List Turn
+pub length-turns : List Case
 length-turns =
     turn long-period Task (replicate 256 (row SKIP 0 0 0 0 1)) (0 ∷ 256 ∷ [])
     ∷ turn long-period Task (replicate 257 (row SKIP 0 0 0 0 1)) (1 ∷ 3084 ∷ [])
@@ -84,7 +83,7 @@ unfolding length-turns firstRecords records settingsOf badSettings stackOf treeO
 length-turns-answered = refl
 
 -- "kind not of this file"
-pub kind-turns : List Turn
+pub kind-turns : List Case
 kind-turns =
     turn (settings 20 100) Task (row 0 0 0 0 0 0 ∷ []) (2 ∷ 0 ∷ [])
     ∷ turn (settings 20 100) Task (row TIMES 0 0 0 0 0 ∷ []) (2 ∷ 0 ∷ [])
@@ -102,7 +101,7 @@ unfolding kind-turns firstRecords records settingsOf badSettings stackOf treeOf 
 kind-turns-answered = refl
 
 -- "a field out of range or an unused byte not 0"
-pub field-turns : List Turn
+pub field-turns : List Case
 field-turns =
     turn (settings 20 100) Task (row SKIP 0 0 0 0 0 ∷ []) (3 ∷ 0 ∷ [])
     ∷ turn (settings 20 100) Task (row SKIP 1 0 0 0 1 ∷ []) (3 ∷ 0 ∷ [])
@@ -153,7 +152,7 @@ unfolding field-turns firstRecords records settingsOf badSettings stackOf treeOf
 field-turns-answered = refl
 
 -- "ELSE whose innermost open block is not an IF, END with no block open, IF closed with no ELSE, second ELSE, or a block open at the end"
-pub block-turns : List Turn
+pub block-turns : List Case
 block-turns =
     turn (settings 20 100) Task (row ELSE 0 0 0 0 0 ∷ []) (4 ∷ 0 ∷ [])
     ∷ turn (settings 20 100) Task (row WHILE 0 0 0 0 2 ∷ row ELSE 0 0 0 0 0 ∷ []) (4 ∷ 1 ∷ [])
@@ -174,7 +173,7 @@ unfolding block-turns firstRecords records settingsOf badSettings stackOf treeOf
 block-turns-answered = refl
 
 -- "2 to 5 are tried in turn at each record and the first record at fault decides"
-pub order-turns : List Turn
+pub order-turns : List Case
 order-turns =
     turn (settings 20 100) Task (row TIMES 9 9 9 9 0 ∷ []) (2 ∷ 0 ∷ [])
     ∷ turn (settings 20 100) Task (row ELSE 1 0 0 0 0 ∷ []) (3 ∷ 0 ∷ [])

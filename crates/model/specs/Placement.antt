@@ -1,4 +1,4 @@
--- Where the steps of a laid file stand, and what laying out asks of a block and of the settings: the predicates of the statements on it.
+-- Document 01, "Laying out", as predicates: what it asks of the settings and of a block, and where each step of a laid file stands.
 use Prim.Native.Nat.{ℕ, _+_, _*_, _%_, max, _≤_}
 use mathlib.Core.Path.{_≡_}
 use mathlib.Core.Bool.{true, false}

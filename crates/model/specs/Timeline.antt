@@ -1,4 +1,4 @@
--- What the statements on runs say of ticks and steps.
+-- Document 01, "Laying out" and "Stopping and taking up", as lists: the ticks, BEATs and steps of a run that their sentences single out.
 use Prim.Native.Nat.{ℕ, zero, suc, _+_, _%_}
 use mathlib.Core.Path.{_≡_}
 use mathlib.Core.Bool.{Bool, true, cond}

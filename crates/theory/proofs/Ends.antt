@@ -24,7 +24,7 @@ use Rattle.theory.proofs.Stops.{upto-ended}
 use Rattle.theory.proofs.Accepted.{Runnable}
 use Rattle.theory.proofs.Files.{fileOf}
 use Rattle.theory.proofs.Running.{LentLengths, lengths-good, savedAt, steps, run-answer, run-leaves, stop-answer}
-use Rattle.theory.proofs.StoppedOnce.{endFrom, Ends, ends-alike, soon, image-early}
+use Rattle.theory.proofs.StoppedOnce.{endFrom, EndsAs, ends-alike, soon, image-early}
 use Rattle.theory.proofs.Prepared.{Prepared, prepared}
 
 -- equal traces lead to equal ends
@@ -113,9 +113,9 @@ module _ (k : Chain) (lent : Lent k) (equalised : isFinished (equalising k) ≡ 
     l : LentLengths ins v (k .stopped)
     l = lengths (k .two) (k .stopped) (lent .two-lent) (lent .stopped-lent)
 
-    ends : Ends c (k .image) (k .spare) (k .stop) es v (savedAt (k .stop) es v)
+    ends : EndsAs c (k .image) (k .spare) (k .stop) es v (savedAt (k .stop) es v)
     ends =
-        subst (λ (x : Loan). Ends x (k .image) (k .spare) (k .stop) es v (savedAt (k .stop) es v)) (sym (loan (k .stopped)))
+        subst (λ (x : Loan). EndsAs x (k .image) (k .spare) (k .stop) es v (savedAt (k .stop) es v)) (sym (loan (k .stopped)))
         (ends-alike s b (p .laid) (p .fits) (p .placed) ins v (k .stopped) l (k .image) (lent .image-lent) (k .spare) (lent .spare-lent) (k .stop) early)
 
     pub stop-runs : isFinished (stopReply c (k .image) (k .stop)) ≡ true

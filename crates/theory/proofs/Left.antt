@@ -56,7 +56,7 @@ rest-0 (times q n a b) = refl
 
 module _ (σ : Settings) (ins : List ℕ) (R : ℕ → Run) where
   -- b stands at record i, and then comes g: R at each of its records does what is left of b, and then g
-  record Leads (i : ℕ) (b : Block) (g : Run) : Type 0 where
+  record Continues (i : ℕ) (b : Block) (g : Run) : Type 0 where
     at : (j : ℕ) → j ≤ size b → Alike unindexed (R (i + j)) (run σ ins (rest b j) (i + j) ⊳ g)
 
   -- a part and the block after it, and then g: the part, and then the block and g
@@ -66,23 +66,23 @@ module _ (σ : Settings) (ins : List ℕ) (R : ℕ → Run) where
       let both : Alike unindexed (run σ ins (a ⧺ b) i) (f ⊳ run σ ins b k) = alike-trans (alike-eq (run-⧺ σ ins a b i)) (alike-⊳ {f = f} {f′ = f} alike-refl (alike-move σ ins b (i + size a) k)) in
       alike-trans e (alike-trans (alike-⊳ {g = g} {g′ = g} both alike-refl) (alike-eq (⊳-assoc f (run σ ins b k) g)))
 
-  leads-here : (i : ℕ) (b : Block) (g : Run) → Leads i b g → Alike unindexed (R i) (run σ ins b i ⊳ g)
-  leads-here i b g c = rw (rest-0 b, add-zero i) at (c .at 0 (omega arith))
+  continues-here : (i : ℕ) (b : Block) (g : Run) → Continues i b g → Alike unindexed (R i) (run σ ins b i ⊳ g)
+  continues-here i b g c = rw (rest-0 b, add-zero i) at (c .at 0 (omega arith))
 
   -- behind a record that is no IF
-  leads-tail : (i : ℕ) (s b : Block) (g : Run) → size s ≡ 1 + size b → ((j : ℕ) → rest s (suc j) ≡ rest b j) → Leads i s g → Leads (i + 1) b g
-  leads-tail i s b g n r c = record { at = λ j l. let e : i + 1 + j ≡ i + suc j = omega arith in rw (e, ← r j) (c .at (suc j) (omega arith)) }
+  continues-tail : (i : ℕ) (s b : Block) (g : Run) → size s ≡ 1 + size b → ((j : ℕ) → rest s (suc j) ≡ rest b j) → Continues i s g → Continues (i + 1) b g
+  continues-tail i s b g n r c = record { at = λ j l. let e : i + 1 + j ≡ i + suc j = omega arith in rw (e, ← r j) (c .at (suc j) (omega arith)) }
 
-  module _ (i : ℕ) (q : Test) (a d b : Block) (g : Run) (c : Leads i (branch q a d b) g) where
-    leads-then : (k : ℕ) → Leads (i + 1) a (run σ ins b k ⊳ g)
-    leads-then k = record {
+  module _ (i : ℕ) (q : Test) (a d b : Block) (g : Run) (c : Continues i (branch q a d b) g) where
+    continues-then : (k : ℕ) → Continues (i + 1) a (run σ ins b k ⊳ g)
+    continues-then k = record {
       at = λ j l.
           let e : i + 1 + j ≡ i + suc j = omega arith in
           rw e (apart (R (i + suc j)) (rest a j) b (i + suc j) k g (rw (le-leb j (size a) l) at (c .at (suc j) (omega arith))));
     }
 
-    leads-else : (k : ℕ) → Leads (i + 2 + size a) d (run σ ins b k ⊳ g)
-    leads-else k = record {
+    continues-else : (k : ℕ) → Continues (i + 2 + size a) d (run σ ins b k ⊳ g)
+    continues-else k = record {
       at = λ j l.
           let n = 1 + size a + j in
           let e : i + 2 + size a + j ≡ i + suc n = omega arith in
@@ -91,8 +91,8 @@ module _ (σ : Settings) (ins : List ℕ) (R : ℕ → Run) where
           (rw (lt-leb n (size a) (omega arith), le-leb n (1 + size a + size d) (omega arith), y) at (c .at (suc n) (omega arith))));
     }
 
-    leads-after : Leads (i + 3 + size a + size d) b g
-    leads-after = record {
+    continues-after : Continues (i + 3 + size a + size d) b g
+    continues-after = record {
       at = λ j l.
           let n = 2 + size a + size d + j in
           let e : i + 3 + size a + size d + j ≡ i + suc n = omega arith in
@@ -101,31 +101,31 @@ module _ (σ : Settings) (ins : List ℕ) (R : ℕ → Run) where
     }
 
   -- every step of b, and then of g
-  goes-⊳ : (b : Block) (i : ℕ) (g : Run) → LoopFree b → Leads i b g → ((v : List ℕ) → Every (Goes R) (g v) v) → (v : List ℕ)
+  goes-⊳ : (b : Block) (i : ℕ) (g : Run) → LoopFree b → Continues i b g → ((v : List ℕ) → Every (Goes R) (g v) v) → (v : List ℕ)
       → Every (Goes R) ((run σ ins b i ⊳ g) v) v
   goes-⊳ nil i g u c h v = h v
-  goes-⊳ (skip n b) i g u c h v = (idle R n i v _, goes-⊳ b (i + 1) g u (leads-tail i (skip n b) b g refl (λ j. refl) c) h v)
+  goes-⊳ (skip n b) i g u c h v = (idle R n i v _, goes-⊳ b (i + 1) g u (continues-tail i (skip n b) b g refl (λ j. refl) c) h v)
   goes-⊳ (act p b) i g u c h v =
-      let next = leads-tail i (act p b) b g refl (λ j. refl) c in
+      let next = continues-tail i (act p b) b g refl (λ j. refl) c in
       let w = effect ins p v in
       every-single (Goes R) (ticks σ p) i (effect ins p) (run σ ins b (i + 1)) g v
-      (record { ends = λ x. rw x; one = overrun-one σ ins p v; resumes = λ x. rw (save-calm w x) (leads-here (i + 1) b g next .at (onVariables w v)) })
+      (record { ends = λ x. rw x; one = overrun-one σ ins p v; resumes = λ x. rw (save-calm w x) (continues-here (i + 1) b g next .at (onVariables w v)) })
       (goes-⊳ b (i + 1) g u next h (onVariables w v))
   goes-⊳ (branch q a d b) i g u c h v =
       let k = i + 3 + size a + size d in
-      let after = goes-⊳ b k g (u .2) (leads-after i q a d b g c) h in
+      let after = goes-⊳ b k g (u .2) (continues-after i q a d b g c) h in
       every-choose (Goes R) i q (run σ ins a (i + 1)) (run σ ins d (i + 2 + size a)) (run σ ins b k) g v (idle R 1 i v)
-      (goes-⊳ a (i + 1) (run σ ins b k ⊳ g) (u .0) (leads-then i q a d b g c k) after v)
-      (goes-⊳ d (i + 2 + size a) (run σ ins b k ⊳ g) (u .1) (leads-else i q a d b g c k) after v)
+      (goes-⊳ a (i + 1) (run σ ins b k ⊳ g) (u .0) (continues-then i q a d b g c k) after v)
+      (goes-⊳ d (i + 2 + size a) (run σ ins b k ⊳ g) (u .1) (continues-else i q a d b g c k) after v)
   goes-⊳ (while q n a b) i g u c h v = absurd u
   goes-⊳ (times q n a b) i g u c h v = absurd u
 
 module _ (σ : Settings) (ins : List ℕ) (b : Block) (u : LoopFree b) (i : ℕ) (v : List ℕ) where
   pub goes-run : Every (Goes (λ j. run σ ins (rest b (j - i)) j)) (run σ ins b i v) v
-  goes-run = every-nil (Goes R) (run σ ins b i) v (goes-⊳ σ ins R b i (λ w. []) u leads (λ w. tt) v)
+  goes-run = every-nil (Goes R) (run σ ins b i) v (goes-⊳ σ ins R b i (λ w. []) u continues (λ w. tt) v)
     where
       R : ℕ → Run
       R j = run σ ins (rest b (j - i)) j
 
-      leads : Leads σ ins R i b (λ w. [])
-      leads = record { at = λ j l. let e : i + j - i ≡ j = omega arith in rw e (alike-eq (λ w. sym (⊳-nil (run σ ins (rest b j) (i + j)) w))) }
+      continues : Continues σ ins R i b (λ w. [])
+      continues = record { at = λ j l. let e : i + j - i ≡ j = omega arith in rw e (alike-eq (λ w. sym (⊳-nil (run σ ins (rest b j) (i + j)) w))) }

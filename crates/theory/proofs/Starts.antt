@@ -75,14 +75,14 @@ pub uncrossed : (σ : Settings) (pre : List Step) (e : Step) (post : List Step) 
 uncrossed σ pre e post p = rw (zero-add (duration pre)) at (step-placed σ pre e post 0 p .ends)
 
 -- the ticks where a BEAT, a SAVE and a round start
-abbrev beatAt : Settings → ℕ → Bool
-beatAt σ u = eqb (u % σ .window) 0
+abbrev beatDue : Settings → ℕ → Bool
+beatDue σ u = eqb (u % σ .window) 0
 
-abbrev saveAt : Settings → ℕ → Bool
-saveAt σ u = eqb (u % round σ) (σ .beat)
+abbrev saveDue : Settings → ℕ → Bool
+saveDue σ u = eqb (u % round σ) (σ .beat)
 
-abbrev roundAt : Settings → ℕ → Bool
-roundAt σ u = eqb (u % round σ) 0
+abbrev roundStarts : Settings → ℕ → Bool
+roundStarts σ u = eqb (u % round σ) 0
 
 module _ (σ : Settings) (fits : Fits σ) where
   -- a tick inside a step in place
@@ -95,9 +95,9 @@ module _ (σ : Settings) (fits : Fits σ) where
 
   -- BEATs start at the multiples of H and at no other tick
   pub beat-starts : (es : List Step) (t : ℕ) → StepsPlaced σ t es → starts isBeat t es ≡ picks (λ u. eqb (u % σ .window) 0) t (duration es)
-  beat-starts = starts-picks σ isBeat (beatAt σ) told
+  beat-starts = starts-picks σ isBeat (beatDue σ) told
     where
-      told : (t : ℕ) (e : Step) → InPlace σ t (e .lasts) (e .does) → Told isBeat (beatAt σ) t e
+      told : (t : ℕ) (e : Step) → InPlace σ t (e .lasts) (e .does) → Told isBeat (beatDue σ) t e
       told t e p = record {
         here = p .beat-at;
         lasts = λ z. omega (arith, p .beat-lasts (p .beat-at ∙ z));
@@ -106,7 +106,7 @@ module _ (σ : Settings) (fits : Fits σ) where
 
   save-starts : (es : List Step) (t : ℕ) → StepsPlaced σ t es
       → starts isSave t es ≡ picks (λ u. eqb (u % (σ .spacing * σ .window)) (σ .beat)) t (duration es)
-  save-starts = starts-picks σ isSave (saveAt σ) told
+  save-starts = starts-picks σ isSave (saveDue σ) told
     where
       -- in a BEAT it is too early for a SAVE, in another step too late
       inside : (t d j : ℕ) (w : Effect) → InPlace σ t d w → 0 < j → j < d → (t + j) % round σ ≡ σ .beat → ⊥
@@ -116,7 +116,7 @@ module _ (σ : Settings) (fits : Fits σ) where
           go true e = omega (arith, eqb-true (t % σ .window) 0 (sym (p .beat-at) ∙ e), p .beat-lasts e, on t d j w p l, after (t + j) z)
           go false e = omega (arith, p .clear e, on t d j w p l, after (t + j) z)
 
-      told : (t : ℕ) (e : Step) → InPlace σ t (e .lasts) (e .does) → Told isSave (saveAt σ) t e
+      told : (t : ℕ) (e : Step) → InPlace σ t (e .lasts) (e .does) → Told isSave (saveDue σ) t e
       told t e p = record {
         here = p .save-at;
         lasts = λ z. omega (arith, p .save-lasts (p .save-at ∙ z));
@@ -140,20 +140,20 @@ module _ (σ : Settings) (fits : Fits σ) where
           eq-eqb ((σ .beat + t) % round σ) (σ .beat) (rw (add-comm (σ .beat) t) (omega arith))
       go false e = ne-eqb ((σ .beat + t) % round σ) (σ .beat) (λ z. eqb-false (t % round σ) 0 e (back z))
 
-  picks-lag : (n : ℕ) → picks (saveAt σ) 0 n ≡ map (λ u. σ .beat + u) (multiples (round σ) (n - σ .beat))
+  picks-lag : (n : ℕ) → picks (saveDue σ) 0 n ≡ map (λ u. σ .beat + u) (multiples (round σ) (n - σ .beat))
   picks-lag n = go (n - σ .beat) refl
     where
-      none : (m : ℕ) → m ≤ σ .beat → picks (saveAt σ) 0 m ≡ []
-      none m l = picks-none (saveAt σ) 0 m
+      none : (m : ℕ) → m ≤ σ .beat → picks (saveDue σ) 0 m ≡ []
+      none m l = picks-none (saveDue σ) 0 m
           (λ j k. ne-eqb ((0 + j) % round σ) (σ .beat) (λ z. omega (arith, sym (mod-eq-of-lt (omega (arith, window-round σ fits))) ∙ z)))
 
-      go : (m : ℕ) → n - σ .beat ≡ m → picks (saveAt σ) 0 n ≡ map (λ u. σ .beat + u) (multiples (round σ) m)
+      go : (m : ℕ) → n - σ .beat ≡ m → picks (saveDue σ) 0 n ≡ map (λ u. σ .beat + u) (multiples (round σ) m)
       go zero e = none n (omega arith)
       go (suc m) e =
           let x : n ≡ σ .beat + suc m = omega arith in
           let y : 0 + σ .beat ≡ σ .beat + 0 = omega arith in
-          ap (picks (saveAt σ) 0) x ∙ picks-++ (saveAt σ) 0 (σ .beat) (suc m)
-          ∙ rw (none (σ .beat) (omega arith), y) (picks-later (saveAt σ) (roundAt σ) (σ .beat) 0 (suc m) lag)
+          ap (picks (saveDue σ) 0) x ∙ picks-++ (saveDue σ) 0 (σ .beat) (suc m)
+          ∙ rw (none (σ .beat) (omega arith), y) (picks-later (saveDue σ) (roundStarts σ) (σ .beat) 0 (suc m) lag)
 
   -- from tick 0: B after each multiple of K × H below the end less B
   pub save-list : (es : List Step) → StepsPlaced σ 0 es
@@ -165,8 +165,8 @@ module _ (σ : Settings) (fits : Fits σ) where
   cut s d b h l =
       let n = s + d - σ .beat in
       let e : s + d ≡ n + σ .beat = omega (arith, mod-le s (σ .window)) in
-      let none = picks-none (roundAt σ) (0 + n) (σ .beat) (λ j k. ne-eqb ((0 + n + j) % round σ) 0 (no-multiple (0 + n + j) (omega arith) (omega arith))) in
-      sym (ap (multiples (round σ)) e ∙ picks-++ (roundAt σ) 0 n (σ .beat) ∙ rw none (append-nil (multiples (round σ) n)))
+      let none = picks-none (roundStarts σ) (0 + n) (σ .beat) (λ j k. ne-eqb ((0 + n + j) % round σ) 0 (no-multiple (0 + n + j) (omega arith) (omega arith))) in
+      sym (ap (multiples (round σ)) e ∙ picks-++ (roundStarts σ) 0 n (σ .beat) ∙ rw none (append-nil (multiples (round σ) n)))
     where
       no-multiple : (u : ℕ) → s + d ≤ u + σ .beat → u < s + d → u % round σ ≡ 0 → ⊥
       no-multiple u f g z =

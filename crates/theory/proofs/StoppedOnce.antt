@@ -33,7 +33,7 @@ abbrev pub endFrom : List Step → List ℕ → End
 endFrom es v = record { buffers = leave es (cleared v); overran = bit (overran es) }
 
 -- what the run that is taken up answers and leaves, against the steps es of the whole run
-pub record Ends (c : Loan) (image spare : List ℕ) (stop : ℕ) (es : List Step) (v : List ℕ) (z : Saved) : Type 0 where
+pub record EndsAs (c : Loan) (image spare : List ℕ) (stop : ℕ) (es : List Step) (v : List ℕ) (z : Saved) : Type 0 where
   pub finishes : isFinished (takingUp c image spare stop) ≡ true
   pub end-tick : valueAt 0 (takingUp c image spare stop) ≡ duration es
   pub end : takenUpEnd c image spare stop ≡ endFrom es v
@@ -108,7 +108,7 @@ module _ (s : List ℕ) (b : Block) (r : Runnable s Laid (fileOf b) b) (fits : F
   finish : (m : Image) → orStart v z ≡ m → takingUp c image spare stop ≡ ended (m .tick) (takeUp (settingsOf s) ins b m)
       → takenUpBuffers c image spare stop ≡ onward (takeUp (settingsOf s) ins b m) m left
       → imageTick c image stop ≡ savedTick z
-      → Ends c image spare stop es v z
+      → EndsAs c image spare stop es v z
   finish m e a w i =
       let f = from m e in
       record {
@@ -118,7 +118,7 @@ module _ (s : List ℕ) (b : Block) (r : Runnable s Laid (fileOf b) b) (fits : F
         image-tick = i;
       }
 
-  at-end : (y : Saved) → z ≡ y → Ends c image spare stop es v z
+  at-end : (y : Saved) → z ≡ y → EndsAs c image spare stop es v z
   at-end none e =
       let q = left-good v (l .variables) in
       finish (start v) (ap (orStart v) e)
@@ -137,7 +137,7 @@ module _ (s : List ℕ) (b : Block) (r : Runnable s Laid (fileOf b) b) (fits : F
       (taken-up-leaves ∙ rw e (resume-leaves s Laid (fileOf b) b r ins spare left q (imageBytes m) m back long (k .after-save) in-time))
       (image-is ∙ rw (e, back))
 
-  pub ends-alike : Ends c image spare stop es v z
+  pub ends-alike : EndsAs c image spare stop es v z
   ends-alike = at-end z refl
 
   -- fewer than K × H ticks are run twice

@@ -15,7 +15,7 @@ use Rattle.model.proofs.Shapes.{Fit, and-left}
 use Rattle.theory.proofs.Forms.{Formed, depth-⧺}
 
 -- an act that may be laid out and is no command
-record Step (p : Act) : Type 0 where
+record Layable (p : Act) : Type 0 where
   fits : Fit Laid (actRec p)
   free : command p ≡ nothing
 
@@ -23,7 +23,7 @@ record Step (p : Act) : Type 0 where
 abbrev Unrolled : Block → Type 0
 Unrolled nil = Unit {0}
 Unrolled (skip n b) = Unrolled b
-Unrolled (act p b) = Step p × Unrolled b
+Unrolled (act p b) = Layable p × Unrolled b
 Unrolled (branch q a d b) = Fit Laid (testRec IF q 0) × Unrolled a × Unrolled d × Unrolled b
 Unrolled (while q n a b) = ⊥
 Unrolled (times q n a b) = ⊥
@@ -41,19 +41,19 @@ unrolled-copies zero b p = tt
 unrolled-copies (suc n) b p = unrolled-⧺ b (copies n b) p (unrolled-copies n b p)
 
 -- a CHECK, BEAT or SAVE is no record of an equalised file
-step : (p : Act) → Fit Equalised (actRec p) → Step p
-step (set o t l x) p = record { fits = record { kind = refl; fields = p .fields }; free = refl }
-step (read a x) p = record { fits = record { kind = refl; fields = p .fields }; free = refl }
-step (write a x) p = record { fits = record { kind = refl; fields = p .fields }; free = refl }
-step (check q) p = absurd (false≢true (p .kind))
-step (beat x) p = absurd (false≢true (p .kind))
-step (save m) p = absurd (false≢true (p .kind))
+layable : (p : Act) → Fit Equalised (actRec p) → Layable p
+layable (set o t l x) p = record { fits = record { kind = refl; fields = p .fields }; free = refl }
+layable (read a x) p = record { fits = record { kind = refl; fields = p .fields }; free = refl }
+layable (write a x) p = record { fits = record { kind = refl; fields = p .fields }; free = refl }
+layable (check q) p = absurd (false≢true (p .kind))
+layable (beat x) p = absurd (false≢true (p .kind))
+layable (save m) p = absurd (false≢true (p .kind))
 
 unrolled : (b : Block) → Formed Equalised b → Unrolled (unroll b)
 unfolding fieldsFit
 unrolled nil p = tt
 unrolled (skip n b) p = unrolled b p
-unrolled (act r b) p = (step r (p .0), unrolled b (p .1))
+unrolled (act r b) p = (layable r (p .0), unrolled b (p .1))
 unrolled (branch q a d b) p = (record { kind = refl; fields = p .0 .fields }, unrolled a (p .1), unrolled d (p .2), unrolled b (p .3))
 unrolled (while q n a b) p = absurd (false≢true (p .0 .kind))
 unrolled (times q n a b) p =
