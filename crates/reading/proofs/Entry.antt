@@ -1,0 +1,46 @@
+-- The settings are judged first and then the file; a file that was read is sound.
+use Prim.Native.Nat.{ℕ}
+use native.Mathlib.Omega.{arith}
+use mathlib.Core.Path.{_≡_, refl, sym, _∙_}
+use mathlib.Core.Bool.{Bool, true, false}
+use mathlib.Core.List.{List, []}
+use Rattle.model.specs.declared.Form.{Form}
+use Rattle.model.specs.declared.Settings.{Settings}
+use Rattle.model.specs.declared.Refusal.{Refusal}
+use Rattle.model.specs.Settings.{badSettings}
+use Rattle.model.specs.Refusals.{Fault, sound, faulty, fault}
+use Rattle.model.specs.Answers.{Verdict, finished}
+use Rattle.model.specs.Replies.{turnDown, unless, reading}
+use Rattle.records.specs.declared.settings.Decoded.{Decoded}
+use Rattle.records.specs.declared.settings.Decoded.the-variants.{Valid, Refused}
+use Rattle.records.specs.Decoded.{decoded, Decodes}
+use Rattle.reading.specs.declared.scan.Scanned.{Scanned}
+use Rattle.reading.specs.declared.scan.Scanned.the-variants.{Sound}
+use Rattle.reading.specs.Scanning.{scanned, Scans}
+use Rattle.reading.specs.Answers.{Reads}
+
+module _ (s : List ℕ) (f : Form) (file : List ℕ) where
+  -- the settings are refused, whatever the file
+  pub settings-refused : (x : Refusal) → Decodes s (Refused x) → Reads s f file (Refused x)
+  unfolding reading
+  settings-refused x D = record { reply = λ next. D .reply (unless (fault f file) next); settings = λ σ e. let z : _≡_ {A = ℕ} 0 1 = cc in absurd (omega arith) }
+
+  module _ (σ : Settings) (D : Decodes s (Valid σ)) where
+    then-scanned : (q : Scanned) → Scans f file q → (next : Verdict) → scanned q next ≡ reading s f file next
+    unfolding reading
+    then-scanned q S next = S .reply next ∙ D .reply (unless (fault f file) next)
+
+    pub file-refused : (x : Refusal) → Scans f file (Scanned.Refused x) → Reads s f file (Refused x)
+    file-refused x S = record { reply = then-scanned (Scanned.Refused x) S; settings = λ τ e. let z : _≡_ {A = ℕ} 0 1 = cc in absurd (omega arith) }
+
+    pub both-read : Scans f file Sound → Reads s f file (Valid σ)
+    both-read S = record { reply = then-scanned Sound S; settings = λ τ e. D .settings τ e }
+
+  pub read-sound : (σ : Settings) → Reads s f file (Valid σ) → fault f file ≡ sound
+  unfolding reading
+  read-sound σ R = go (badSettings s) refl (fault f file) refl (R .reply (finished []))
+    where
+      go : (a : Bool) → badSettings s ≡ a → (x : Fault) → fault f file ≡ x → finished [] ≡ turnDown 6 a (unless x (finished [])) → fault f file ≡ sound
+      go true h x k e = let z : _≡_ {A = ℕ} 0 1 = cc in absurd (omega arith)
+      go false h sound k e = k
+      go false h (faulty n y) k e = let z : _≡_ {A = ℕ} 0 1 = cc in absurd (omega arith)

@@ -1,0 +1,7 @@
+-- The scan of a file; then what crates above cite too: where blocks end, the blocks that fill a range, and that a file which was read is sound.
+pub mod KindTests
+pub mod OpenBlocks
+pub mod Scanning
+pub mod BlockEnds
+pub mod Filled
+pub mod Entry

@@ -1,0 +1,57 @@
+use mathlib.Core.Path.{sym, subst}
+use Rattle.records.specs.Decoded.{Decodes}
+use Rattle.reading.specs.Scanning.{Scans}
+use Rattle.reading.specs.Answers.{Reads}
+use Rattle.reading.proofs.Entry.{settings-refused, file-refused, both-read}
+use borrow.Author.Needs.{needs}
+use Rattle.reading.proofs.read.Statement.{statement}
+use Rattle.reading.proofs.read.Tie as tie
+
+decode-requires : tie.Need-decode-requires
+decode-requires c κs = search needs
+
+enum-known-decoded : tie.Need-enum-known-decoded
+enum-known-decoded c = search needs
+
+enum-told : tie.Need-enum-told
+enum-told c = search needs
+
+returns : tie.Need-returns
+returns c =
+    let e = c .enum-told .given .1 in
+    subst (Reads _ _ _) (sym e) (settings-refused _ _ _ _ (subst (Decodes _) e (c .before .before .decode .ensures)))
+
+scan-file-requires : tie.Need-scan-file-requires
+scan-file-requires c κs = search needs
+
+enum-told-2 : tie.Need-enum-told-2
+enum-told-2 c = search needs
+
+enum-known-scanned : tie.Need-enum-known-scanned
+enum-known-scanned c = search needs
+
+returns-2 : tie.Need-returns-2
+returns-2 c =
+    let v = c .before .before .before .before in
+    both-read _ _ _ _ (subst (Decodes _) (v .decoded .given .1) (v .before .before .decode .ensures))
+    (subst (Scans _ _) (c .enum-told2 .given .1) (c .before .before .scan-file .ensures))
+
+returns-3 : tie.Need-returns-3
+returns-3 c =
+    let v = c .before .before .before .before .before in
+    file-refused _ _ _ _ (subst (Decodes _) (v .decoded .given .1) (v .before .before .decode .ensures)) _
+    (subst (Scans _ _) (c .before .scanned .given .1) (c .before .before .before .scan-file .ensures))
+
+pub read-spec : {M : Type 1} → statement M
+read-spec =
+    tie.close
+    (tie.spec
+    decode-requires
+    enum-known-decoded
+    enum-told
+    returns
+    scan-file-requires
+    enum-told-2
+    enum-known-scanned
+    returns-2
+    returns-3)

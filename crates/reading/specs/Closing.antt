@@ -1,0 +1,35 @@
+-- The index of the ELSE or END that closes a block, by a count of the blocks opened in it.
+use Prim.Native.Nat.{ℕ, zero, suc, _+_, _-_, _≤_}
+use mathlib.Core.Path.{_≡_}
+use mathlib.Core.Bool.{Bool, cond, _||_}
+use mathlib.Core.List.{List}
+use lib.Dec.{eqb}
+use Rattle.model.specs.Records.{kindAt, IF, ELSE, WHILE, END, TIMES}
+use Rattle.reading.specs.declared.blocks.Pass.{Pass}
+use Rattle.reading.specs.declared.blocks.Pass.the-variants.{Ends, On}
+
+-- a record of a kind opens a block
+abbrev pub opensBlock : ℕ → Bool
+opensBlock k = eqb k IF || (eqb k WHILE || eqb k TIMES)
+
+-- what it makes of the count
+abbrev pub passTo : ℕ → ℕ → Pass
+passTo k n =
+    cond (opensBlock k) (On (n + 1))
+    (cond (eqb k ELSE) (cond (eqb n 0) Ends (On n))
+    (cond (eqb k END) (cond (eqb n 0) Ends (On (n - 1)))
+    (On n)))
+
+abbrev pub goOn : Pass → ℕ → (ℕ → ℕ) → ℕ
+goOn Ends i go = i
+goOn (On n) i go = go n
+
+-- of m records from i on, with n blocks opened, the first ELSE or END that closes none of these; i + m where there is none
+unfoldable pub closingIn : List ℕ → ℕ → ℕ → ℕ → ℕ
+closingIn s zero i n = i
+closingIn s (suc m) i n = goOn (passTo (kindAt s i) n) i (λ k. closingIn s m (i + 1) k)
+
+pub record Closes (s : List ℕ) (from to r : ℕ) : Type 0 where
+  pub is : r ≡ closingIn s (to - from) from 0
+  pub low : from ≤ r
+  pub high : r ≤ to

@@ -1,0 +1,47 @@
+-- A block that fills a range of a file's records: what the contracts over ranges speak of.
+use mathlib.Core.Path.{_≡_}
+use mathlib.Core.List.{List}
+use Prim.Native.Nat.{ℕ, _+_, _*_, _≤_}
+use lib.ListN.{length}
+use Rattle.model.specs.declared.Form.{Form}
+use Rattle.model.specs.Trees.{Block, nil, skip, act, branch, while, times, size, depth}
+use Rattle.model.proofs.Stands.{At}
+use Rattle.model.proofs.Sound.{OfForm}
+
+-- the records from i up to, not including, to are those of b, a block of form f that nests at most d deep
+pub record Fills (f : Form) (s : List ℕ) (i to d : ℕ) (b : Block) : Type 0 where
+  pub stands : At s i b
+  pub ends : i + size b ≡ to
+  pub shallow : depth b ≤ d
+  pub of-form : OfForm f b
+
+-- a range of the records of s
+pub record Ranged (s : List ℕ) (i to : ℕ) : Type 0 where
+  pub order : i ≤ to
+  pub inside : 12 * to ≤ length s
+
+-- the number of records of a block's first statement, and the block after it
+abbrev pub firstSize : Block → ℕ
+firstSize nil = 0
+firstSize (skip n b) = 1
+firstSize (act p b) = 1
+firstSize (branch q a d b) = 3 + size a + size d
+firstSize (while q n a b) = 2 + size a
+firstSize (times q n a b) = 2 + size a
+
+abbrev pub afterFirst : Block → Block
+afterFirst nil = nil
+afterFirst (skip n b) = b
+afterFirst (act p b) = b
+afterFirst (branch q a d b) = b
+afterFirst (while q n a b) = b
+afterFirst (times q n a b) = b
+
+-- the first block inside it: an IF's first side, or a loop's body
+abbrev pub firstPart : Block → Block
+firstPart nil = nil
+firstPart (skip n b) = nil
+firstPart (act p b) = nil
+firstPart (branch q a d b) = a
+firstPart (while q n a b) = a
+firstPart (times q n a b) = a

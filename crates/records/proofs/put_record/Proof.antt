@@ -1,0 +1,91 @@
+-- Every length is that at entry; what is written goes by the laws of Over: four stores, and two loans.
+use borrow.Author.Needs.{needs}
+use native.Mathlib.Omega.{arith}
+use mathlib.Core.Path.{_≡_, refl, _∙_}
+use mathlib.Core.List.{List, _++_}
+use Prim.Native.Nat.{ℕ, _≤_}
+use lib.ListN.{length, set, length-set}
+use Rattle.model.specs.Records.{wordBytes, recordBytes}
+use Rattle.model.specs.Replies.{over}
+use Rattle.records.specs.declared.Record.{Record}
+use Rattle.records.specs.Records.{recordOf}
+use Rattle.records.proofs.Over.{Part, part-start, part-put, lent, back, lent-length, part-lent, part-last}
+use Rattle.records.proofs.put_record.Statement.{statement}
+use Rattle.records.proofs.put_record.Tie as tie
+
+module _ (out : List ℕ) (r : Record) (room : 12 ≤ length out) where
+  -- the buffer after the four stores
+  abbrev stored : List ℕ
+  stored = set (set (set (set out 0 (r .kind)) 1 (r .op)) 2 (r .target)) 3 (r .left)
+
+  -- the two numbers are left
+  words-left : Part (recordBytes (recordOf r)) (wordBytes (r .value) ++ wordBytes (r .count)) out stored 4
+  words-left = part-put (part-put (part-put (part-put (part-start (recordBytes (recordOf r)) out room))))
+
+  -- the second is left
+  count-left : {ys : List ℕ} → ys ≡ over (wordBytes (r .value)) (lent stored 4) → Part (recordBytes (recordOf r)) (wordBytes (r .count)) out (back stored 4 ys) 8
+  count-left e = part-lent (wordBytes (r .value)) words-left e refl
+
+slice-write-out : tie.Need-slice-write-out
+slice-write-out c = search needs
+
+slice-write-out-2 : tie.Need-slice-write-out-2
+slice-write-out-2 c = simp length-set (omega arith)
+
+slice-write-out-3 : tie.Need-slice-write-out-3
+slice-write-out-3 c = simp length-set (omega arith)
+
+slice-write-out-4 : tie.Need-slice-write-out-4
+slice-write-out-4 c = simp length-set (omega arith)
+
+sub-put-word : tie.Need-sub-put-word
+sub-put-word c = simp length-set (omega arith)
+
+part-put-word-start : tie.Need-part-put-word-start
+part-put-word-start c = simp length-set (omega arith)
+
+part-put-word-end : tie.Need-part-put-word-end
+part-put-word-end c = search needs
+
+put-word-requires : tie.Need-put-word-requires
+put-word-requires c κs = rw lent-length (simp length-set (omega arith))
+
+sub-put-word-2 : tie.Need-sub-put-word-2
+sub-put-word-2 c = rw (c .before .out .given .1) (simp length-set (omega arith))
+
+part-put-word-start-2 : tie.Need-part-put-word-start-2
+part-put-word-start-2 c = rw (c .before .out .given .1) (simp length-set (omega arith))
+
+part-put-word-end-2 : tie.Need-part-put-word-end-2
+part-put-word-end-2 c = search needs
+
+put-word-requires-2 : tie.Need-put-word-requires-2
+put-word-requires-2 c κs = rw (lent-length, c .before .before .out .given .1) (simp length-set (omega arith))
+
+same-length : tie.Need-same-length
+same-length c = c .before .out2 .given .1 ∙ c .before .before .before .before .before .out .given .1 ∙ simp length-set
+
+returns : tie.Need-returns
+returns c =
+    let s = c .before .before .before .before .before .before .before .before .before in
+    let put = c .before .before .before .before .before .before .put-word in
+    part-last (count-left (s .args .out .now) (s .args .r) (s .pre) (put .ensures)) (c .before .before .put-word2 .ensures)
+
+pub put-record-spec : {M : Type 1} → statement M
+put-record-spec =
+    tie.close
+    (tie.spec
+    slice-write-out
+    slice-write-out-2
+    slice-write-out-3
+    slice-write-out-4
+    sub-put-word
+    part-put-word-start
+    part-put-word-end
+    put-word-requires
+    sub-put-word-2
+    part-put-word-start-2
+    part-put-word-end-2
+    put-word-requires-2
+    same-length
+    returns)

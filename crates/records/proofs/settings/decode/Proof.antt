@@ -1,0 +1,52 @@
+-- Settings of another length are bad, and of 12 bytes the range test decides.
+use borrow.Author.Needs.{needs}
+use borrow.Author.Tests.{eq-eqb, ne-eqb}
+use native.Mathlib.Omega.{arith}
+use mathlib.Core.Path.{_≡_, sym, _∙_}
+use mathlib.Core.Bool.{true, false}
+use mathlib.Core.List.{List}
+use Prim.Native.Nat.{ℕ}
+use lib.ListN.{length}
+use Rattle.model.specs.declared.Settings.{Settings}
+use Rattle.model.specs.declared.Refusal.{Refusal}
+use Rattle.model.specs.Settings.{settingsOf, outOfRange, badSettings}
+use Rattle.records.specs.Decoded.{Decodes}
+use Rattle.records.specs.declared.settings.Decoded.the-variants.{Valid, Refused}
+use Rattle.records.proofs.settings.decode.Statement.{statement}
+use Rattle.records.proofs.settings.decode.Tie as tie
+
+-- refused where row 6 holds
+refused-bad : (s : List ℕ) → badSettings s ≡ true → Decodes s (Refused Refusal.BadSettings)
+refused-bad s bad = record { reply = λ next. rw bad; settings = λ σ e. let z : _≡_ {A = ℕ} 0 1 = cc in absurd (omega arith) }
+
+-- valid where it does not
+valid-good : (s : List ℕ) (σ : Settings) → badSettings s ≡ false → σ ≡ settingsOf s → Decodes s (Valid σ)
+valid-good s σ good is = record { reply = λ next. rw good; settings = λ τ e. cc }
+
+-- of 12 bytes, the numbers decide
+of-twelve : (s : List ℕ) (σ : Settings) → length s ≡ 12 → σ ≡ settingsOf s → badSettings s ≡ outOfRange σ
+unfolding badSettings
+of-twelve s σ twelve is = rw (eq-eqb (length s) 12 twelve, is)
+
+returns : tie.Need-returns
+unfolding badSettings
+returns c = refused-bad _ (rw (ne-eqb _ _ (c .if1 .taken)))
+
+numbers-requires : tie.Need-numbers-requires
+numbers-requires c κs = search needs
+
+out-of-range-requires : tie.Need-out-of-range-requires
+out-of-range-requires c κs = search needs
+
+returns-2 : tie.Need-returns-2
+returns-2 c =
+    refused-bad _ (of-twelve _ _ (c .before .before .before .if1 .left) (c .before .before .numbers .ensures) ∙ sym (c .before .out-of-range .ensures) ∙ c .if2 .taken)
+
+returns-3 : tie.Need-returns-3
+returns-3 c =
+    let is = c .before .before .numbers .ensures in
+    valid-good _ _ (of-twelve _ _ (c .before .before .before .if1 .left) is ∙ sym (c .before .out-of-range .ensures) ∙ c .if2 .left) is
+
+pub decode-spec : {M : Type 1} → statement M
+decode-spec =
+    tie.close (tie.spec returns numbers-requires out-of-range-requires returns-2 returns-3)

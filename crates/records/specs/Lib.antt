@@ -1,0 +1,3 @@
+-- What the contracts of records cite beside the model's definitions.
+pub mod Records
+pub mod Decoded

@@ -1,0 +1,59 @@
+// Records of 12 bytes, read from a file and written to the front of a lent buffer.
+pub mod settings;
+pub mod words;
+
+ghost use mathlib.Core.Path.{_≡_};
+ghost use Prim.Native.Nat.{_+_, _*_, _≤_};
+ghost use lib.ListN.{length};
+ghost use Rattle.model.specs.Records.{kindAt, recordAt, recordBytes};
+ghost use Rattle.model.specs.Replies.{over};
+ghost use Rattle.records.specs.Records.{recordOf};
+use words::put_word;
+use words::word_at;
+
+// A record's kind, its three other bytes and its two numbers.
+pub struct Record {
+    pub kind: u8,
+    pub op: u8,
+    pub target: u8,
+    pub left: u8,
+    pub value: u32,
+    pub count: u32,
+}
+
+// The kind of the record with index i.
+pub fn kind_at(s: &[u8], i: usize) -> u8
+    requires { ⌜ 12 * i + 12 ≤ length (now s) ⌝ }
+    ensures { λ r. ⌜ r ≡ kindAt (now (s .entry)) i ⌝ }
+{
+    s[12 * i]
+}
+
+// The record with index i.
+pub fn record_at(s: &[u8], i: usize) -> Record
+    requires { ⌜ 12 * i + 12 ≤ length (now s) ⌝ }
+    ensures { λ r. ⌜ recordOf r ≡ recordAt (now (s .entry)) i ⌝ }
+{
+    let at = 12 * i;
+    Record {
+        kind: s[at],
+        op: s[at + 1],
+        target: s[at + 2],
+        left: s[at + 3],
+        value: word_at(s, at + 4),
+        count: word_at(s, at + 8),
+    }
+}
+
+// A record's bytes, over the first 12 of the buffer.
+pub fn put_record(out: &mut [u8], r: Record)
+    requires { ⌜ 12 ≤ length (now out) ⌝ }
+    ensures { λ _. ⌜ now (out .exit) ≡ over (recordBytes (recordOf r)) (now (out .entry)) ⌝ }
+{
+    out[0] = r.kind;
+    out[1] = r.op;
+    out[2] = r.target;
+    out[3] = r.left;
+    put_word(&mut out[4..], r.value);
+    put_word(&mut out[8..], r.count);
+}

@@ -1,0 +1,39 @@
+// Numbers of 32 bits: as 4 bytes, the lowest first, and their products.
+ghost use mathlib.Core.Path.{_≡_};
+ghost use Prim.Native.Nat.{_+_, _*_, _%_, _^_, _≤_, _<_};
+ghost use lib.ListN.{length};
+ghost use Rattle.model.specs.Records.{wordAt, wordBytes};
+ghost use Rattle.model.specs.Replies.{over};
+
+// A byte as a number: the bound spares every sum of bytes a proof.
+pub fn wide(b: u8) -> u32
+    ensures { λ r. ⌜ (r ≡ b) × (r < 256) ⌝ }
+{
+    b as u32
+}
+
+// The number in the 4 bytes from at on.
+pub fn word_at(s: &[u8], at: usize) -> u32
+    requires { ⌜ at + 4 ≤ length (now s) ⌝ }
+    ensures { λ r. ⌜ r ≡ wordAt (now (s .entry)) at ⌝ }
+{
+    wide(s[at]) + 256 * wide(s[at + 1]) + 65536 * wide(s[at + 2]) + 16777216 * wide(s[at + 3])
+}
+
+// A number's bytes, over the first 4 of the buffer.
+pub fn put_word(out: &mut [u8], n: u32)
+    requires { ⌜ 4 ≤ length (now out) ⌝ }
+    ensures { λ _. ⌜ now (out .exit) ≡ over (wordBytes n) (now (out .entry)) ⌝ }
+{
+    out[0] = (n % 256) as u8;
+    out[1] = (n / 256 % 256) as u8;
+    out[2] = (n / 256 / 256 % 256) as u8;
+    out[3] = (n / 256 / 256 / 256) as u8;
+}
+
+// The product modulo 2^32. Sums and differences are std::num's.
+pub fn wrapping_mul(a: u32, b: u32) -> u32
+    ensures { λ r. ⌜ r ≡ a * b % 2 ^ 32 ⌝ }
+{
+    ((a as u64) * (b as u64) % 4294967296) as u32
+}

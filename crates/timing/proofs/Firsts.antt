@@ -1,0 +1,193 @@
+-- What the time of a statement is, by the kind of its record and the times of the blocks inside it.
+use Prim.Native.Nat.{ℕ, _+_, _*_, _-_, _≤_, _<_, max}
+use native.Mathlib.Omega.{arith}
+use mathlib.Core.Path.{_≡_, refl, ap, sym, subst, _∙_}
+use mathlib.Core.Bool.{true, false, _&&_}
+use mathlib.Core.Logic.{_⊎_, inl, inr}
+use mathlib.Core.List.{List}
+use Rattle.model.specs.declared.Form.{Form}
+use Rattle.model.specs.declared.Settings.{Settings}
+use Rattle.model.specs.Records.{Rec, kindAt, recordAt}
+use Rattle.model.specs.Trees.{Test, Act, set, read, write, check, beat, save, Block, nil, skip, act, branch, while, times, size, actRec, testRec}
+use Rattle.model.specs.Times.{ticks, time}
+use Rattle.model.specs.Refusals.{testFits, between, fieldsFit}
+use Rattle.model.proofs.Shapes.{and-right, within, Fit}
+use Rattle.records.specs.declared.Record.{Record}
+use Rattle.records.specs.Records.{recordOf}
+use Rattle.reading.specs.Closing.{opensBlock, closingIn}
+use Rattle.reading.specs.Ranges.{Fills, firstSize, firstPart, afterFirst}
+use Rattle.reading.proofs.Filled.{act-opens, shut, Inside, fills-after, part-one, part-two}
+use Rattle.timing.specs.declared.ticks.Time.{Time}
+use Rattle.timing.specs.declared.ticks.Time.the-variants.{Ticks, OverPeriod}
+use Rattle.timing.specs.declared.blocks.Step.{Step}
+use Rattle.timing.specs.Times.{Gives, stepTicks, loopTicks}
+use Rattle.timing.proofs.Given.{was-ticks, was-over}
+use Rattle.timing.specs.Blocks.{firstTime, IsFirst, Steps, BlockTimes}
+
+-- a block's time is that of its first statement and of what follows it
+pub time-first : (σ : Settings) (b : Block) → time σ b ≡ firstTime σ b + time σ (afterFirst b)
+time-first σ nil = refl
+time-first σ (skip n b) = refl
+time-first σ (act p b) = refl
+time-first σ (branch q a d b) = refl
+time-first σ (while q n a b) = refl
+time-first σ (times q n a b) = refl
+
+act-ticks : (σ : Settings) (p : Act) → stepTicks σ (actRec p) ≡ ticks σ p
+act-ticks σ (set o t l x) = refl
+act-ticks σ (read a p) = refl
+act-ticks σ (write a p) = refl
+act-ticks σ (check q) = refl
+act-ticks σ (beat x) = refl
+act-ticks σ (save m) = refl
+
+-- the count of a loop is at least 1
+loop-count : (f : Form) (k : ℕ) (q : Test) (n : ℕ) → (k ≡ 7) ⊎ (k ≡ 9) → Fit f (testRec k q n) → 1 ≤ n
+unfolding fieldsFit
+loop-count f k q n h F = within 1 65535 n (and-right (testFits (testRec k q n)) (between 1 65535 n) (sym (fields h) ∙ F .fields)) .0
+  where
+    fields : (k ≡ 7) ⊎ (k ≡ 9) → fieldsFit (testRec k q n) ≡ (testFits (testRec k q n) && between 1 65535 n)
+    fields (inl e) = rw e
+    fields (inr e) = rw e
+
+-- the record r stands at i, before the end of a range that is timed with the settings σ and the depth d
+pub record Here (s : List ℕ) (i to d : ℕ) (σ : Settings) (r : Record) : Type 0 where
+  pub early : i < to
+  pub same : recordOf r ≡ recordAt s i
+
+module _ {s : List ℕ} {i to d : ℕ} {σ : Settings} {r : Record} (H : Here s i to d σ r) where
+  kind-is : {x : Rec} → recordAt s i ≡ x → r .kind ≡ x .kind
+  kind-is e = ap (λ (y : Rec). y .kind) (H .same ∙ e)
+
+  opens-is : {x : Rec} → recordAt s i ≡ x → opensBlock (r .kind) ≡ opensBlock (x .kind)
+  opens-is e = ap opensBlock (kind-is e)
+
+  -- A RECORD THAT OPENS NO BLOCK
+
+  plain-first : (f : Form) (b : Block) → opensBlock (r .kind) ≡ false → Fills f s i to d b → (stepTicks σ (recordOf r) ≡ firstTime σ b) × (firstSize b ≡ 1)
+  plain-first f nil h F = absurd (omega (arith, F .ends))
+  plain-first f (skip n b) h F = (ap (stepTicks σ) (H .same ∙ F .stands .0), refl)
+  plain-first f (act p b) h F = (ap (stepTicks σ) (H .same ∙ F .stands .0) ∙ act-ticks σ p, refl)
+  plain-first f (branch q a e b) h F = let z : _≡_ {A = ℕ} 0 1 = cc (opens-is (F .stands .0 .is)) in absurd (omega arith)
+  plain-first f (while q n a b) h F = let z : _≡_ {A = ℕ} 0 1 = cc (opens-is (F .stands .0 .is)) in absurd (omega arith)
+  plain-first f (times q n a b) h F = let z : _≡_ {A = ℕ} 0 1 = cc (opens-is (F .stands .0 .is)) in absurd (omega arith)
+
+  pub plain-steps : (t : ℕ) (o : Time) → opensBlock (r .kind) ≡ false → t ≡ stepTicks σ (recordOf r) → Gives (σ .period) t o
+      → Steps s i to d σ (record { time = o; next = i + 1 })
+  plain-steps t o h e g = record {
+    low = omega arith;
+    high = omega arith;
+    right = λ f b F.
+        let p = plain-first f b h F in
+        record { takes = subst (λ (n : ℕ). Gives (σ .period) n o) (e ∙ p .0) g; goes = omega arith };
+  }
+
+  -- A RECORD THAT OPENS ONE
+
+  opened : opensBlock (r .kind) ≡ true → opensBlock (kindAt s i) ≡ true
+  opened h = sym (opens-is refl) ∙ h
+
+  -- no block fills the range
+  nothing : ((f : Form) (b : Block) → Fills f s i to d b → ⊥) → Steps s i to d σ (record { time = OverPeriod; next = to })
+  nothing h = record { low = H .early; high = omega arith; right = λ f b F. absurd (h f b F) }
+
+  pub flat-steps : opensBlock (r .kind) ≡ true → d ≡ 0 → Steps s i to d σ (record { time = OverPeriod; next = to })
+  flat-steps h e = nothing (λ f b F. let p = part-one f s i to d b _ (H .early) F (opened h) refl in omega (arith, p .deep))
+
+  module _ (m : ℕ) (mid : m ≡ closingIn s (to - (i + 1)) (i + 1) 0) where
+    pub unclosed-steps : opensBlock (r .kind) ≡ true → to ≤ m → Steps s i to d σ (record { time = OverPeriod; next = to })
+    unclosed-steps h e = nothing (λ f b F. let p = part-one f s i to d b m (H .early) F (opened h) mid in omega (arith, p .early))
+
+    -- a loop whose body takes what a says
+    module _ (a o : Time) (A : BlockTimes s (i + 1) m (d - 1) σ a)
+        (L : 1 ≤ r .count → (t : ℕ) → Gives (σ .period) t a → Gives (σ .period) (loopTicks (recordOf r) t) o) where
+      loop-takes : (f : Form) (k : ℕ) (q : Test) (n : ℕ) (u : Block) → (k ≡ 7) ⊎ (k ≡ 9) → recordAt s i ≡ testRec k q n → Fit f (testRec k q n)
+          → Fills f s (i + 1) m (d - 1) u → Gives (σ .period) (loopTicks (testRec k q n) (time σ u)) o
+      loop-takes f k q n u h e fit F =
+          let c : r .count ≡ n = ap (λ (y : Rec). y .count) (H .same ∙ e) in
+          subst (λ (y : Rec). Gives (σ .period) (loopTicks y (time σ u)) o) (H .same ∙ e)
+          (L (omega (arith, loop-count f k q n h fit)) (time σ u) (A .right f u F))
+
+      loop-first : (f : Form) (b : Block) → opensBlock (r .kind) ≡ true → (r .kind ≡ 5 → ⊥) → Fills f s i to d b → IsFirst σ i b (record { time = o; next = m + 1 })
+      loop-first f nil h x F = absurd (omega (arith, F .ends))
+      loop-first f (skip n b) h x F = absurd (shut s i (F .stands .0) refl (opened h))
+      loop-first f (act p b) h x F = absurd (shut s i (F .stands .0) (act-opens p) (opened h))
+      loop-first f (branch q u e b) h x F = absurd (x (kind-is (F .stands .0 .is)))
+      loop-first f (while q n u b) h x F =
+          let p = part-one f s i to d (while q n u b) m (H .early) F (opened h) mid in
+          record { takes = loop-takes f 7 q n u (inl refl) (F .stands .0 .is) (F .of-form .0) (p .fills); goes = omega (arith, p .is) }
+      loop-first f (times q n u b) h x F =
+          let p = part-one f s i to d (times q n u b) m (H .early) F (opened h) mid in
+          record { takes = loop-takes f 9 q n u (inr refl) (F .stands .0 .is) (F .of-form .0) (p .fills); goes = omega (arith, p .is) }
+
+      pub loop-steps : opensBlock (r .kind) ≡ true → (r .kind ≡ 5 → ⊥) → i < m → m < to → Steps s i to d σ (record { time = o; next = m + 1 })
+      loop-steps h x u v = record { low = omega arith; high = omega arith; right = λ f b F. loop-first f b h x F }
+
+    module _ (n : ℕ) (end : n ≡ closingIn s (to - (m + 1)) (m + 1) 0) (k : r .kind ≡ 5) where
+      -- an IF, and what its two sides say
+      branch-only : (f : Form) (P : Block → Type 0) → ((q : Test) (a e b : Block) → Inside f s (i + 1) to d m a → Inside f s (m + 1) to d n e → P (branch q a e b))
+          → (b : Block) → Fills f s i to d b → P b
+      branch-only f P go nil F = absurd (omega (arith, F .ends))
+      branch-only f P go (skip c b) F = absurd (omega (arith, k, kind-is (F .stands .0)))
+      branch-only f P go (act p b) F = absurd (shut s i (F .stands .0) (act-opens p) (opened (ap opensBlock k)))
+      branch-only f P go (branch q a e b) F =
+          let p = part-one f s i to d (branch q a e b) m (H .early) F (opened (ap opensBlock k)) mid in
+          go q a e b p (part-two f s i to d q a e b m n F (p .is) end)
+      branch-only f P go (while q c a b) F = absurd (omega (arith, k, kind-is (F .stands .0 .is)))
+      branch-only f P go (times q c a b) F = absurd (omega (arith, k, kind-is (F .stands .0 .is)))
+
+      pub one-sided-steps : to ≤ n → Steps s i to d σ (record { time = OverPeriod; next = to })
+      one-sided-steps h = nothing (λ f b F. branch-only f (λ x. ⊥) (λ q a e c A E. omega (arith, E .early)) b F)
+
+      pub branch-steps : (x y o : Time) → i < n → n < to → BlockTimes s (i + 1) m (d - 1) σ x → BlockTimes s (m + 1) n (d - 1) σ y
+          → ((t u : ℕ) → Gives (σ .period) t x → Gives (σ .period) u y → Gives (σ .period) (1 + max t u) o)
+          → Steps s i to d σ (record { time = o; next = n + 1 })
+      branch-steps x y o u v X Y J = record {
+        low = omega arith;
+        high = omega arith;
+        right = λ f b F.
+            branch-only f (λ z. IsFirst σ i z (record { time = o; next = n + 1 }))
+            (λ q a e c A E. record { takes = J (time σ a) (time σ e) (X .right f a (A .fills)) (Y .right f e (E .fills)); goes = omega (arith, A .is, E .is) })
+            b F;
+      }
+
+-- THE SUM OVER A RANGE
+
+-- a block of n ticks of which sum have been counted: what is left fills the records from i on
+pub record Rest (f : Form) (s : List ℕ) (i to d : ℕ) (σ : Settings) (n sum : ℕ) : Type 0 where
+  pub left : Block
+  pub fills : Fills f s i to d left
+  pub sums : n ≡ sum + time σ left
+
+pub rest-all : (f : Form) (s : List ℕ) (i to d : ℕ) (σ : Settings) (b : Block) → Fills f s i to d b → Rest f s i to d σ (time σ b) 0
+rest-all f s i to d σ b F = record { left = b; fills = F; sums = omega arith }
+
+-- nothing is left at the end of the range
+pub rest-none : (f : Form) (s : List ℕ) (i to d : ℕ) (σ : Settings) (n sum : ℕ) → to ≤ i → Rest f s i to d σ n sum → n ≡ sum
+rest-none f s i to d σ n sum h R = omega (arith, R .sums, empty (R .left) (R .fills .ends))
+  where
+    empty : (b : Block) → i + size b ≡ to → time σ b ≡ 0
+    empty nil e = refl
+    empty (skip n b) e = absurd (omega arith)
+    empty (act p b) e = absurd (omega arith)
+    empty (branch q a d b) e = absurd (omega arith)
+    empty (while q n a b) e = absurd (omega arith)
+    empty (times q n a b) e = absurd (omega arith)
+
+module _ (f : Form) (s : List ℕ) (i to d : ℕ) (σ : Settings) (n sum : ℕ) (l : i < to) (r : Step) (S : Steps s i to d σ r) where
+  -- a statement above the period is too much
+  pub rest-over : r .time ≡ OverPeriod → Rest f s i to d σ n sum → σ .period < n
+  rest-over e R =
+      let p = S .right f (R .left) (R .fills) in
+      omega (arith, R .sums, time-first σ (R .left), was-over (σ .period) (firstTime σ (R .left)) (subst (Gives (σ .period) (firstTime σ (R .left))) e (p .takes)))
+
+  -- its ticks are counted, and the range goes on after it
+  pub rest-next : (t : ℕ) → r .time ≡ Ticks t → Rest f s i to d σ n sum → Rest f s (r .next) to d σ n (sum + t)
+  rest-next t e R =
+      let p = S .right f (R .left) (R .fills) in
+      let q = was-ticks (σ .period) (firstTime σ (R .left)) t (subst (Gives (σ .period) (firstTime σ (R .left))) e (p .takes)) in
+      record {
+        left = afterFirst (R .left);
+        fills = subst (λ (j : ℕ). Fills f s j to d (afterFirst (R .left))) (sym (p .goes)) (fills-after f s i to d (R .left) l (R .fills));
+        sums = omega (arith, R .sums, time-first σ (R .left), q);
+      }

@@ -1,0 +1,4 @@
+-- What an answer in ticks says, the time of a statement and of a range, and the reply of the call.
+pub mod Given
+pub mod Firsts
+pub mod Replies

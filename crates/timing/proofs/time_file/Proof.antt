@@ -1,0 +1,58 @@
+use mathlib.Core.Path.{subst}
+use Rattle.reading.specs.Answers.{Reads}
+use Rattle.timing.specs.Blocks.{BlockTimes}
+use Rattle.timing.proofs.Replies.{refused-reply, timed-reply}
+use borrow.Author.Needs.{needs}
+use Rattle.timing.proofs.time_file.Statement.{statement}
+use Rattle.timing.proofs.time_file.Tie as tie
+use Rattle.timing.proofs.time_file.Reads as reads
+use Rattle.timing.proofs.time_file.Lts as lts
+use Rattle.reading.proofs.read.Reads as read-reads
+use Rattle.timing.proofs.blocks.block_time.Reads as block-time-reads
+
+read-requires : tie.Need-read-requires
+read-requires c κs = search needs
+
+enum-known-read : tie.Need-enum-known-read
+enum-known-read c = search needs
+
+enum-known-read-2 : tie.Need-enum-known-read-2
+enum-known-read-2 c = search needs
+
+block-time-requires : tie.Need-block-time-requires
+block-time-requires c κs = search needs
+
+enum-known-time : tie.Need-enum-known-time
+enum-known-time c = search needs
+
+enum-told : tie.Need-enum-told
+enum-told c = search needs
+
+returns : tie.Need-returns
+returns c = refused-reply _ _ _ _ (subst (Reads _ _ _) (c .before .read2 .given .1) (c .before .before .before .read .ensures))
+
+returns-2 : tie.Need-returns-2
+returns-2 c =
+    let v = c .before .before .before .before .before in
+    timed-reply _ _ _ _ _ (subst (Reads _ _ _) (v .read3 .given .1) (v .before .before .read .ensures))
+    (subst (BlockTimes _ _ _ _ _) (c .before .time .given .1) (c .before .before .before .block-time .ensures))
+
+returns-3 : tie.Need-returns-3
+returns-3 c =
+    let v = c .before .before .before .before in
+    timed-reply _ _ _ _ _ (subst (Reads _ _ _) (v .read3 .given .1) (v .before .before .read .ensures))
+    (subst (BlockTimes _ _ _ _ _) (c .enum-told .given .1) (c .before .before .block-time .ensures))
+
+pub time-file-spec : {M : Type 1} → statement M
+time-file-spec =
+    tie.close
+    (tie.spec
+    read-requires
+    enum-known-read
+    enum-known-read-2
+    block-time-requires
+    enum-known-time
+    enum-told
+    returns
+    returns-2
+    returns-3)

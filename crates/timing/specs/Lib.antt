@@ -1,0 +1,3 @@
+-- What the contracts of timing cite beside the model's definitions.
+pub mod Times
+pub mod Blocks
