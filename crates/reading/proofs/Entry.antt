@@ -1,7 +1,7 @@
 -- The settings are judged first and then the file; a file that was read is sound.
 use Prim.Native.Nat.{ℕ}
 use native.Mathlib.Omega.{arith}
-use mathlib.Core.Path.{_≡_, refl, sym, _∙_}
+use mathlib.Core.Path.{_≡_, refl, _∙_}
 use mathlib.Core.Bool.{Bool, true, false}
 use mathlib.Core.List.{List, []}
 use Rattle.model.specs.declared.Form.{Form}
@@ -11,9 +11,8 @@ use Rattle.model.specs.Settings.{badSettings}
 use Rattle.model.specs.Refusals.{Fault, sound, faulty, fault}
 use Rattle.model.specs.Answers.{Verdict, finished}
 use Rattle.model.specs.Replies.{turnDown, unless, reading}
-use Rattle.records.specs.declared.settings.Decoded.{Decoded}
 use Rattle.records.specs.declared.settings.Decoded.the-variants.{Valid, Refused}
-use Rattle.records.specs.Decoded.{decoded, Decodes}
+use Rattle.records.specs.Decoded.{Decodes}
 use Rattle.reading.specs.declared.scan.Scanned.{Scanned}
 use Rattle.reading.specs.declared.scan.Scanned.the-variants.{Sound}
 use Rattle.reading.specs.Scanning.{scanned, Scans}

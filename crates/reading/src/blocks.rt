@@ -3,12 +3,14 @@ ghost use mathlib.Core.Path.{_≡_};
 ghost use Prim.Native.Nat.{_*_, _^_, _≤_, _<_};
 ghost use lib.ListN.{length};
 ghost use Rattle.reading.specs.Closing.{Closes, opensBlock, passTo};
+use records::kind_at;
+use records::kinds;
 
 // Whether a record of that kind opens a block.
 pub fn opens(kind: u8) -> bool
     ensures { λ r. ⌜ r ≡ opensBlock kind ⌝ }
 {
-    (kind == 5) | ((kind == 7) | (kind == 9))
+    (kind == kinds::IF) | ((kind == kinds::WHILE) | (kind == kinds::TIMES))
 }
 
 // What a record makes of the count of blocks opened: it ends the block, or the scan goes on.
@@ -22,14 +24,14 @@ fn passed(kind: u8, inner: usize) -> Pass
     ensures { λ r. ⌜ r ≡ passTo kind inner ⌝ }
 {
     match kind {
-        5 | 7 | 9 => Pass::On(inner + 1),
-        6 => {
+        kinds::IF | kinds::WHILE | kinds::TIMES => Pass::On(inner + 1),
+        kinds::ELSE => {
             if inner == 0 {
                 return Pass::Ends;
             }
             Pass::On(inner)
         }
-        8 => {
+        kinds::END => {
             if inner == 0 {
                 return Pass::Ends;
             }
@@ -47,7 +49,7 @@ pub fn closing(s: &[u8], from: usize, to: usize) -> usize
     let mut inner: usize = 0;
     let mut i = from;
     while i < to {
-        let p = passed(records::kind_at(s, i), inner);
+        let p = passed(kind_at(s, i), inner);
         match p {
             Pass::Ends => {
                 return i;

@@ -8,6 +8,7 @@ ghost use Rattle.model.specs.Refusals.{between, variable, port, unused, kindFit
 ghost use Rattle.records.specs.Records.{recordOf};
 use model::Form;
 use records::Record;
+use records::kinds;
 
 pub fn kind_fits(form: Form, kind: u8) -> bool
     ensures { λ r. ⌜ r ≡ kindFits form kind ⌝ }
@@ -87,12 +88,12 @@ pub fn fields_fit(r: Record) -> bool
 {
     let kind = r.kind;
     match kind {
-        1 => skip_fits(r),
-        2 => set_fits(r),
-        3 | 4 => port_fits(r),
-        5 | 10 => test_fits(r) & (r.count == 0),
-        7 | 9 => test_fits(r) & (1 <= r.count) & (r.count <= 65535),
-        11 => beat_fits(r),
+        kinds::SKIP => skip_fits(r),
+        kinds::SET => set_fits(r),
+        kinds::READ | kinds::WRITE => port_fits(r),
+        kinds::IF | kinds::CHECK => test_fits(r) & (r.count == 0),
+        kinds::WHILE | kinds::TIMES => test_fits(r) & (1 <= r.count) & (r.count <= 65535),
+        kinds::BEAT => beat_fits(r),
         _ => bare_fits(r),
     }
 }

@@ -4,6 +4,7 @@ ghost use mathlib.Core.List.{List};
 ghost use Prim.Native.Nat.{_<_};
 ghost use Rattle.model.specs.Refusals.{Open, afterElse, afterEnd, nest};
 ghost use Rattle.reading.specs.Nesting.{blocks, nested};
+use records::kinds;
 
 // The open blocks: how many, and a bit for each, the innermost lowest, which is 1 for an IF that still waits for its ELSE.
 pub struct Blocks {
@@ -49,16 +50,16 @@ pub fn nest(kind: u8, around: Blocks) -> Nested
     ensures { λ r. ⌜ ((os : List Open) → around ≡ blocks os → r ≡ nested (nest kind os)) ⌝ }
 {
     match kind {
-        5 => Nested::Inside(Blocks {
+        kinds::IF => Nested::Inside(Blocks {
             depth: around.depth + 1,
             waiting: 2 * around.waiting + 1,
         }),
-        7 | 9 => Nested::Inside(Blocks {
+        kinds::WHILE | kinds::TIMES => Nested::Inside(Blocks {
             depth: around.depth + 1,
             waiting: 2 * around.waiting,
         }),
-        6 => after_else(around),
-        8 => after_end(around),
+        kinds::ELSE => after_else(around),
+        kinds::END => after_end(around),
         _ => Nested::Inside(around),
     }
 }

@@ -1,4 +1,5 @@
 // Records of 12 bytes, read from a file and written to the front of a lent buffer.
+pub mod kinds;
 pub mod settings;
 pub mod words;
 

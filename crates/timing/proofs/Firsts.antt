@@ -1,5 +1,5 @@
 -- What the time of a statement is, by the kind of its record and the times of the blocks inside it.
-use Prim.Native.Nat.{ℕ, _+_, _*_, _-_, _≤_, _<_, max}
+use Prim.Native.Nat.{ℕ, _+_, _-_, _≤_, _<_, max}
 use native.Mathlib.Omega.{arith}
 use mathlib.Core.Path.{_≡_, refl, ap, sym, subst, _∙_}
 use mathlib.Core.Bool.{true, false, _&&_}
@@ -8,20 +8,18 @@ use mathlib.Core.List.{List}
 use Rattle.model.specs.declared.Form.{Form}
 use Rattle.model.specs.declared.Settings.{Settings}
 use Rattle.model.specs.Records.{Rec, kindAt, recordAt}
-use Rattle.model.specs.Trees.{Test, Act, set, read, write, check, beat, save, Block, nil, skip, act, branch, while, times, size, actRec, testRec}
+use Rattle.model.specs.Trees.{Test, Act, set, read, write, check, beat, save, Block, nil, skip, act, branch, while, times, actRec, testRec}
 use Rattle.model.specs.Times.{ticks, time}
 use Rattle.model.specs.Refusals.{testFits, between, fieldsFit}
 use Rattle.model.proofs.Shapes.{and-right, within, Fit}
 use Rattle.records.specs.declared.Record.{Record}
 use Rattle.records.specs.Records.{recordOf}
 use Rattle.reading.specs.Closing.{opensBlock, closingIn}
-use Rattle.reading.specs.Ranges.{Fills, firstSize, firstPart, afterFirst}
-use Rattle.reading.proofs.Filled.{act-opens, shut, Inside, fills-after, part-one, part-two}
+use Rattle.reading.specs.Ranges.{Fills, firstSize, afterFirst}
+use Rattle.reading.proofs.Filled.{act-opens, shut, Inside, part-one, part-two}
 use Rattle.timing.specs.declared.ticks.Time.{Time}
-use Rattle.timing.specs.declared.ticks.Time.the-variants.{Ticks, OverPeriod}
-use Rattle.timing.specs.declared.blocks.Step.{Step}
+use Rattle.timing.specs.declared.ticks.Time.the-variants.{OverPeriod}
 use Rattle.timing.specs.Times.{Gives, stepTicks, loopTicks}
-use Rattle.timing.proofs.Given.{was-ticks, was-over}
 use Rattle.timing.specs.Blocks.{firstTime, IsFirst, Steps, BlockTimes}
 
 -- a block's time is that of its first statement and of what follows it
@@ -149,45 +147,4 @@ module _ {s : List ℕ} {i to d : ℕ} {σ : Settings} {r : Record} (H : Here s 
             branch-only f (λ z. IsFirst σ i z (record { time = o; next = n + 1 }))
             (λ q a e c A E. record { takes = J (time σ a) (time σ e) (X .right f a (A .fills)) (Y .right f e (E .fills)); goes = omega (arith, A .is, E .is) })
             b F;
-      }
-
--- THE SUM OVER A RANGE
-
--- a block of n ticks of which sum have been counted: what is left fills the records from i on
-pub record Rest (f : Form) (s : List ℕ) (i to d : ℕ) (σ : Settings) (n sum : ℕ) : Type 0 where
-  pub left : Block
-  pub fills : Fills f s i to d left
-  pub sums : n ≡ sum + time σ left
-
-pub rest-all : (f : Form) (s : List ℕ) (i to d : ℕ) (σ : Settings) (b : Block) → Fills f s i to d b → Rest f s i to d σ (time σ b) 0
-rest-all f s i to d σ b F = record { left = b; fills = F; sums = omega arith }
-
--- nothing is left at the end of the range
-pub rest-none : (f : Form) (s : List ℕ) (i to d : ℕ) (σ : Settings) (n sum : ℕ) → to ≤ i → Rest f s i to d σ n sum → n ≡ sum
-rest-none f s i to d σ n sum h R = omega (arith, R .sums, empty (R .left) (R .fills .ends))
-  where
-    empty : (b : Block) → i + size b ≡ to → time σ b ≡ 0
-    empty nil e = refl
-    empty (skip n b) e = absurd (omega arith)
-    empty (act p b) e = absurd (omega arith)
-    empty (branch q a d b) e = absurd (omega arith)
-    empty (while q n a b) e = absurd (omega arith)
-    empty (times q n a b) e = absurd (omega arith)
-
-module _ (f : Form) (s : List ℕ) (i to d : ℕ) (σ : Settings) (n sum : ℕ) (l : i < to) (r : Step) (S : Steps s i to d σ r) where
-  -- a statement above the period is too much
-  pub rest-over : r .time ≡ OverPeriod → Rest f s i to d σ n sum → σ .period < n
-  rest-over e R =
-      let p = S .right f (R .left) (R .fills) in
-      omega (arith, R .sums, time-first σ (R .left), was-over (σ .period) (firstTime σ (R .left)) (subst (Gives (σ .period) (firstTime σ (R .left))) e (p .takes)))
-
-  -- its ticks are counted, and the range goes on after it
-  pub rest-next : (t : ℕ) → r .time ≡ Ticks t → Rest f s i to d σ n sum → Rest f s (r .next) to d σ n (sum + t)
-  rest-next t e R =
-      let p = S .right f (R .left) (R .fills) in
-      let q = was-ticks (σ .period) (firstTime σ (R .left)) t (subst (Gives (σ .period) (firstTime σ (R .left))) e (p .takes)) in
-      record {
-        left = afterFirst (R .left);
-        fills = subst (λ (j : ℕ). Fills f s j to d (afterFirst (R .left))) (sym (p .goes)) (fills-after f s i to d (R .left) l (R .fills));
-        sums = omega (arith, R .sums, time-first σ (R .left), q);
       }

@@ -1,4 +1,5 @@
--- What an answer in ticks says, the time of a statement and of a range, and the reply of the call.
+-- What an answer in ticks says, the time of a statement, the sum over a range, and the reply of the call.
 pub mod Given
 pub mod Firsts
+pub mod Sums
 pub mod Replies

@@ -8,7 +8,7 @@ use Rattle.model.specs.declared.Settings.{Settings}
 use Rattle.model.specs.declared.Refusal.{Refusal}
 use Rattle.model.specs.Trees.{fileTree}
 use Rattle.model.specs.Times.{time}
-use Rattle.model.specs.Answers.{Verdict, refusal}
+use Rattle.model.specs.Answers.{refusal}
 use Rattle.model.specs.Replies.{timeReply}
 use Rattle.model.proofs.Sound.{sound-file}
 use Rattle.records.specs.declared.settings.Decoded.the-variants.{Valid, Refused}

@@ -10,6 +10,7 @@ use crate::ticks::up_to;
 use model::Settings;
 use reading::blocks::closing;
 use reading::blocks::opens;
+use records::kinds;
 use records::record_at;
 
 // A statement's time, and the index of the record after it.
@@ -42,7 +43,7 @@ fn statement_time(s: &[u8], i: usize, to: usize, depth: usize, n: Settings) -> S
         return over;
     }
     let first = block_time(s, i + 1, mid, depth - 1, n);
-    if r.kind != 5 {
+    if r.kind != kinds::IF {
         return Step {
             time: loop_time(n.period, r, first),
             next: mid + 1,

@@ -5,6 +5,7 @@ ghost use Rattle.records.specs.Records.{recordOf};
 ghost use Rattle.timing.specs.Times.{Gives, setTicks, stepTicks, roundTicks, loopTicks};
 use model::Settings;
 use records::Record;
+use records::kinds;
 
 // A time in ticks, or that it is above the period.
 pub enum Time {
@@ -37,12 +38,12 @@ pub fn step_ticks(n: Settings, r: Record) -> u32
 {
     let kind = r.kind;
     match kind {
-        1 => r.count,
-        2 => set_ticks(n, r.op),
-        3 => n.read,
-        4 => n.write,
-        11 => n.beat,
-        12 => n.save,
+        kinds::SKIP => r.count,
+        kinds::SET => set_ticks(n, r.op),
+        kinds::READ => n.read,
+        kinds::WRITE => n.write,
+        kinds::BEAT => n.beat,
+        kinds::SAVE => n.save,
         _ => 1,
     }
 }
@@ -67,7 +68,7 @@ pub fn branch_time(period: u32, a: Time, b: Time) -> Time
 fn round_ticks(kind: u8, body: u32) -> u64
     ensures { λ r. ⌜ (r ≡ roundTicks kind body) × (r ≤ 2 ^ 32) ⌝ }
 {
-    if kind == 7 {
+    if kind == kinds::WHILE {
         return body as u64 + 1;
     }
     body as u64

@@ -5,10 +5,6 @@ use Rattle.timing.proofs.Replies.{refused-reply, timed-reply}
 use borrow.Author.Needs.{needs}
 use Rattle.timing.proofs.time_file.Statement.{statement}
 use Rattle.timing.proofs.time_file.Tie as tie
-use Rattle.timing.proofs.time_file.Reads as reads
-use Rattle.timing.proofs.time_file.Lts as lts
-use Rattle.reading.proofs.read.Reads as read-reads
-use Rattle.timing.proofs.blocks.block_time.Reads as block-time-reads
 
 read-requires : tie.Need-read-requires
 read-requires c κs = search needs

@@ -2,16 +2,11 @@ use Prim.Native.Nat.{ℕ, _+_, _-_, _≤_}
 use mathlib.Core.Path.{_≡_, refl, sym, ap, _∙_}
 use native.Mathlib.Omega.{arith}
 use borrow.Author.Needs.{needs}
-use Rattle.model.specs.Records.{kindAt}
 use Rattle.reading.specs.declared.blocks.Pass.{Pass}
 use Rattle.reading.specs.Closing.{passTo, goOn, closingIn}
 use Rattle.reading.proofs.BlockEnds.{pass-le, step, stop}
 use Rattle.reading.proofs.blocks.closing.Statement.{statement}
 use Rattle.reading.proofs.blocks.closing.Tie as tie
-use Rattle.reading.proofs.blocks.closing.Reads as reads
-use Rattle.reading.proofs.blocks.closing.Lts as lts
-use Rattle.reading.proofs.blocks.passed.Reads as passed-reads
-use Rattle.records.proofs.kind_at.Reads as kind-at-reads
 
 abbrev Inv-loop : tie.InvT-loop
 Inv-loop s from to inner₀ i₀ inner i = (i ≤ to) × (from + inner ≤ i) × (closingIn s (to - from) from 0 ≡ closingIn s (to - i) i inner)

@@ -1,19 +1,13 @@
-use Prim.Native.Nat.{ℕ, _+_, _*_, _-_, _≤_, _<_}
+-- The measure is the depth: a statement at a depth is timed within a block at that depth, and a block inside it one less deep.
+use Prim.Native.Nat.{ℕ, _+_, _*_, _-_, _<_}
 use native.Mathlib.Omega.{arith}
 use mathlib.Core.Bool.{true, false}
-use mathlib.Core.Path.{_≡_, refl, ap, sym, subst, _∙_}
+use mathlib.Core.Path.{_≡_, sym, _∙_}
 use borrow.Author.Needs.{needs}
 use borrow.Author.Tests.{not-true, not-false}
-use Rattle.model.specs.declared.Form.{Form}
-use Rattle.model.specs.Trees.{Block}
-use Rattle.model.specs.Times.{time}
 use Rattle.reading.specs.Closing.{opensBlock}
-use Rattle.reading.specs.Ranges.{Fills}
-use Rattle.timing.specs.declared.ticks.Time.the-variants.{Ticks}
-use Rattle.timing.specs.Times.{Gives}
-use Rattle.timing.proofs.Given.{gives-ticks, gives-over}
 use Rattle.timing.proofs.Firsts.{Here, plain-steps, flat-steps, unclosed-steps, loop-steps, one-sided-steps, branch-steps}
-use Rattle.timing.proofs.Firsts.{Rest, rest-all, rest-none, rest-over, rest-next}
+use Rattle.timing.proofs.Sums.{Counted, counted-start, counted-all, counted-over, counted-next, counted-past}
 use borrow.Fn.Kinds.{In}
 use borrow.Fn.PlainCycle.{Measures, is, falls, and}
 use Rattle.timing.proofs.blocks.block_time.Reads as block-time
@@ -63,8 +57,7 @@ statement-time-below t =
     statement-time.Pre
 
 abbrev block-time-Inv-loop : block-time-lts.InvT-loop
-block-time-Inv-loop s from to depth n sum₀ i₀ sum i =
-    (i ≤ to) × (sum ≤ n .period) × ((f : Form) (b : Block) → Fills f s from to depth b → Rest f s i to depth n (time n b) sum)
+block-time-Inv-loop s from to depth n sum₀ i₀ sum i = Counted s from to depth n i sum
 
 abbrev block-time-μ-loop : block-time-lts.MeasureT-loop
 block-time-μ-loop s from to depth n sum₀ i₀ sum i = to - i
@@ -73,10 +66,27 @@ abbrev block-time-claims : ℕ → block-time-lts.Claims
 block-time-claims t = (statement-time-below t, statement-time.Post)
 
 abbrev statement-time-claims : ℕ → statement-time-lts.Claims
-statement-time-claims t = (record-at-reads.Asked, record-at-reads.Learnt, opens-reads.Asked, opens-reads.Learnt, step-ticks-reads.Asked, step-ticks-reads.Learnt, up-to-reads.Asked, up-to-reads.Learnt, closing-reads.Asked, closing-reads.Learnt, block-time-below t, block-time.Post, loop-time-reads.Asked, loop-time-reads.Learnt, branch-time-reads.Asked, branch-time-reads.Learnt)
+statement-time-claims t = (
+  record-at-reads.Asked,
+  record-at-reads.Learnt,
+  opens-reads.Asked,
+  opens-reads.Learnt,
+  step-ticks-reads.Asked,
+  step-ticks-reads.Learnt,
+  up-to-reads.Asked,
+  up-to-reads.Learnt,
+  closing-reads.Asked,
+  closing-reads.Learnt,
+  block-time-below t,
+  block-time.Post,
+  loop-time-reads.Asked,
+  loop-time-reads.Learnt,
+  branch-time-reads.Asked,
+  branch-time-reads.Learnt,
+)
 
 block-time-loop-holds : (t : ℕ) → block-time-lts.Need-loop-holds (block-time-claims t) (block-time-at t) block-time.Post block-time-Inv-loop block-time-μ-loop
-block-time-loop-holds t c = (omega arith, omega arith, λ f b F. rest-all f _ _ _ _ _ b F)
+block-time-loop-holds t c = counted-start (omega arith)
 
 block-time-statement-time-requires : (t : ℕ) → block-time-lts.Need-statement-time-requires (block-time-claims t) (block-time-at t) block-time.Post block-time-Inv-loop block-time-μ-loop
 block-time-statement-time-requires t c κs = omega arith
@@ -89,20 +99,16 @@ block-time-enum-told t c = search needs
 
 block-time-returns : (t : ℕ) → block-time-lts.Need-returns (block-time-claims t) (block-time-at t) block-time.Post block-time-Inv-loop block-time-μ-loop
 block-time-returns t c =
-    let a = (c .before .before .before .before .before .before .args) in
-    let v = (c .before .before .before .before .loop) in
-    let S = (c .before .before .statement-time) .ensures in
-    record { right = λ f b F. gives-over _ _ (rest-over f _ _ _ _ _ _ _ ((c .before .before .before .loop-test) .taken) _ S ((c .enum-told) .given .1) (v .inv .2 f b F)) }
+    let w = c .before .before in
+    counted-over (w .before .before .loop .inv) (w .before .loop-test .taken) (w .statement-time .ensures) (c .enum-told .given .1)
 
 block-time-sub-if1 : (t : ℕ) → block-time-lts.Need-sub-if1 (block-time-claims t) (block-time-at t) block-time.Post block-time-Inv-loop block-time-μ-loop
 block-time-sub-if1 t c = omega arith
 
 block-time-returns-2 : (t : ℕ) → block-time-lts.Need-returns-2 (block-time-claims t) (block-time-at t) block-time.Post block-time-Inv-loop block-time-μ-loop
 block-time-returns-2 t c =
-    let a = (c .before .before .before .before .before .before .before .before .before .args) in
-    let v = (c .before .before .before .before .before .before .before .loop) in
-    let S = (c .before .before .before .before .before .statement-time) .ensures in
-    record { right = λ f b F. let R = rest-next f _ _ _ _ _ _ _ ((c .before .before .before .before .before .before .loop-test) .taken) _ S _ ((c .before .before .before .time) .given .1) (v .inv .2 f b F) in let e = R .sums in gives-over _ _ (omega arith) }
+    let w = c .before .before .before .before .before in
+    counted-past (w .before .before .loop .inv) (w .before .loop-test .taken) (w .statement-time .ensures) (c .before .before .before .time .given .1) (c .if1 .taken)
 
 block-time-add-sum : (t : ℕ) → block-time-lts.Need-add-sum (block-time-claims t) (block-time-at t) block-time.Post block-time-Inv-loop block-time-μ-loop
 block-time-add-sum t c = omega arith
@@ -112,16 +118,11 @@ block-time-loop-less t c = omega arith
 
 block-time-loop-again : (t : ℕ) → block-time-lts.Need-loop-again (block-time-claims t) (block-time-at t) block-time.Post block-time-Inv-loop block-time-μ-loop
 block-time-loop-again t c =
-    let a = (c .before .before .before .before .before .before .before .before .before .args) in
-    let v = (c .before .before .before .before .before .before .before .loop) in
-    let S = (c .before .before .before .before .before .statement-time) .ensures in
-    (S .high, omega arith, λ f b F. rest-next f _ _ _ _ _ _ _ ((c .before .before .before .before .before .before .loop-test) .taken) _ S _ ((c .before .before .before .time) .given .1) (v .inv .2 f b F))
+    let w = c .before .before .before .before .before in
+    counted-next (w .before .before .loop .inv) (w .before .loop-test .taken) (w .statement-time .ensures) (c .before .before .before .time .given .1) (c .if1 .left)
 
 block-time-returns-3 : (t : ℕ) → block-time-lts.Need-returns-3 (block-time-claims t) (block-time-at t) block-time.Post block-time-Inv-loop block-time-μ-loop
-block-time-returns-3 t c =
-    let a = (c .before .before .before .args) in
-    let v = (c .before .loop) in
-    record { right = λ f b F. let e = rest-none f _ _ _ _ _ _ _ ((c .loop-test) .left) (v .inv .2 f b F) in subst (λ (x : ℕ). Gives (a .n .period) x (Ticks (v .sum))) (sym e) (gives-ticks _ _ (v .inv .1)) }
+block-time-returns-3 t c = counted-all (c .before .loop .inv) (c .loop-test .left)
 
 -- what is known once the record is read, and once its kind is
 here : (t : ℕ) (c : statement-time-lts.After-record-at (statement-time-claims t) (statement-time-at t) statement-time.Post) →

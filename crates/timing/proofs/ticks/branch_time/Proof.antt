@@ -5,9 +5,6 @@ use Rattle.timing.proofs.Given.{branch-left, branch-right, branch-both}
 use borrow.Author.Needs.{needs}
 use Rattle.timing.proofs.ticks.branch_time.Statement.{statement}
 use Rattle.timing.proofs.ticks.branch_time.Tie as tie
-use Rattle.timing.proofs.ticks.branch_time.Reads as reads
-use Rattle.timing.proofs.ticks.branch_time.Lts as lts
-use Rattle.timing.proofs.ticks.up_to.Reads as up-to-reads
 
 enum-known-a : tie.Need-enum-known-a
 enum-known-a c = search needs

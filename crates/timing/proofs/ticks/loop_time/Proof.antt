@@ -6,10 +6,6 @@ use Rattle.timing.proofs.Given.{loop-over, loop-all}
 use borrow.Author.Needs.{needs}
 use Rattle.timing.proofs.ticks.loop_time.Statement.{statement}
 use Rattle.timing.proofs.ticks.loop_time.Tie as tie
-use Rattle.timing.proofs.ticks.loop_time.Reads as reads
-use Rattle.timing.proofs.ticks.loop_time.Lts as lts
-use Rattle.timing.proofs.ticks.round_ticks.Reads as round-ticks-reads
-use Rattle.timing.proofs.ticks.up_to.Reads as up-to-reads
 
 enum-known-body : tie.Need-enum-known-body
 enum-known-body c = search needs

@@ -3,8 +3,6 @@ use native.Mathlib.Omega.{arith}
 use borrow.Author.Needs.{needs}
 use Rattle.timing.proofs.ticks.round_ticks.Statement.{statement}
 use Rattle.timing.proofs.ticks.round_ticks.Tie as tie
-use Rattle.timing.proofs.ticks.round_ticks.Reads as reads
-use Rattle.timing.proofs.ticks.round_ticks.Lts as lts
 
 add-result : tie.Need-add-result
 add-result c = search needs

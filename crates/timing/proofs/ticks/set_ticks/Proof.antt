@@ -1,8 +1,6 @@
 use borrow.Author.Tests.{ne-eqb}
 use Rattle.timing.proofs.ticks.set_ticks.Statement.{statement}
 use Rattle.timing.proofs.ticks.set_ticks.Tie as tie
-use Rattle.timing.proofs.ticks.set_ticks.Reads as reads
-use Rattle.timing.proofs.ticks.set_ticks.Lts as lts
 
 returns : tie.Need-returns
 returns c = rw (c .if1 .taken)

@@ -2,9 +2,6 @@ use borrow.Author.Tests.{ne-eqb}
 use borrow.Author.Needs.{needs}
 use Rattle.timing.proofs.ticks.step_ticks.Statement.{statement}
 use Rattle.timing.proofs.ticks.step_ticks.Tie as tie
-use Rattle.timing.proofs.ticks.step_ticks.Reads as reads
-use Rattle.timing.proofs.ticks.step_ticks.Lts as lts
-use Rattle.timing.proofs.ticks.set_ticks.Reads as set-ticks-reads
 
 set-ticks-requires : tie.Need-set-ticks-requires
 set-ticks-requires c κs = search needs
@@ -28,7 +25,10 @@ returns-6 : tie.Need-returns-6
 returns-6 c = rw (c .match .keys6)
 
 returns-7 : tie.Need-returns-7
-returns-7 c = simp (ne-eqb _ _ (c .match .rest .1), ne-eqb _ _ (c .match .rest .0 .1), ne-eqb _ _ (c .match .rest .0 .0 .1), ne-eqb _ _ (c .match .rest .0 .0 .0 .1), ne-eqb _ _ (c .match .rest .0 .0 .0 .0 .1), ne-eqb _ _ (c .match .rest .0 .0 .0 .0 .0 .1))
+returns-7 c =
+    let n = c .match .rest in
+    simp
+    (ne-eqb _ _ (n .1), ne-eqb _ _ (n .0 .1), ne-eqb _ _ (n .0 .0 .1), ne-eqb _ _ (n .0 .0 .0 .1), ne-eqb _ _ (n .0 .0 .0 .0 .1), ne-eqb _ _ (n .0 .0 .0 .0 .0 .1))
 
 pub step-ticks-spec : {M : Type 1} → statement M
 step-ticks-spec =

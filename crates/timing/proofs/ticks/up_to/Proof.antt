@@ -2,8 +2,6 @@ use Rattle.timing.proofs.Given.{gives-ticks, gives-over}
 use borrow.Author.Needs.{needs}
 use Rattle.timing.proofs.ticks.up_to.Statement.{statement}
 use Rattle.timing.proofs.ticks.up_to.Tie as tie
-use Rattle.timing.proofs.ticks.up_to.Reads as reads
-use Rattle.timing.proofs.ticks.up_to.Lts as lts
 
 returns : tie.Need-returns
 returns c = gives-over _ _ (c .if1 .taken)
