@@ -9,7 +9,7 @@ use lib.Dec.{eqb, leb}
 use borrow.Author.Tests.{eqb-true, eqb-false, leb-true}
 use Rattle.model.specs.declared.Form.{Form}
 use Rattle.model.specs.declared.Form.the-variants.{Task, Equalised, Laid}
-use Rattle.model.specs.Records.{Rec, rec, IF, WHILE, TIMES}
+use Rattle.model.specs.Records.{Rec, rec, SET, READ, WRITE, IF, WHILE, TIMES, CHECK, BEAT, SAVE}
 use Rattle.model.specs.Trees.{Test, Act, set, read, write, check, beat, save, testRec, skipRec, actRec, elseRec, endRec}
 use Rattle.model.specs.Refusals.{between, kindFits, variable, port, unused, opFits, setFits, testFits, fieldsFit}
 
@@ -39,6 +39,15 @@ zeros [] e = tt
 zeros (n ∷ ns) e = (eqb-true n 0 (and-left (eqb n 0) (unused ns) e), zeros ns (and-right (eqb n 0) (unused ns) e))
 
 -- WHICH RECORDS THERE ARE
+
+-- what holds of the kind of every record that opens and closes no block, SKIP apart
+pub by-act : (P : ℕ → Type 0) → P SET → P READ → P WRITE → P CHECK → P BEAT → P SAVE → (p : Act) → P (actRec p .kind)
+by-act P s r w c b v (set o t l x) = s
+by-act P s r w c b v (read a p) = r
+by-act P s r w c b v (write a p) = w
+by-act P s r w c b v (check q) = c
+by-act P s r w c b v (beat x) = b
+by-act P s r w c b v (save m) = v
 
 -- a record of a form: its kind is one of the form's, and its fields are in range
 pub record Fit (f : Form) (r : Rec) : Type 0 where

@@ -10,14 +10,14 @@ use lib.ListN.{length}
 use borrow.Author.Tests.{eqb-true, ltb-false}
 use Rattle.model.specs.declared.Form.{Form}
 use Rattle.model.specs.Records.{Rec, IF, WHILE, TIMES, kindAt, recordAt, records, bytes}
-use Rattle.model.specs.Trees.{Test, Act, set, read, write, check, beat, save, Block, nil, skip, act, branch, while, times}
+use Rattle.model.specs.Trees.{Test, Act, Block, nil, skip, act, branch, while, times}
 use Rattle.model.specs.Trees.{size, depth, testRec, skipRec, actRec, elseRec, endRec, flatten, treeOf, fileTree}
 use Rattle.model.specs.Refusals.{maxRecords, maxDepth, kindFits, fieldsFit, Open, first, second, loop, Nesting, misplaced, inside, nest}
 use Rattle.model.specs.Refusals.{sound, faulty, deeper, scan, fault}
 use Rattle.model.proofs.Bytes.{Bytes, bytes-records, length-records, recordsAt, recordsAt-suc, records-at}
 use Rattle.model.proofs.Trees.{length-flatten, treeOf-flatten}
 use Rattle.model.proofs.Stands.{At, begins}
-use Rattle.model.proofs.Shapes.{Fit, Shape, is-skip, is-act, is-if, is-while, is-times, is-else, is-end, shape}
+use Rattle.model.proofs.Shapes.{by-act, Fit, Shape, is-skip, is-act, is-if, is-while, is-times, is-else, is-end, shape}
 
 -- BLOCKS
 
@@ -73,12 +73,7 @@ reopen : (f : Form) (m : ℕ) (os next : List Open) (rs : List Rec) → inside o
 reopen f m os next rs e p = let q : next ≡ os = cc in subst (λ (o : List Open). Parsed f m o rs) q p
 
 pub nest-act : (p : Act) (os : List Open) → nest (actRec p .kind) os ≡ inside os
-nest-act (set o t l x) os = refl
-nest-act (read a p) os = refl
-nest-act (write a p) os = refl
-nest-act (check q) os = refl
-nest-act (beat x) os = refl
-nest-act (save m) os = refl
+nest-act p os = by-act (λ k. nest k os ≡ inside os) refl refl refl refl refl refl p
 
 -- an empty block
 empty : (f : Form) (m n : ℕ) → n ≤ m → Inner f m n nil

@@ -7,7 +7,8 @@ use mathlib.Core.List.{List}
 use lib.Dec.{eqb}
 use borrow.Author.Tests.{ne-eqb}
 use Rattle.model.specs.Records.{Rec, kindAt, recordAt, ELSE, WHILE, END, TIMES}
-use Rattle.model.specs.Trees.{Test, Act, set, read, write, check, beat, save, Block, nil, skip, act, branch, while, times, size, actRec}
+use Rattle.model.specs.Trees.{Test, Act, Block, nil, skip, act, branch, while, times, size, actRec}
+use Rattle.model.proofs.Shapes.{by-act}
 use Rattle.model.proofs.Stands.{At, LoopAt}
 use Rattle.reading.specs.declared.blocks.Pass.{Pass}
 use Rattle.reading.specs.declared.blocks.Pass.the-variants.{Ends, On}
@@ -18,17 +19,12 @@ pub passes : (s : List ℕ) (i n : ℕ) {r : Rec} → recordAt s i ≡ r → pas
 passes s i n e = ap (λ (r : Rec). passTo (r .kind) n) e
 
 pass-act : (p : Act) (n : ℕ) → passTo (actRec p .kind) n ≡ On n
-pass-act (set o t l x) n = refl
-pass-act (read a p) n = refl
-pass-act (write a p) n = refl
-pass-act (check q) n = refl
-pass-act (beat x) n = refl
-pass-act (save m) n = refl
+pass-act p n = by-act (λ k. passTo k n ≡ On n) refl refl refl refl refl refl p
 
-pass-else : (n : ℕ) → passTo 6 (n + 1) ≡ On (n + 1)
+pass-else : (n : ℕ) → passTo ELSE (n + 1) ≡ On (n + 1)
 pass-else n = simp (ne-eqb (n + 1) 0 (λ e. omega arith))
 
-pass-end : (n : ℕ) → passTo 8 (n + 1) ≡ On n
+pass-end : (n : ℕ) → passTo END (n + 1) ≡ On n
 pass-end n = simp (ne-eqb (n + 1) 0 (λ e. omega arith)) (ap On (omega arith))
 
 -- a record opens at most one block
@@ -79,7 +75,7 @@ through-one s b next m l i n p B e =
     ∙ next (size b + l) l (i + 1) n B refl
     ∙ same s l (i + 1 + size b) (i + (1 + size b)) n (omega arith)
 
-pub through : (s : List ℕ) (b : Block) → Through s b
+through : (s : List ℕ) (b : Block) → Through s b
 through s nil m l i n at e = ap (λ (k : ℕ). closingIn s k i n) (omega arith) ∙ same s l i (i + 0) n (omega arith)
 through s (skip c b) m l i n at e = through-one s b (λ m l i n. through s b m l i n) m l i n (passes s i n (at .0)) (at .1) e
 through s (act p b) m l i n at e =

@@ -7,7 +7,8 @@ use mathlib.Core.List.{List}
 use lib.ListN.{length}
 use Rattle.model.specs.declared.Form.{Form}
 use Rattle.model.specs.Records.{Rec, kindAt, recordAt}
-use Rattle.model.specs.Trees.{Test, Act, set, read, write, check, beat, save, Block, nil, skip, act, branch, while, times, size, depth, actRec, elseRec, endRec}
+use Rattle.model.specs.Trees.{Test, Act, Block, nil, skip, act, branch, while, times, size, depth, actRec, elseRec, endRec}
+use Rattle.model.proofs.Shapes.{by-act}
 use Rattle.model.proofs.Stands.{At}
 use Rattle.model.proofs.Sound.{OfForm, Sound}
 use Rattle.reading.specs.declared.blocks.Pass.the-variants.{Ends}
@@ -17,12 +18,7 @@ use Rattle.reading.proofs.Scanning.{deepest}
 use Rattle.reading.proofs.BlockEnds.{passes, found}
 
 pub act-opens : (p : Act) → opensBlock (actRec p .kind) ≡ false
-act-opens (set o t l x) = refl
-act-opens (read a p) = refl
-act-opens (write a p) = refl
-act-opens (check q) = refl
-act-opens (beat x) = refl
-act-opens (save m) = refl
+act-opens p = by-act (λ k. opensBlock k ≡ false) refl refl refl refl refl refl p
 
 -- a record that opens no block is none that opens one
 pub shut : (s : List ℕ) (i : ℕ) {r : Rec} → recordAt s i ≡ r → opensBlock (r .kind) ≡ false → opensBlock (kindAt s i) ≡ true → ⊥

@@ -7,17 +7,17 @@ use mathlib.Core.List.{[], _∷_}
 use mathlib.Core.Logic.{_⊎_, inl, inr}
 use borrow.Author.Tests.{eq-eqb, ne-eqb, eqb-false}
 use lib.Dec.{eqb, leb}
-use Rattle.model.specs.Records.{Rec}
+use Rattle.model.specs.Records.{Rec, SKIP, SET, IF, WHILE, TIMES, CHECK, BEAT}
 use Rattle.model.specs.Refusals.{unused, variable, port, testFits, fieldsFit}
 
 -- IF and CHECK
-pub test-kind : (r : Rec) (t : Bool) → (r .kind ≡ 5) ⊎ (r .kind ≡ 10) → t ≡ testFits r → (t && eqb (r .count) 0) ≡ fieldsFit r
+pub test-kind : (r : Rec) (t : Bool) → (r .kind ≡ IF) ⊎ (r .kind ≡ CHECK) → t ≡ testFits r → (t && eqb (r .count) 0) ≡ fieldsFit r
 unfolding fieldsFit
 test-kind r t (inl k) e = rw (k, e, and-true (eqb (r .count) 0))
 test-kind r t (inr k) e = rw (k, e, and-true (eqb (r .count) 0))
 
 -- WHILE and TIMES
-pub loop-kind : (r : Rec) (t : Bool) → (r .kind ≡ 7) ⊎ (r .kind ≡ 9) → t ≡ testFits r → (t && leb 1 (r .count) && leb (r .count) 65535) ≡ fieldsFit r
+pub loop-kind : (r : Rec) (t : Bool) → (r .kind ≡ WHILE) ⊎ (r .kind ≡ TIMES) → t ≡ testFits r → (t && leb 1 (r .count) && leb (r .count) 65535) ≡ fieldsFit r
 unfolding fieldsFit
 loop-kind r t (inl k) e = rw (k, e, and-assoc (testFits r) (leb 1 (r .count)) (leb (r .count) 65535))
 loop-kind r t (inr k) e = rw (k, e, and-assoc (testFits r) (leb 1 (r .count)) (leb (r .count) 65535))
@@ -30,7 +30,7 @@ three-or-four k l h a b = go (eqb k 3) refl
     go false e = rw (e, eq-eqb k 4 (omega (arith, eqb-false k 3 e)))
 
 -- READ and WRITE
-pub port-kind : (r : Rec) → 1 ≤ r .kind → r .kind < 5 → (r .kind ≡ 1 → ⊥) → (r .kind ≡ 2 → ⊥)
+pub port-kind : (r : Rec) → 1 ≤ r .kind → r .kind < 5 → (r .kind ≡ SKIP → ⊥) → (r .kind ≡ SET → ⊥)
     → fieldsFit r ≡ (unused (r .op ∷ r .value ∷ r .count ∷ []) && variable (r .target) && port (r .left))
 unfolding fieldsFit
 port-kind r l h a b = rw (ne-eqb (r .kind) 1 a, ne-eqb (r .kind) 2 b, three-or-four (r .kind) l h a b)
@@ -40,8 +40,8 @@ outside k n (inl h) a b e = omega arith
 outside k n (inr h) a b e = omega arith
 
 -- every other kind
-pub bare-kind : (r : Rec) → (r .kind ≡ 1 → ⊥) → (r .kind ≡ 2 → ⊥) → ((r .kind ≡ 5) ⊎ (r .kind ≡ 10) → ⊥) → ((r .kind ≡ 7) ⊎ (r .kind ≡ 9) → ⊥)
-    → (r .kind ≡ 11 → ⊥) → (r .kind < 1) ⊎ (5 ≤ r .kind) → fieldsFit r ≡ unused (r .op ∷ r .target ∷ r .left ∷ r .value ∷ r .count ∷ [])
+pub bare-kind : (r : Rec) → (r .kind ≡ SKIP → ⊥) → (r .kind ≡ SET → ⊥) → ((r .kind ≡ IF) ⊎ (r .kind ≡ CHECK) → ⊥) → ((r .kind ≡ WHILE) ⊎ (r .kind ≡ TIMES) → ⊥)
+    → (r .kind ≡ BEAT → ⊥) → (r .kind < 1) ⊎ (5 ≤ r .kind) → fieldsFit r ≡ unused (r .op ∷ r .target ∷ r .left ∷ r .value ∷ r .count ∷ [])
 unfolding fieldsFit
 bare-kind r a b i w o m =
     let k = r .kind in

@@ -8,6 +8,7 @@ use mathlib.Core.Logic.{_⊎_, inl, inr}
 use borrow.Author.Tests.{ne-eqb}
 use lib.ListN.{length}
 use lib.Pow.{pow-mono}
+use Rattle.model.specs.Records.{IF, ELSE, WHILE, END, TIMES}
 use Rattle.model.specs.Refusals.{Open, first, second, loop, afterElse, afterEnd, nest}
 use Rattle.reading.specs.Nesting.{waits, bits, blocks, nested}
 use Rattle.reading.specs.declared.nesting.Blocks.{Blocks}
@@ -67,16 +68,16 @@ module _ (b : Blocks) where
   -- BY KIND
 
   module _ (k : ℕ) (os : List Open) (e : b ≡ blocks os) where
-    pub if-opens : k ≡ 5 → Inside (two (b .depth + 1) (2 * b .waiting + 1)) ≡ nested (nest k os)
+    pub if-opens : k ≡ IF → Inside (two (b .depth + 1) (2 * b .waiting + 1)) ≡ nested (nest k os)
     unfolding bits
     if-opens h = rw h (same (omega (arith, depth-is os e)) (omega (arith, waiting-is os e)))
 
-    pub loop-opens : (k ≡ 7) ⊎ (k ≡ 9) → Inside (two (b .depth + 1) (2 * b .waiting)) ≡ nested (nest k os)
+    pub loop-opens : (k ≡ WHILE) ⊎ (k ≡ TIMES) → Inside (two (b .depth + 1) (2 * b .waiting)) ≡ nested (nest k os)
     unfolding bits
     loop-opens (inl h) = rw h (same (omega (arith, depth-is os e)) (omega (arith, waiting-is os e)))
     loop-opens (inr h) = rw h (same (omega (arith, depth-is os e)) (omega (arith, waiting-is os e)))
 
-    pub others-stay : (k ≡ 5 → ⊥) → ((k ≡ 7) ⊎ (k ≡ 9) → ⊥) → (k ≡ 6 → ⊥) → (k ≡ 8 → ⊥) → Inside b ≡ nested (nest k os)
+    pub others-stay : (k ≡ IF → ⊥) → ((k ≡ WHILE) ⊎ (k ≡ TIMES) → ⊥) → (k ≡ ELSE → ⊥) → (k ≡ END → ⊥) → Inside b ≡ nested (nest k os)
     others-stay i l o u = simp (ne-eqb k 5 i, ne-eqb k 7 (λ h. l (inl h)), ne-eqb k 9 (λ h. l (inr h)), ne-eqb k 6 o, ne-eqb k 8 u) (ap Inside e)
 
 -- AT MOST 16 DEEP

@@ -7,7 +7,7 @@ use mathlib.Core.Logic.{_⊎_, inl, inr}
 use mathlib.Core.List.{List}
 use Rattle.model.specs.declared.Form.{Form}
 use Rattle.model.specs.declared.Settings.{Settings}
-use Rattle.model.specs.Records.{Rec, kindAt, recordAt}
+use Rattle.model.specs.Records.{Rec, kindAt, recordAt, IF, WHILE, TIMES}
 use Rattle.model.specs.Trees.{Test, Act, set, read, write, check, beat, save, Block, nil, skip, act, branch, while, times, actRec, testRec}
 use Rattle.model.specs.Times.{ticks, time}
 use Rattle.model.specs.Refusals.{testFits, between, fieldsFit}
@@ -40,11 +40,11 @@ act-ticks σ (beat x) = refl
 act-ticks σ (save m) = refl
 
 -- the count of a loop is at least 1
-loop-count : (f : Form) (k : ℕ) (q : Test) (n : ℕ) → (k ≡ 7) ⊎ (k ≡ 9) → Fit f (testRec k q n) → 1 ≤ n
+loop-count : (f : Form) (k : ℕ) (q : Test) (n : ℕ) → (k ≡ WHILE) ⊎ (k ≡ TIMES) → Fit f (testRec k q n) → 1 ≤ n
 unfolding fieldsFit
 loop-count f k q n h F = within 1 65535 n (and-right (testFits (testRec k q n)) (between 1 65535 n) (sym (fields h) ∙ F .fields)) .0
   where
-    fields : (k ≡ 7) ⊎ (k ≡ 9) → fieldsFit (testRec k q n) ≡ (testFits (testRec k q n) && between 1 65535 n)
+    fields : (k ≡ WHILE) ⊎ (k ≡ TIMES) → fieldsFit (testRec k q n) ≡ (testFits (testRec k q n) && between 1 65535 n)
     fields (inl e) = rw e
     fields (inr e) = rw e
 
@@ -99,29 +99,29 @@ module _ {s : List ℕ} {i to d : ℕ} {σ : Settings} {r : Record} (H : Here s 
     -- a loop whose body takes what a says
     module _ (a o : Time) (A : BlockTimes s (i + 1) m (d - 1) σ a)
         (L : 1 ≤ r .count → (t : ℕ) → Gives (σ .period) t a → Gives (σ .period) (loopTicks (recordOf r) t) o) where
-      loop-takes : (f : Form) (k : ℕ) (q : Test) (n : ℕ) (u : Block) → (k ≡ 7) ⊎ (k ≡ 9) → recordAt s i ≡ testRec k q n → Fit f (testRec k q n)
+      loop-takes : (f : Form) (k : ℕ) (q : Test) (n : ℕ) (u : Block) → (k ≡ WHILE) ⊎ (k ≡ TIMES) → recordAt s i ≡ testRec k q n → Fit f (testRec k q n)
           → Fills f s (i + 1) m (d - 1) u → Gives (σ .period) (loopTicks (testRec k q n) (time σ u)) o
       loop-takes f k q n u h e fit F =
           let c : r .count ≡ n = ap (λ (y : Rec). y .count) (H .same ∙ e) in
           subst (λ (y : Rec). Gives (σ .period) (loopTicks y (time σ u)) o) (H .same ∙ e)
           (L (omega (arith, loop-count f k q n h fit)) (time σ u) (A .right f u F))
 
-      loop-first : (f : Form) (b : Block) → opensBlock (r .kind) ≡ true → (r .kind ≡ 5 → ⊥) → Fills f s i to d b → IsFirst σ i b (record { time = o; next = m + 1 })
+      loop-first : (f : Form) (b : Block) → opensBlock (r .kind) ≡ true → (r .kind ≡ IF → ⊥) → Fills f s i to d b → IsFirst σ i b (record { time = o; next = m + 1 })
       loop-first f nil h x F = absurd (omega (arith, F .ends))
       loop-first f (skip n b) h x F = absurd (shut s i (F .stands .0) refl (opened h))
       loop-first f (act p b) h x F = absurd (shut s i (F .stands .0) (act-opens p) (opened h))
       loop-first f (branch q u e b) h x F = absurd (x (kind-is (F .stands .0 .is)))
       loop-first f (while q n u b) h x F =
           let p = part-one f s i to d (while q n u b) m (H .early) F (opened h) mid in
-          record { takes = loop-takes f 7 q n u (inl refl) (F .stands .0 .is) (F .of-form .0) (p .fills); goes = omega (arith, p .is) }
+          record { takes = loop-takes f WHILE q n u (inl refl) (F .stands .0 .is) (F .of-form .0) (p .fills); goes = omega (arith, p .is) }
       loop-first f (times q n u b) h x F =
           let p = part-one f s i to d (times q n u b) m (H .early) F (opened h) mid in
-          record { takes = loop-takes f 9 q n u (inr refl) (F .stands .0 .is) (F .of-form .0) (p .fills); goes = omega (arith, p .is) }
+          record { takes = loop-takes f TIMES q n u (inr refl) (F .stands .0 .is) (F .of-form .0) (p .fills); goes = omega (arith, p .is) }
 
-      pub loop-steps : opensBlock (r .kind) ≡ true → (r .kind ≡ 5 → ⊥) → i < m → m < to → Steps s i to d σ (record { time = o; next = m + 1 })
+      pub loop-steps : opensBlock (r .kind) ≡ true → (r .kind ≡ IF → ⊥) → i < m → m < to → Steps s i to d σ (record { time = o; next = m + 1 })
       loop-steps h x u v = record { low = omega arith; high = omega arith; right = λ f b F. loop-first f b h x F }
 
-    module _ (n : ℕ) (end : n ≡ closingIn s (to - (m + 1)) (m + 1) 0) (k : r .kind ≡ 5) where
+    module _ (n : ℕ) (end : n ≡ closingIn s (to - (m + 1)) (m + 1) 0) (k : r .kind ≡ IF) where
       -- an IF, and what its two sides say
       branch-only : (f : Form) (P : Block → Type 0) → ((q : Test) (a e b : Block) → Inside f s (i + 1) to d m a → Inside f s (m + 1) to d n e → P (branch q a e b))
           → (b : Block) → Fills f s i to d b → P b

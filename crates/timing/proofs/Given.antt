@@ -7,6 +7,7 @@ use mathlib.Core.Bool.{Bool, true, false, cond}
 use mathlib.Core.List.{[], _∷_}
 use lib.Dec.{eqb, ltb}
 use borrow.Author.Tests.{lt-ltb, le-ltb, ltb-true, ltb-false}
+use Rattle.model.specs.Records.{WHILE}
 use Rattle.model.specs.Answers.{finished, refused}
 use Rattle.timing.specs.declared.ticks.Time.{Time}
 use Rattle.timing.specs.declared.ticks.Time.the-variants.{Ticks, OverPeriod}
@@ -54,7 +55,7 @@ longer false n t h = omega (arith, mul-le-mul-right t h)
 pub loop-over : (p k n t : ℕ) → 1 ≤ n → Gives p t OverPeriod → Gives p (n * roundTicks k t + 1) OverPeriod
 loop-over p k n t h g =
     let o = was-over p t g in
-    gives-over p (n * roundTicks k t + 1) (omega (arith, longer (eqb k 7) n t h))
+    gives-over p (n * roundTicks k t + 1) (omega (arith, longer (eqb k WHILE) n t h))
 
 pub loop-all : (p k n t x e : ℕ) (r : Time) → Gives p t (Ticks x) → e ≡ roundTicks k x → Gives p (n * e + 1) r → Gives p (n * roundTicks k t + 1) r
 loop-all p k n t x e r g h q =
