@@ -1,11 +1,12 @@
 -- A block stands in a list of bytes from a record index on, and it does where the bytes' records are its own.
 use Prim.Native.Nat.{ℕ, zero, suc, _+_}
 use native.Mathlib.Omega.{arith}
-use mathlib.Core.Path.{_≡_, refl, ap, sym, _∙_}
-use mathlib.Core.List.{List, _∷_, _++_, append-assoc}
+use mathlib.Core.Path.{_≡_, refl, ap, ap₂, sym, _∙_}
+use mathlib.Core.List.{List, [], _∷_, _++_, append-assoc, append-nil}
 use Rattle.model.specs.Records.{Rec, recordAt, firstRecords, IF, WHILE, TIMES}
-use Rattle.model.specs.Trees.{Test, Block, nil, skip, act, branch, while, times, size, testRec, skipRec, actRec, elseRec, endRec, flatten}
+use Rattle.model.specs.Trees.{Test, Block, nil, skip, act, branch, while, times, size, testRec, skipRec, actRec, elseRec, endRec, flatten, treeOf}
 use Rattle.model.proofs.Bytes.{recordsAt, recordsAt-suc}
+use Rattle.model.proofs.Trees.{treeOf-flatten}
 
 -- IF at i with m and n records in its sides
 pub record BranchAt (s : List ℕ) (i : ℕ) (q : Test) (m n : ℕ) : Type 0 where
@@ -130,3 +131,53 @@ begins s i n (while q c a b) rs e =
 begins s i n (times q c a b) rs e =
     let L = looped s i n TIMES q c a b rs (simp append-assoc at e) (λ m f. begins s (i + 1) m a (endRec ∷ (flatten b ++ rs)) f) (λ m f. begins s (i + 2 + size a) m b rs f) in
     record { stands = (L .opens, L .body, L .follows); left = L .left; counts = L .counts; after = L .after }
+
+-- a record before others
+leads : (s : List ℕ) (i j k n : ℕ) (r : Rec) (rs : List Rec) → recordAt s i ≡ r → i + 1 ≡ j → n ≡ suc k → recordsAt s j k ≡ rs → recordsAt s i n ≡ r ∷ rs
+leads s i j k n r rs h e c t =
+    ap (recordsAt s i) c ∙ recordsAt-suc s i k ∙ ap₂ (λ (x : Rec) (xs : List Rec). x ∷ xs) h (from s j (i + 1) k rs (sym e) t)
+
+-- a loop, its body and what follows it
+loop-stood : (s : List ℕ) (i k n o : ℕ) (q : Test) (m : ℕ) (a b : Block) (rs : List Rec) → LoopAt s i o q m (size a) → n ≡ 2 + size a + size b + k
+    → ((k n : ℕ) (rs : List Rec) → n ≡ size a + k → recordsAt s (i + 1 + size a) k ≡ rs → recordsAt s (i + 1) n ≡ flatten a ++ rs)
+    → recordsAt s (i + 2 + size a) (size b + k) ≡ flatten b ++ rs
+    → recordsAt s i n ≡ testRec o q m ∷ (flatten a ++ endRec ∷ (flatten b ++ rs))
+loop-stood s i k n o q m a b rs h c body follows =
+    let z = leads s (i + 1 + size a) (i + 2 + size a) (size b + k) (suc (size b + k)) endRec (flatten b ++ rs) (h .last) (omega arith) refl follows in
+    let A = body (suc (size b + k)) (size a + suc (size b + k)) (endRec ∷ (flatten b ++ rs)) refl z in
+    leads s i (i + 1) (size a + suc (size b + k)) n (testRec o q m) (flatten a ++ endRec ∷ (flatten b ++ rs)) (h .is) refl (omega arith) A
+
+-- where a block stands, its records are read, before any others
+stood : (s : List ℕ) (b : Block) (i j k n : ℕ) (rs : List Rec) → At s i b → i + size b ≡ j → n ≡ size b + k → recordsAt s j k ≡ rs
+    → recordsAt s i n ≡ flatten b ++ rs
+unfolding flatten
+stood s nil i j k n rs h e c t = ap (recordsAt s i) (omega arith) ∙ from s j i k rs (omega arith) t
+stood s (skip m b) i j k n rs h e c t =
+    leads s i (i + 1) (size b + k) n (skipRec m) (flatten b ++ rs) (h .0) refl (omega arith)
+    (stood s b (i + 1) j k (size b + k) rs (h .1) (omega arith) refl t)
+stood s (act p b) i j k n rs h e c t =
+    leads s i (i + 1) (size b + k) n (actRec p) (flatten b ++ rs) (h .0) refl (omega arith)
+    (stood s b (i + 1) j k (size b + k) rs (h .1) (omega arith) refl t)
+stood s (branch q a d b) i j k n rs h e c t =
+    let B = stood s b (i + 3 + size a + size d) j k (size b + k) rs (h .3) (omega arith) refl t in
+    let z = leads s (i + 2 + size a + size d) (i + 3 + size a + size d) (size b + k) (suc (size b + k)) endRec (flatten b ++ rs) (h .0 .last) (omega arith) refl B in
+    let D = stood s d (i + 2 + size a) (i + 2 + size a + size d) (suc (size b + k)) (size d + suc (size b + k)) (endRec ∷ (flatten b ++ rs)) (h .2) refl refl z in
+    let m = leads s (i + 1 + size a) (i + 2 + size a) (size d + suc (size b + k)) (suc (size d + suc (size b + k))) elseRec _ (h .0 .middle) (omega arith) refl D in
+    let A = stood s a (i + 1) (i + 1 + size a) (suc (size d + suc (size b + k))) (size a + suc (size d + suc (size b + k))) _ (h .1) refl refl m in
+    leads s i (i + 1) (size a + suc (size d + suc (size b + k))) n (testRec IF q 0) _ (h .0 .is) refl (omega arith) A ∙ simp append-assoc
+stood s (while q m a b) i j k n rs h e c t =
+    loop-stood s i k n WHILE q m a b rs (h .0) c (λ k n rs c t. stood s a (i + 1) (i + 1 + size a) k n rs (h .1) refl c t)
+    (stood s b (i + 2 + size a) j k (size b + k) rs (h .2) (omega arith) refl t)
+    ∙ simp append-assoc
+stood s (times q m a b) i j k n rs h e c t =
+    loop-stood s i k n TIMES q m a b rs (h .0) c (λ k n rs c t. stood s a (i + 1) (i + 1 + size a) k n rs (h .1) refl c t)
+    (stood s b (i + 2 + size a) j k (size b + k) rs (h .2) (omega arith) refl t)
+    ∙ simp append-assoc
+
+-- only one block of a size stands at an index
+pub stands-once : (s : List ℕ) (i : ℕ) (a b : Block) → At s i a → At s i b → size a ≡ size b → a ≡ b
+unfolding firstRecords
+stands-once s i a b h k e =
+    let left : recordsAt s i (size b) ≡ flatten a = stood s a i (i + size a) 0 (size b) [] h refl (omega arith) refl ∙ append-nil (flatten a) in
+    let right : recordsAt s i (size b) ≡ flatten b = stood s b i (i + size b) 0 (size b) [] k refl (omega arith) refl ∙ append-nil (flatten b) in
+    sym (treeOf-flatten a) ∙ ap treeOf (sym left ∙ right) ∙ treeOf-flatten b

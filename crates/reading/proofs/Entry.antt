@@ -9,8 +9,8 @@ use Rattle.model.specs.declared.Settings.{Settings}
 use Rattle.model.specs.declared.Refusal.{Refusal}
 use Rattle.model.specs.Settings.{badSettings}
 use Rattle.model.specs.Refusals.{Fault, sound, faulty, fault}
-use Rattle.model.specs.Answers.{Verdict, finished}
-use Rattle.model.specs.Replies.{turnDown, unless, reading}
+use Rattle.model.specs.Answers.{Verdict, finished, refusal}
+use Rattle.model.specs.Replies.{turnDown, unless, reading, kept}
 use Rattle.records.specs.declared.settings.Decoded.the-variants.{Valid, Refused}
 use Rattle.records.specs.Decoded.{Decodes}
 use Rattle.reading.specs.declared.scan.Scanned.{Scanned}
@@ -43,3 +43,18 @@ module _ (s : List ℕ) (f : Form) (file : List ℕ) where
       go true h x k e = let z : _≡_ {A = ℕ} 0 1 = cc in absurd (omega arith)
       go false h sound k e = k
       go false h (faulty n y) k e = let z : _≡_ {A = ℕ} 0 1 = cc in absurd (omega arith)
+
+-- a refusal keeps what was lent
+pub kept-refusal : (x : Refusal) (new old : List ℕ) → kept (refusal x) new old ≡ old
+kept-refusal (Refusal.BadLength n) new old = refl
+kept-refusal (Refusal.BadKind i) new old = refl
+kept-refusal (Refusal.BadField i) new old = refl
+kept-refusal (Refusal.BadStructure i) new old = refl
+kept-refusal (Refusal.TooDeep i) new old = refl
+kept-refusal Refusal.BadSettings new old = refl
+kept-refusal Refusal.ShortWindow new old = refl
+kept-refusal Refusal.OverPeriod new old = refl
+kept-refusal Refusal.NoRoom new old = refl
+kept-refusal Refusal.BadBuffers new old = refl
+kept-refusal Refusal.BadImage new old = refl
+kept-refusal Refusal.LateStop new old = refl

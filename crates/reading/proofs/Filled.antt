@@ -2,30 +2,20 @@
 use Prim.Native.Nat.{ℕ, _+_, _-_, _/_, _≤_, _<_}
 use native.Mathlib.Omega.{arith}
 use mathlib.Core.Path.{_≡_, refl, ap, sym, subst, _∙_}
-use mathlib.Core.Bool.{true, false}
+use mathlib.Core.Bool.{true}
 use mathlib.Core.List.{List}
 use lib.ListN.{length}
 use Rattle.model.specs.declared.Form.{Form}
-use Rattle.model.specs.Records.{Rec, kindAt, recordAt}
-use Rattle.model.specs.Trees.{Test, Act, Block, nil, skip, act, branch, while, times, size, depth, actRec, elseRec, endRec}
-use Rattle.model.proofs.Shapes.{by-act}
-use Rattle.model.proofs.Stands.{At}
+use Rattle.model.specs.Records.{Rec, kindAt, recordAt, IF}
+use Rattle.model.specs.Trees.{Test, Block, nil, skip, act, branch, while, times, size, depth, elseRec, endRec}
+use Rattle.model.proofs.Stands.{At, stands-once}
 use Rattle.model.proofs.Sound.{OfForm, Sound}
 use Rattle.reading.specs.declared.blocks.Pass.the-variants.{Ends}
 use Rattle.reading.specs.Closing.{opensBlock, passTo, closingIn}
-use Rattle.reading.specs.Ranges.{Fills, firstSize, firstPart, afterFirst}
+use Rattle.reading.specs.Ranges.{Fills, firstSize, firstPart, secondPart, afterFirst, testOf}
 use Rattle.reading.proofs.Scanning.{deepest}
+use Rattle.reading.proofs.FirstKinds.{act-opens, shut, if-is}
 use Rattle.reading.proofs.BlockEnds.{passes, found}
-
-pub act-opens : (p : Act) → opensBlock (actRec p .kind) ≡ false
-act-opens p = by-act (λ k. opensBlock k ≡ false) refl refl refl refl refl refl p
-
--- a record that opens no block is none that opens one
-pub shut : (s : List ℕ) (i : ℕ) {r : Rec} → recordAt s i ≡ r → opensBlock (r .kind) ≡ false → opensBlock (kindAt s i) ≡ true → ⊥
-shut s i e h o =
-    let same = ap (λ (r : Rec). opensBlock (r .kind)) e in
-    let z : _≡_ {A = ℕ} 0 1 = cc in
-    omega arith
 
 move : (s : List ℕ) (i j : ℕ) (b : Block) → i ≡ j → At s i b → At s j b
 move s i j b e at = subst (λ (k : ℕ). At s k b) e at
@@ -100,14 +90,37 @@ module _ (f : Form) (s : List ℕ) (i to d : ℕ) where
   part-one (times q n a b) m l F o k =
       inside (i + 1) m a endRec (F .stands .1) (omega (arith, F .ends)) (omega (arith, F .shallow)) (F .of-form .1) (F .stands .0 .last) refl k
 
-  -- the side after ELSE
-  pub part-two : (q : Test) (a e b : Block) (m n : ℕ) → Fills f s i to d (branch q a e b) → m ≡ i + 1 + size a
+  branch-two : (q : Test) (a e b : Block) (m n : ℕ) → Fills f s i to d (branch q a e b) → m ≡ i + 1 + size a
       → n ≡ closingIn s (to - (m + 1)) (m + 1) 0 → Inside f s (m + 1) to d n e
-  part-two q a e b m n F h k =
+  branch-two q a e b m n F h k =
       let j : i + 2 + size a ≡ m + 1 = omega arith in
       subst (λ (x : ℕ). Inside f s x to d n e) j
       (inside (i + 2 + size a) n e endRec (F .stands .2) (omega (arith, F .ends)) (omega (arith, F .shallow)) (F .of-form .2) (F .stands .0 .last) refl
       (k ∙ ap (λ (x : ℕ). closingIn s (to - x) x 0) (sym j)))
+
+  -- the side after ELSE
+  pub part-two : (b : Block) (m n : ℕ) → i < to → Fills f s i to d b → kindAt s i ≡ IF → m ≡ i + 1 + size (firstPart b)
+      → n ≡ closingIn s (to - (m + 1)) (m + 1) 0 → Inside f s (m + 1) to d n (secondPart b)
+  part-two b m n l F x h k =
+      branch-two (testOf (recordAt s i)) (firstPart b) (secondPart b) (afterFirst b) m n (subst (Fills f s i to d) (if-is l b F x) F) h k
+
+-- nothing but the empty block fills an empty range
+pub fills-none : {f : Form} {s : List ℕ} {i to d : ℕ} (b : Block) → Fills f s i to d b → to ≤ i → b ≡ nil
+fills-none nil F l = refl
+fills-none (skip n b) F l = absurd (omega (arith, F .ends))
+fills-none (act p b) F l = absurd (omega (arith, F .ends))
+fills-none (branch q a e b) F l = absurd (omega (arith, F .ends))
+fills-none (while q n a b) F l = absurd (omega (arith, F .ends))
+fills-none (times q n a b) F l = absurd (omega (arith, F .ends))
+
+-- a statement has at least one record
+pub first-some : {f : Form} {s : List ℕ} {i to d : ℕ} (b : Block) → Fills f s i to d b → i < to → 1 ≤ firstSize b
+first-some nil F l = absurd (omega (arith, F .ends))
+first-some (skip n b) F l = omega arith
+first-some (act p b) F l = omega arith
+first-some (branch q a e b) F l = omega arith
+first-some (while q n a b) F l = omega arith
+first-some (times q n a b) F l = omega arith
 
 -- the tree of a sound file fills it
 pub fills-file : (f : Form) (s : List ℕ) (b : Block) → Sound f s b → Fills f s 0 (length s / 12) 16 b
@@ -117,3 +130,7 @@ fills-file f s b S = record {
   shallow = omega (arith, S .shallow, deepest f);
   of-form = S .of-form;
 }
+
+-- only one block fills a range
+pub fills-once : {f : Form} {s : List ℕ} {i to d : ℕ} (a b : Block) → Fills f s i to d a → Fills f s i to d b → a ≡ b
+fills-once {f} {s} {i} a b F G = stands-once s i a b (F .stands) (G .stands) (omega (arith, F .ends, G .ends))

@@ -3,5 +3,6 @@ pub mod KindTests
 pub mod OpenBlocks
 pub mod Scanning
 pub mod BlockEnds
+pub mod FirstKinds
 pub mod Filled
 pub mod Entry

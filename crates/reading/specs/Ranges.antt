@@ -4,7 +4,8 @@ use mathlib.Core.List.{List}
 use Prim.Native.Nat.{ℕ, _+_, _*_, _≤_}
 use lib.ListN.{length}
 use Rattle.model.specs.declared.Form.{Form}
-use Rattle.model.specs.Trees.{Block, nil, skip, act, branch, while, times, size, depth}
+use Rattle.model.specs.Records.{Rec}
+use Rattle.model.specs.Trees.{Test, Block, nil, skip, act, branch, while, times, size, depth}
 use Rattle.model.proofs.Stands.{At}
 use Rattle.model.proofs.Sound.{OfForm}
 
@@ -45,3 +46,16 @@ firstPart (act p b) = nil
 firstPart (branch q a d b) = a
 firstPart (while q n a b) = a
 firstPart (times q n a b) = a
+
+-- an IF's second side
+abbrev pub secondPart : Block → Block
+secondPart nil = nil
+secondPart (skip n b) = nil
+secondPart (act p b) = nil
+secondPart (branch q a d b) = d
+secondPart (while q n a b) = nil
+secondPart (times q n a b) = nil
+
+-- the test in a record
+abbrev pub testOf : Rec → Test
+testOf r = record { relation = r .op; left = r .left; right = r .value }

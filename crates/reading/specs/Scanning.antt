@@ -15,7 +15,6 @@ use Rattle.reading.specs.declared.nesting.Blocks.{Blocks}
 use Rattle.reading.specs.declared.scan.Scanned.{Scanned}
 use Rattle.reading.specs.declared.scan.Scanned.the-variants.{Sound, Refused}
 use Rattle.reading.specs.declared.scan.Turn.{Turn}
-use Rattle.reading.specs.declared.scan.Turn.the-variants.{Goes}
 
 -- The paper's number and values for each case, in a call that goes on to answer `next`.
 abbrev pub scanned : Scanned → Verdict → Verdict

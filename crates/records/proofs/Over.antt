@@ -1,4 +1,4 @@
--- A list laid over the front of a buffer, piece by piece: from part-start, by part-put and part-lent, to part-end or part-last.
+-- A list laid over the front of a buffer, piece by piece: from part-start or part-first, by part-put and part-lent, to part-end or part-last.
 use mathlib.Core.Path.{_≡_, refl, sym, ap, _∙_}
 use mathlib.Core.List.{List, [], _∷_, _++_, append-assoc, append-nil}
 use Prim.Native.Nat.{ℕ, _+_, _-_, _≤_, _<_}
@@ -38,6 +38,10 @@ pub record Part (whole rest old new : List ℕ) (at : ℕ) : Type 0 where
 pub part-start : (w old : List ℕ) → length w ≤ length old → Part w w old old 0
 part-start w old h = record { done = []; split = refl; wrote = refl; upto = refl; room = h }
 
+-- a callee that was lent the whole buffer has laid bs over its front
+pub part-first : {rest old new : List ℕ} {n : ℕ} (bs : List ℕ) → length (bs ++ rest) ≤ length old → new ≡ over bs old → n ≡ length bs → Part (bs ++ rest) rest old new n
+part-first bs h e en = record { done = bs; split = refl; wrote = e; upto = en; room = h }
+
 module _ {w rest old new : List ℕ} {at : ℕ} where
   -- what is left has room
   pub part-room : Part w rest old new at → at + length rest ≤ length old
@@ -46,6 +50,10 @@ module _ {w rest old new : List ℕ} {at : ℕ} where
   -- the buffer keeps its length
   pub part-length : Part w rest old new at → length new ≡ length old
   part-length p = over-length (p .done) old (p .wrote) (omega (arith, simp length-append at (ap length (p .split))))
+
+-- the next index is within the buffer
+pub part-at : {w rest old new : List ℕ} {at : ℕ} → Part w rest old new at → at ≤ length new
+part-at p = omega (arith, part-room p, part-length p)
 
 -- one store
 pub part-put : {w rest old new : List ℕ} {at v : ℕ} → Part w (v ∷ rest) old new at → Part w rest old (set new at v) (at + 1)
@@ -75,6 +83,13 @@ lent-is xs at = take-all (length xs - at) (drop at xs) (simp length-drop (omega 
 pub lent-length : (xs : List ℕ) (at : ℕ) → length (lent xs at) ≡ length xs - at
 lent-length xs at = rw (lent-is, length-drop)
 
+-- what is left has room in what is lent, and so has the first piece of it
+pub part-fits-last : {w bs old new : List ℕ} {at : ℕ} → Part w bs old new at → length bs ≤ length (lent new at)
+part-fits-last {new = new} {at = at} p = omega (arith, part-room p, part-length p, lent-length new at)
+
+pub part-fits : {w old new : List ℕ} {at : ℕ} (bs rest : List ℕ) → Part w (bs ++ rest) old new at → length bs ≤ length (lent new at)
+part-fits bs rest p = omega (arith, part-fits-last p, length-append bs rest)
+
 -- a callee has laid bs over the front of what it was lent
 pub part-lent : {w rest old new ys : List ℕ} {at n : ℕ} (bs : List ℕ) → Part w (bs ++ rest) old new at → ys ≡ over bs (lent new at) → n ≡ length bs
     → Part w rest old (back new at ys) (at + n)
@@ -99,3 +114,7 @@ part-end p =
 -- the last callee lays all that is left
 pub part-last : {w bs old new ys : List ℕ} {at : ℕ} → Part w bs old new at → ys ≡ over bs (lent new at) → back new at ys ≡ over w old
 part-last {w} {bs} p e = part-end (part-lent {n = length bs} bs (rw (← append-nil bs) at p) e refl) .0
+
+-- and has counted it
+pub part-count : {w bs old new : List ℕ} {at n : ℕ} → Part w bs old new at → n ≡ length bs → at + n ≡ length w
+part-count p e = omega (arith, simp length-append at (ap length (p .split)))

@@ -6,8 +6,8 @@ pub mod words;
 ghost use mathlib.Core.Path.{_≡_};
 ghost use Prim.Native.Nat.{_+_, _*_, _≤_};
 ghost use lib.ListN.{length};
-ghost use Rattle.model.specs.Records.{kindAt, recordAt, recordBytes};
-ghost use Rattle.model.specs.Replies.{over};
+ghost use Rattle.model.specs.Records.{rec, kindAt, recordAt, recordBytes};
+ghost use Rattle.model.specs.Replies.{over, noRoom};
 ghost use Rattle.records.specs.Records.{recordOf};
 use words::put_word;
 use words::word_at;
@@ -57,4 +57,30 @@ pub fn put_record(out: &mut [u8], r: Record)
     out[3] = r.left;
     put_word(&mut out[4..], r.value);
     put_word(&mut out[8..], r.count);
+}
+
+// A record with no number but a value and a count, over the first 12 bytes of the buffer.
+pub fn put_bare(out: &mut [u8], kind: u8, value: u32, count: u32)
+    requires { ⌜ 12 ≤ length (now out) ⌝ }
+    ensures { λ _. ⌜ now (out .exit) ≡ over (recordBytes (rec kind 0 0 0 value count)) (now (out .entry)) ⌝ }
+{
+    let r = Record {
+        kind,
+        op: 0,
+        target: 0,
+        left: 0,
+        value,
+        count,
+    };
+    put_record(out, r);
+}
+
+// Whether a result of n records is longer than a buffer of room bytes, or than a file can be.
+pub fn no_room(room: usize, n: usize) -> bool
+    ensures { λ r. ⌜ r ≡ noRoom room n ⌝ }
+{
+    if 5461 < n {
+        return true;
+    }
+    room < 12 * n
 }

@@ -15,8 +15,9 @@ use Rattle.model.proofs.Shapes.{and-right, within, Fit}
 use Rattle.records.specs.declared.Record.{Record}
 use Rattle.records.specs.Records.{recordOf}
 use Rattle.reading.specs.Closing.{opensBlock, closingIn}
-use Rattle.reading.specs.Ranges.{Fills, firstSize, afterFirst}
-use Rattle.reading.proofs.Filled.{act-opens, shut, Inside, part-one, part-two}
+use Rattle.reading.specs.Ranges.{Fills, firstSize, firstPart, secondPart, afterFirst}
+use Rattle.reading.proofs.FirstKinds.{act-opens, shut, if-is}
+use Rattle.reading.proofs.Filled.{Inside, part-one, part-two}
 use Rattle.timing.specs.declared.ticks.Time.{Time}
 use Rattle.timing.specs.declared.ticks.Time.the-variants.{OverPeriod}
 use Rattle.timing.specs.Times.{Gives, stepTicks, loopTicks}
@@ -40,7 +41,7 @@ act-ticks σ (beat x) = refl
 act-ticks σ (save m) = refl
 
 -- the count of a loop is at least 1
-loop-count : (f : Form) (k : ℕ) (q : Test) (n : ℕ) → (k ≡ WHILE) ⊎ (k ≡ TIMES) → Fit f (testRec k q n) → 1 ≤ n
+pub loop-count : (f : Form) (k : ℕ) (q : Test) (n : ℕ) → (k ≡ WHILE) ⊎ (k ≡ TIMES) → Fit f (testRec k q n) → 1 ≤ n
 unfolding fieldsFit
 loop-count f k q n h F = within 1 65535 n (and-right (testFits (testRec k q n)) (between 1 65535 n) (sym (fields h) ∙ F .fields)) .0
   where
@@ -62,7 +63,7 @@ module _ {s : List ℕ} {i to d : ℕ} {σ : Settings} {r : Record} (H : Here s 
 
   -- A RECORD THAT OPENS NO BLOCK
 
-  plain-first : (f : Form) (b : Block) → opensBlock (r .kind) ≡ false → Fills f s i to d b → (stepTicks σ (recordOf r) ≡ firstTime σ b) × (firstSize b ≡ 1)
+  pub plain-first : (f : Form) (b : Block) → opensBlock (r .kind) ≡ false → Fills f s i to d b → (stepTicks σ (recordOf r) ≡ firstTime σ b) × (firstSize b ≡ 1)
   plain-first f nil h F = absurd (omega (arith, F .ends))
   plain-first f (skip n b) h F = (ap (stepTicks σ) (H .same ∙ F .stands .0), refl)
   plain-first f (act p b) h F = (ap (stepTicks σ) (H .same ∙ F .stands .0) ∙ act-ticks σ p, refl)
@@ -122,20 +123,17 @@ module _ {s : List ℕ} {i to d : ℕ} {σ : Settings} {r : Record} (H : Here s 
       loop-steps h x u v = record { low = omega arith; high = omega arith; right = λ f b F. loop-first f b h x F }
 
     module _ (n : ℕ) (end : n ≡ closingIn s (to - (m + 1)) (m + 1) 0) (k : r .kind ≡ IF) where
-      -- an IF, and what its two sides say
-      branch-only : (f : Form) (P : Block → Type 0) → ((q : Test) (a e b : Block) → Inside f s (i + 1) to d m a → Inside f s (m + 1) to d n e → P (branch q a e b))
-          → (b : Block) → Fills f s i to d b → P b
-      branch-only f P go nil F = absurd (omega (arith, F .ends))
-      branch-only f P go (skip c b) F = absurd (omega (arith, k, kind-is (F .stands .0)))
-      branch-only f P go (act p b) F = absurd (shut s i (F .stands .0) (act-opens p) (opened (ap opensBlock k)))
-      branch-only f P go (branch q a e b) F =
-          let p = part-one f s i to d (branch q a e b) m (H .early) F (opened (ap opensBlock k)) mid in
-          go q a e b p (part-two f s i to d q a e b m n F (p .is) end)
-      branch-only f P go (while q c a b) F = absurd (omega (arith, k, kind-is (F .stands .0 .is)))
-      branch-only f P go (times q c a b) F = absurd (omega (arith, k, kind-is (F .stands .0 .is)))
+      if-kind : kindAt s i ≡ IF
+      if-kind = sym (kind-is refl) ∙ k
+
+      side-one : (f : Form) (b : Block) → Fills f s i to d b → Inside f s (i + 1) to d m (firstPart b)
+      side-one f b F = part-one f s i to d b m (H .early) F (ap opensBlock if-kind) mid
+
+      side-two : (f : Form) (b : Block) → Fills f s i to d b → Inside f s (m + 1) to d n (secondPart b)
+      side-two f b F = part-two f s i to d b m n (H .early) F if-kind (side-one f b F .is) end
 
       pub one-sided-steps : to ≤ n → Steps s i to d σ (record { time = OverPeriod; next = to })
-      one-sided-steps h = nothing (λ f b F. branch-only f (λ x. ⊥) (λ q a e c A E. omega (arith, E .early)) b F)
+      one-sided-steps h = nothing (λ f b F. let E = side-two f b F in omega (arith, E .early))
 
       pub branch-steps : (x y o : Time) → i < n → n < to → BlockTimes s (i + 1) m (d - 1) σ x → BlockTimes s (m + 1) n (d - 1) σ y
           → ((t u : ℕ) → Gives (σ .period) t x → Gives (σ .period) u y → Gives (σ .period) (1 + max t u) o)
@@ -144,7 +142,8 @@ module _ {s : List ℕ} {i to d : ℕ} {σ : Settings} {r : Record} (H : Here s 
         low = omega arith;
         high = omega arith;
         right = λ f b F.
-            branch-only f (λ z. IsFirst σ i z (record { time = o; next = n + 1 }))
-            (λ q a e c A E. record { takes = J (time σ a) (time σ e) (X .right f a (A .fills)) (Y .right f e (E .fills)); goes = omega (arith, A .is, E .is) })
-            b F;
+            let A = side-one f b F in
+            let E = side-two f b F in
+            subst (λ (z : Block). IsFirst σ i z (record { time = o; next = n + 1 })) (sym (if-is (H .early) b F if-kind))
+            (record { takes = J (time σ (firstPart b)) (time σ (secondPart b)) (X .right f (firstPart b) (A .fills)) (Y .right f (secondPart b) (E .fills)); goes = omega (arith, A .is, E .is) });
       }

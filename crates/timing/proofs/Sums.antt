@@ -1,14 +1,14 @@
 -- The sum over a range of records: what has been counted and what is left, turn by turn.
 use Prim.Native.Nat.{ℕ, _+_, _-_, _≤_, _<_}
 use native.Mathlib.Omega.{arith}
-use mathlib.Core.Path.{_≡_, refl, sym, subst}
+use mathlib.Core.Path.{_≡_, ap, sym, subst}
 use mathlib.Core.List.{List}
 use Rattle.model.specs.declared.Form.{Form}
 use Rattle.model.specs.declared.Settings.{Settings}
-use Rattle.model.specs.Trees.{Block, nil, skip, act, branch, while, times, size}
+use Rattle.model.specs.Trees.{Block}
 use Rattle.model.specs.Times.{time}
 use Rattle.reading.specs.Ranges.{Fills, afterFirst}
-use Rattle.reading.proofs.Filled.{fills-after}
+use Rattle.reading.proofs.Filled.{fills-after, fills-none}
 use Rattle.timing.specs.declared.ticks.Time.the-variants.{Ticks, OverPeriod}
 use Rattle.timing.specs.declared.blocks.Step.{Step}
 use Rattle.timing.specs.Times.{Gives}
@@ -37,17 +37,9 @@ module _ {s : List ℕ} {from to d : ℕ} {σ : Settings} {i sum : ℕ} (C : Cou
   counted-all h = record {
     right = λ f b F.
         let R = C .rest f b F in
-        let all : sum ≡ time σ b = omega (arith, empty (R .left) (R .fills .ends)) in
+        let all : sum ≡ time σ b = omega (arith, R .sums, ap (time σ) (fills-none (R .left) (R .fills) h)) in
         subst (λ (n : ℕ). Gives (σ .period) n (Ticks sum)) all (gives-ticks (σ .period) sum (C .small));
   }
-    where
-      empty : (b : Block) → i + size b ≡ to → time σ b ≡ 0
-      empty nil e = refl
-      empty (skip n b) e = absurd (omega arith)
-      empty (act p b) e = absurd (omega arith)
-      empty (branch q a d b) e = absurd (omega arith)
-      empty (while q n a b) e = absurd (omega arith)
-      empty (times q n a b) e = absurd (omega arith)
 
   module _ {r : Step} (l : i < to) (S : Steps s i to d σ r) where
     -- a statement above the period is too much

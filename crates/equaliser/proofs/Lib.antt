@@ -1,0 +1,13 @@
+-- How a block is merged statement by statement; then sizes, what is written, and the reply of the call.
+pub mod Merged
+pub mod SizeLaws
+pub mod StepSizes
+pub mod Measured
+pub mod PieceBytes
+pub mod WrittenBytes
+pub mod WrittenParts
+pub mod WrittenLoops
+pub mod WrittenBranches
+pub mod WrittenSteps
+pub mod WrittenBlocks
+pub mod Replies

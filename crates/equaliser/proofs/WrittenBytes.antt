@@ -1,0 +1,34 @@
+-- The bytes of what is written: a block's first statement and what follows it, and each statement's own.
+use Prim.Native.Nat.{ℕ, zero, suc}
+use mathlib.Core.Path.{_≡_, refl, ap, _∙_}
+use mathlib.Core.List.{_++_, append-assoc, append-nil}
+use Rattle.model.specs.declared.Settings.{Settings}
+use Rattle.model.specs.Records.{Rec, recordBytes, bytes, IF}
+use Rattle.model.specs.Trees.{Test, Act, Block, nil, act, testRec, actRec, flatten}
+use Rattle.model.specs.Equalising.{waiting}
+use Rattle.reading.specs.Ranges.{testOf, afterFirst}
+use Rattle.equaliser.specs.Merged.{padded, branchOut, loopOut, firstOut, firstWaits, blockBytes}
+use Rattle.equaliser.specs.Written.{skipBytes, branchBytes, loopBytes}
+use Rattle.equaliser.proofs.Merged.{padded-first, bytes-++, bytes-⧺}
+
+pub waiting-bytes : (n : ℕ) (b : Block) → blockBytes (waiting n b) ≡ skipBytes n ++ blockBytes b
+unfolding blockBytes flatten bytes
+waiting-bytes zero b = refl
+waiting-bytes (suc n) b = refl
+
+pub act-bytes : (p : Act) → blockBytes (act p nil) ≡ recordBytes (actRec p)
+unfolding blockBytes flatten bytes
+act-bytes p = append-nil (recordBytes (actRec p))
+
+module _ (σ : Settings) where
+  pub branch-bytes : (q : Test) (a d : Block) → blockBytes (branchOut σ q a d) ≡ branchBytes σ (testRec IF q 0) a d
+  unfolding blockBytes flatten bytes
+  branch-bytes q a d = simp (bytes-++, append-nil)
+
+  pub loop-bytes : (r : Rec) (a : Block) → blockBytes (loopOut σ (testOf r) (r .count) a) ≡ loopBytes σ r a
+  unfolding blockBytes flatten bytes
+  loop-bytes r a = simp (bytes-++, append-nil, append-assoc)
+
+  pub first-bytes : (n : ℕ) (b : Block) (k : ℕ)
+      → blockBytes (padded σ n b k) ≡ blockBytes (firstOut σ n b) ++ blockBytes (padded σ (firstWaits n b) (afterFirst b) k)
+  first-bytes n b k = ap blockBytes (padded-first σ n b k) ∙ bytes-⧺ (firstOut σ n b) (padded σ (firstWaits n b) (afterFirst b) k)

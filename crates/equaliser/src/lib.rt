@@ -1,0 +1,52 @@
+// The sides of every branch made to last equally long. One pass measures the result, and one writes it.
+pub mod measure;
+pub mod pieces;
+pub mod sizes;
+pub mod write;
+
+ghost use mathlib.Core.Path.{_≡_};
+ghost use lib.ListN.{length};
+ghost use Rattle.model.specs.Answers.{equalised};
+ghost use Rattle.model.specs.Replies.{equaliseReply, equaliseOut};
+ghost use Rattle.equaliser.specs.Answers.{SoundTask, Equalises};
+use measure::block_size;
+use model::Equalised;
+use model::Form;
+use model::Refusal;
+use model::Settings;
+use records::no_room;
+use records::settings::Decoded;
+use sizes::skip_records;
+use timing::ticks::Time;
+use write::write_block;
+
+// A task that was read: refusals 8 and 9, or the equalised task over the front of out.
+fn equalise_sound(task: &[u8], n: Settings, out: &mut [u8]) -> Equalised
+    requires { ⌜ SoundTask (now task) ⌝ }
+    ensures { λ r. ⌜ Equalises (now (task .entry)) n (now (out .entry)) (now (out .exit)) r ⌝ }
+{
+    let to = task.len() / 12;
+    let size = block_size(task, 0, to, 16, n);
+    let time = size.time;
+    let Time::Ticks(t) = time else {
+        return Equalised::Refused(Refusal::OverPeriod);
+    };
+    let records = size.records + skip_records(size.wait);
+    if no_room(out.len(), records) {
+        return Equalised::Refused(Refusal::NoRoom);
+    }
+    let bytes = write_block(task, 0, to, 16, n, 0, out);
+    Equalised::Written { bytes, time: t }
+}
+
+// The equalised task over the front of out, or the first refusal of 6, 1 to 5, 8 and 9.
+pub fn equalise(settings: &[u8], task: &[u8], out: &mut [u8]) -> Equalised
+    ensures { λ r. ⌜ (equalised r ≡ equaliseReply (now (settings .entry)) (now (task .entry)) (length (now (out .entry))))
+        × (now (out .exit) ≡ equaliseOut (now (settings .entry)) (now (task .entry)) (now (out .entry))) ⌝ }
+{
+    let read = reading::read(settings, Form::Task, task);
+    match read {
+        Decoded::Refused(x) => Equalised::Refused(x),
+        Decoded::Valid(n) => equalise_sound(task, n, out),
+    }
+}
