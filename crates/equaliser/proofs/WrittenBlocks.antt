@@ -1,7 +1,7 @@
 -- A block written statement by statement: what is laid, what waits and what is left, turn by turn.
 use Prim.Native.Nat.{ℕ, _+_, _≤_, _<_}
 use native.Mathlib.Omega.{arith}
-use mathlib.Core.Path.{_≡_, sym, subst}
+use mathlib.Core.Path.{sym, subst}
 use mathlib.Core.List.{List, _++_}
 use lib.ListN.{length}
 use Rattle.model.specs.declared.Settings.{Settings}
@@ -9,13 +9,13 @@ use Rattle.model.specs.declared.Form.the-variants.{Task}
 use Rattle.model.specs.Trees.{Block}
 use Rattle.model.specs.Times.{time}
 use Rattle.records.proofs.Over.{Part, lent, back, part-start, part-fits, part-fits-last}
-use Rattle.reading.specs.Ranges.{Fills, firstSize, afterFirst}
+use Rattle.reading.specs.Ranges.{Fills, afterFirst}
 use Rattle.reading.proofs.Filled.{fills-after, fills-none, first-some, fills-once}
 use Rattle.timing.proofs.Firsts.{time-first}
 use Rattle.equaliser.specs.declared.write.Written.{Written}
 use Rattle.equaliser.specs.Merged.{padded, firstOut, firstWaits, blockBytes}
 use Rattle.equaliser.specs.Sizes.{InTask}
-use Rattle.equaliser.specs.Written.{skipBytes, Wrote, BlockFits, BlockWritten, StepFits, StepWritten}
+use Rattle.equaliser.specs.Written.{skipBytes, Wrote, BlockFits, BlockWritten, StepFits, IsWritten, StepWritten}
 use Rattle.equaliser.proofs.Merged.{waits-less}
 use Rattle.equaliser.proofs.WrittenBytes.{first-bytes}
 use Rattle.equaliser.proofs.WrittenParts.{wrote-next, wrote-room, wrote-last}
@@ -51,27 +51,24 @@ module _ {s : List ℕ} {from to d : ℕ} {σ : Settings} {k : ℕ} {old new : L
     step-fits = record { task = P .left; early = l; within = omega (arith, P .within); room = part-fits first rest split }
 
     module _ {ys : List ℕ} {r : Written} (S : StepWritten s i to d σ w (lent new at) ys r) where
-      goes : r .next ≡ i + firstSize left
-      goes = S .goes left (P .left .fills)
-
-      waits : r .wait ≡ firstWaits w left
-      waits = S .waits left (P .left .fills)
+      step : IsWritten i σ w left (lent new at) ys r
+      step = S .right left (P .left .fills)
 
       -- a statement has a record
       pub step-on : i < r .next
-      step-on = omega (arith, goes, first-some left (P .left .fills) l)
+      step-on = omega (arith, step .goes, first-some left (P .left .fills) l)
 
       pub writing-next : Writing s from to d σ k old (back new at ys) (at + r .bytes) (r .wait) (r .next)
       writing-next = record {
         all = P .all;
         left = record {
           block = afterFirst left;
-          fills = subst (λ (j : ℕ). Fills Task s j to d (afterFirst left)) (sym goes) (fills-after Task s i to d left l (P .left .fills));
+          fills = subst (λ (j : ℕ). Fills Task s j to d (afterFirst left)) (sym (step .goes)) (fills-after Task s i to d left l (P .left .fills));
           few = P .left .few;
           inside = P .left .inside;
         };
-        within = omega (arith, P .within, waits, waits-less σ w left, time-first σ left);
-        part = rw waits (wrote-next first split (S .wrote left (P .left .fills)));
+        within = omega (arith, P .within, step .waits, waits-less σ w left, time-first σ left);
+        part = rw (step .waits) (wrote-next first split (step .wrote));
       }
 
   -- THE END

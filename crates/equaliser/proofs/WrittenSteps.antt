@@ -24,7 +24,7 @@ use Rattle.reading.proofs.Filled.{Inside, part-one, part-two, fills-once}
 use Rattle.timing.proofs.Firsts.{loop-count}
 use Rattle.equaliser.specs.declared.write.Written.{Written}
 use Rattle.equaliser.specs.Merged.{branchOut, loopOut, padded, firstOut, firstWaits, blockBytes}
-use Rattle.equaliser.specs.Written.{skipBytes, branchBytes, loopBytes, Wrote, StepFits, StepWritten, BranchFits, BranchWritten, LoopFits, LoopWritten}
+use Rattle.equaliser.specs.Written.{skipBytes, branchBytes, loopBytes, Wrote, StepFits, IsWritten, StepWritten, BranchFits, BranchWritten, LoopFits, LoopWritten}
 use Rattle.equaliser.proofs.StepSizes.{inner}
 use Rattle.equaliser.proofs.WrittenBytes.{waiting-bytes, act-bytes, branch-bytes, loop-bytes}
 use Rattle.equaliser.proofs.WrittenParts.{record-wrote, wrote-room, wrote-last}
@@ -55,13 +55,10 @@ module _ {s : List ℕ} {i to d : ℕ} {σ : Settings} {w : ℕ} {old : List ℕ
       → Wrote (blockBytes (firstOut σ w b)) old new (n .bytes) → n .wait ≡ firstWaits w b → n .next ≡ i + firstSize b
       → StepWritten s i to d σ w old new n
   written {new} {n} F b q W h g = record {
-    wrote = λ x X. subst (λ (y : Block). Wrote (blockBytes (firstOut σ w y)) old new (n .bytes)) (same x X) W;
-    waits = λ x X. h ∙ ap (firstWaits w) (same x X);
-    goes = λ x X. g ∙ ap (λ (y : Block). i + firstSize y) (same x X);
+    right = λ x X.
+        subst (λ (y : Block). IsWritten i σ w y old new n) (sym q ∙ fills-once (F .task .block) x (F .task .fills) X)
+        (record { wrote = W; waits = h; goes = g });
   }
-    where
-      same : (x : Block) → Fills Task s i to d x → b ≡ x
-      same x X = sym q ∙ fills-once (F .task .block) x (F .task .fills) X
 
   -- the record r stands at i
   module _ (F : StepFits s i to d σ w old) {r : Record} (e : recordOf r ≡ recordAt s i) where

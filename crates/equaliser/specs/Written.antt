@@ -63,10 +63,13 @@ pub record StepFits (s : List ℕ) (i to d : ℕ) (σ : Settings) (w : ℕ) (out
   pub within : w + time σ (task .block) ≤ σ .period
   pub room : length (blockBytes (firstOut σ w (task .block))) ≤ length out
 
+pub record IsWritten (i : ℕ) (σ : Settings) (w : ℕ) (b : Block) (old new : List ℕ) (r : Written) : Type 0 where
+  pub wrote : Wrote (blockBytes (firstOut σ w b)) old new (r .bytes)
+  pub waits : r .wait ≡ firstWaits w b
+  pub goes : r .next ≡ i + firstSize b
+
 pub record StepWritten (s : List ℕ) (i to d : ℕ) (σ : Settings) (w : ℕ) (old new : List ℕ) (r : Written) : Type 0 where
-  pub wrote : (b : Block) → Fills Task s i to d b → Wrote (blockBytes (firstOut σ w b)) old new (r .bytes)
-  pub waits : (b : Block) → Fills Task s i to d b → r .wait ≡ firstWaits w b
-  pub goes : (b : Block) → Fills Task s i to d b → r .next ≡ i + firstSize b
+  pub right : (b : Block) → Fills Task s i to d b → IsWritten i σ w b old new r
 
 -- an IF with the record x and its sides in the records from i up to m, and after m up to `to`
 pub record BranchFits (s : List ℕ) (x : Rec) (i m to d : ℕ) (σ : Settings) (out : List ℕ) : Type 0 where

@@ -1,8 +1,8 @@
 // The sides of every branch made to last equally long. One pass measures the result, and one writes it.
-pub mod measure;
-pub mod pieces;
-pub mod sizes;
-pub mod write;
+mod measure;
+mod pieces;
+mod sizes;
+mod write;
 
 ghost use mathlib.Core.Path.{_≡_};
 ghost use lib.ListN.{length};
