@@ -31,9 +31,6 @@ pub record IsAct (r : Rec) (b : Block) : Type 0 where
 not-skip : (p : Act) → actRec p .kind ≡ SKIP → ⊥
 not-skip p = by-act (λ k. k ≡ SKIP → ⊥) (λ e. omega arith) (λ e. omega arith) (λ e. omega arith) (λ e. omega arith) (λ e. omega arith) (λ e. omega arith) p
 
-not-if : (p : Act) → actRec p .kind ≡ IF → ⊥
-not-if p = by-act (λ k. k ≡ IF → ⊥) (λ e. omega arith) (λ e. omega arith) (λ e. omega arith) (λ e. omega arith) (λ e. omega arith) (λ e. omega arith) p
-
 kind-is : (s : List ℕ) (i : ℕ) {r : Rec} → recordAt s i ≡ r → kindAt s i ≡ r .kind
 kind-is s i e = ap (λ (r : Rec). r .kind) e
 
@@ -57,7 +54,7 @@ module _ {s : List ℕ} {i to d : ℕ} (l : i < to) where
   pub if-is : {f : Form} (b : Block) → Fills f s i to d b → kindAt s i ≡ IF → b ≡ branch (testOf (recordAt s i)) (firstPart b) (secondPart b) (afterFirst b)
   if-is nil F k = absurd (omega (arith, F .ends))
   if-is (skip n b) F k = absurd (omega (arith, k, kind-is s i (F .stands .0)))
-  if-is (act p b) F k = absurd (not-if p (sym (kind-is s i (F .stands .0)) ∙ k))
+  if-is (act p b) F k = absurd (shut s i (F .stands .0) (act-opens p) (ap opensBlock k))
   if-is (branch q a e b) F k = ap (λ (r : Rec). branch (testOf r) a e b) (sym (F .stands .0 .is))
   if-is (while q n a b) F k = absurd (omega (arith, k, kind-is s i (F .stands .0 .is)))
   if-is (times q n a b) F k = absurd (omega (arith, k, kind-is s i (F .stands .0 .is)))
