@@ -15,11 +15,11 @@ use Rattle.records.specs.Records.{recordOf}
 use Rattle.reading.specs.Closing.{opensBlock, closingIn}
 use Rattle.reading.specs.Ranges.{Fills, firstPart, secondPart, afterFirst, testOf}
 use Rattle.reading.proofs.FirstKinds.{skip-is, act-is, if-is, while-is}
-use Rattle.reading.proofs.Filled.{Inside, part-one, part-two}
+use Rattle.reading.proofs.Filled.{Inside}
 use Rattle.timing.specs.declared.ticks.Time.{Time}
 use Rattle.timing.specs.Times.{Gives, stepTicks, loopTicks}
 use Rattle.timing.specs.Blocks.{firstTime}
-use Rattle.timing.proofs.Firsts.{Here, loop-count, plain-first}
+use Rattle.timing.proofs.Firsts.{Here, loop-count, plain-first, first-inside, second-inside}
 use Rattle.equaliser.specs.declared.sizes.Size.{Size}
 use Rattle.equaliser.specs.Merged.{padded, branchOut, loopOut, firstOut, firstWaits}
 use Rattle.equaliser.specs.Sizes.{InTask, skipRecords, BranchSize, LoopSize, IsStep, StepSize, BlockSize}
@@ -70,9 +70,6 @@ module _ {s : List ℕ} {i to d : ℕ} {σ : Settings} {r : Record} (H : Here s 
   -- A RECORD THAT OPENS ONE
 
   module _ (m : ℕ) (mid : m ≡ closingIn s (to - (i + 1)) (i + 1) 0) where
-    pub first-inside : (b : Block) → opensBlock (r .kind) ≡ true → Fills Task s i to d b → Inside Task s (i + 1) to d m (firstPart b)
-    first-inside b h F = part-one Task s i to d b m (H .early) F (ap opensBlock (sym kind) ∙ h) mid
-
     -- a loop whose body has the size a
     module _ (w : ℕ) (a o : Size) (A : BlockSize s (i + 1) m (d - 1) σ a) (L : LoopSize (σ .period) w r a o) where
       while-size : (q : Test) (n : ℕ) (u b : Block) → Fills Task s i to d (while q n u b) → Inside Task s (i + 1) to d m u
@@ -94,16 +91,10 @@ module _ {s : List ℕ} {i to d : ℕ} {σ : Settings} {r : Record} (H : Here s 
         right = λ b F.
             let is = while-is (H .early) b F (ap opensBlock (sym kind) ∙ h) (λ e. x (kind ∙ e)) in
             subst (λ (z : Block). IsStep i σ w z (record { size = o; next = m + 1 })) (sym is)
-            (while-size (testOf (recordAt s i)) (recordAt s i .count) (firstPart b) (afterFirst b) (subst (Fills Task s i to d) is F) (first-inside b h F));
+            (while-size (testOf (recordAt s i)) (recordAt s i .count) (firstPart b) (afterFirst b) (subst (Fills Task s i to d) is F) (first-inside H m mid Task b h F));
       }
 
     module _ (n : ℕ) (end : n ≡ closingIn s (to - (m + 1)) (m + 1) 0) (k : r .kind ≡ IF) where
-      if-first : (b : Block) → Fills Task s i to d b → Inside Task s (i + 1) to d m (firstPart b)
-      if-first b F = first-inside b (ap opensBlock k) F
-
-      pub second-inside : (b : Block) → Fills Task s i to d b → Inside Task s (m + 1) to d n (secondPart b)
-      second-inside b F = part-two Task s i to d b m n (H .early) F (sym kind ∙ k) (if-first b F .is) end
-
       -- an IF whose sides have the sizes x and y
       pub if-size : (w : ℕ) (x y o : Size) → BlockSize s (i + 1) m (d - 1) σ x → BlockSize s (m + 1) n (d - 1) σ y → BranchSize (σ .period) w x y o
           → StepSize s i to d σ w (record { size = o; next = n + 1 })
@@ -111,8 +102,8 @@ module _ {s : List ℕ} {i to d : ℕ} {σ : Settings} {r : Record} (H : Here s 
         right = λ b F.
             let u = firstPart b in
             let v = secondPart b in
-            let P = if-first b F in
-            let Q = second-inside b F in
+            let P = first-inside H m mid Task b (ap opensBlock k) F in
+            let Q = second-inside H m mid n end k Task b F in
             let piece = B .right (time σ u) (time σ v) (λ k. size (padded σ 0 u k)) (λ k. size (padded σ 0 v k)) (X .right u (P .fills)) (Y .right v (Q .fills)) in
             subst (λ (z : Block). IsStep i σ w z (record { size = o; next = n + 1 })) (sym (if-is (H .early) b F (sym kind ∙ k)))
             (record {

@@ -20,8 +20,8 @@ use Rattle.records.proofs.Over.{Part, lent, back, part-first, part-room, part-f
 use Rattle.reading.specs.Closing.{opensBlock, closingIn}
 use Rattle.reading.specs.Ranges.{Fills, firstSize, firstPart, secondPart, afterFirst, testOf}
 use Rattle.reading.proofs.FirstKinds.{IsAct, skip-is, act-is, if-is, while-is}
-use Rattle.reading.proofs.Filled.{Inside, part-one, part-two, fills-once}
-use Rattle.timing.proofs.Firsts.{loop-count}
+use Rattle.reading.proofs.Filled.{Inside, fills-once}
+use Rattle.timing.proofs.Firsts.{Here, loop-count, first-inside, second-inside}
 use Rattle.equaliser.specs.declared.write.Written.{Written}
 use Rattle.equaliser.specs.Merged.{branchOut, loopOut, padded, firstOut, firstWaits, blockBytes}
 use Rattle.equaliser.specs.Written.{skipBytes, branchBytes, loopBytes, Wrote, StepFits, IsWritten, StepWritten, BranchFits, BranchWritten, LoopFits, LoopWritten}
@@ -107,6 +107,9 @@ module _ {s : List ℕ} {i to d : ℕ} {σ : Settings} {w : ℕ} {old : List ℕ
     abbrev block : Block
     block = F .task .block
 
+    here : Here s i to d σ r
+    here = record { early = F .early; same = B .same }
+
     kind-is : r .kind ≡ kindAt s i
     kind-is = ap (λ (x : Rec). x .kind) (B .same)
 
@@ -140,7 +143,7 @@ module _ {s : List ℕ} {i to d : ℕ} {σ : Settings} {w : ℕ} {old : List ℕ
 
     module _ (o : opensBlock (r .kind) ≡ true) {m : ℕ} (mid : m ≡ closingIn s (to - (i + 1)) (i + 1) 0) where
       pub inside-one : Inside Task s (i + 1) to d m (firstPart block)
-      inside-one = part-one Task s i to d block m (F .early) (F .task .fills) (sym (ap opensBlock kind-is) ∙ o) mid
+      inside-one = first-inside here m mid Task block o (F .task .fills)
 
       within-one : time σ (firstPart block) ≤ σ .period
       within-one = omega (arith, F .within, parts-time σ block (F .task .fills .of-form) .0)
@@ -175,7 +178,7 @@ module _ {s : List ℕ} {i to d : ℕ} {σ : Settings} {w : ℕ} {old : List ℕ
       -- an IF
       module _ (k : r .kind ≡ IF) {end : ℕ} (close : end ≡ closingIn s (to - (m + 1)) (m + 1) 0) where
         pub inside-two : Inside Task s (m + 1) to d end (secondPart block)
-        inside-two = part-two Task s i to d block m end (F .early) (F .task .fills) (sym kind-is ∙ k) (inside-one .is) close
+        inside-two = second-inside here m mid end close k Task block (F .task .fills)
 
         abbrev the-if : Block
         the-if = branch (testOf (recordOf r)) (firstPart block) (secondPart block) (afterFirst block)

@@ -18,7 +18,7 @@ use Rattle.equaliser.specs.declared.sizes.Size.{Size}
 use Rattle.equaliser.specs.declared.measure.Step.{Step}
 use Rattle.equaliser.specs.Merged.{padded, firstOut, firstWaits}
 
--- a block of a task fills the records from i up to, not including, to
+-- a block of a task fills the records from i up to, not including, to: they are in s, and among the 256 that a task may have
 pub record InTask (s : List ℕ) (i to d : ℕ) : Type 0 where
   pub block : Block
   pub fills : Fills Task s i to d block

@@ -1,13 +1,14 @@
 // The sizes of blocks and of single statements once they are equalised.
 ghost use mathlib.Core.Path.{_≡_};
-ghost use Prim.Native.Nat.{_-_, _^_, _≤_};
+ghost use Prim.Native.Nat.{_-_};
 ghost use Rattle.equaliser.specs.Sizes.{skipRecords, Small, SideRecords, BranchSize, LoopSize};
 use records::Record;
 use timing::ticks::Time;
 use timing::ticks::branch_time;
 use timing::ticks::loop_time;
 
-// A time, the records written by then, and the ticks of SKIP that wait after them.
+// A time, the records written by then, and the ticks of SKIP that wait after them: 64 bits, since they are added before their
+// sum is held against the period.
 pub struct Size {
     pub time: Time,
     pub records: usize,

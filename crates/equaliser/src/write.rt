@@ -1,5 +1,4 @@
 // The second pass: the equalised block, over the front of a lent buffer. Each block and what follows it is lent the rest of the buffer.
-ghost use Prim.Native.Nat.{_*_, _≤_};
 ghost use Rattle.reading.specs.Ranges.{Ranged};
 ghost use Rattle.records.specs.Records.{recordOf};
 ghost use Rattle.equaliser.specs.Written.{BlockTicks, BlockFits, BlockWritten, StepFits, StepWritten, BranchFits, BranchWritten, LoopFits, LoopWritten};

@@ -1,6 +1,6 @@
 // The first fault of a file: its length, and then 2 to 5 in turn at each record.
 ghost use mathlib.Core.Path.{_≡_};
-ghost use Prim.Native.Nat.{_*_, _%_, _<_};
+ghost use Prim.Native.Nat.{_<_};
 ghost use Rattle.model.specs.Refusals.{maxRecords, maxDepth};
 ghost use Rattle.reading.specs.Scanning.{Scans, ScansRecords, Turns};
 use crate::fields::fields_fit;

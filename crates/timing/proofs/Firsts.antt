@@ -90,12 +90,17 @@ module _ {s : List ℕ} {i to d : ℕ} {σ : Settings} {r : Record} (H : Here s 
   nothing : ((f : Form) (b : Block) → Fills f s i to d b → ⊥) → Steps s i to d σ (record { time = OverPeriod; next = to })
   nothing h = record { low = H .early; high = omega arith; right = λ f b F. absurd (h f b F) }
 
+  -- the first block inside it, which is closed at m
+  pub first-inside : (m : ℕ) → m ≡ closingIn s (to - (i + 1)) (i + 1) 0 → (f : Form) (b : Block) → opensBlock (r .kind) ≡ true → Fills f s i to d b
+      → Inside f s (i + 1) to d m (firstPart b)
+  first-inside m mid f b h F = part-one f s i to d b m (H .early) F (opened h) mid
+
   pub flat-steps : opensBlock (r .kind) ≡ true → d ≡ 0 → Steps s i to d σ (record { time = OverPeriod; next = to })
-  flat-steps h e = nothing (λ f b F. let p = part-one f s i to d b _ (H .early) F (opened h) refl in omega (arith, p .deep))
+  flat-steps h e = nothing (λ f b F. let p = first-inside _ refl f b h F in omega (arith, p .deep))
 
   module _ (m : ℕ) (mid : m ≡ closingIn s (to - (i + 1)) (i + 1) 0) where
     pub unclosed-steps : opensBlock (r .kind) ≡ true → to ≤ m → Steps s i to d σ (record { time = OverPeriod; next = to })
-    unclosed-steps h e = nothing (λ f b F. let p = part-one f s i to d b m (H .early) F (opened h) mid in omega (arith, p .early))
+    unclosed-steps h e = nothing (λ f b F. let p = first-inside m mid f b h F in omega (arith, p .early))
 
     -- a loop whose body takes what a says
     module _ (a o : Time) (A : BlockTimes s (i + 1) m (d - 1) σ a)
@@ -113,10 +118,10 @@ module _ {s : List ℕ} {i to d : ℕ} {σ : Settings} {r : Record} (H : Here s 
       loop-first f (act p b) h x F = absurd (shut s i (F .stands .0) (act-opens p) (opened h))
       loop-first f (branch q u e b) h x F = absurd (x (kind-is (F .stands .0 .is)))
       loop-first f (while q n u b) h x F =
-          let p = part-one f s i to d (while q n u b) m (H .early) F (opened h) mid in
+          let p = first-inside m mid f (while q n u b) h F in
           record { takes = loop-takes f WHILE q n u (inl refl) (F .stands .0 .is) (F .of-form .0) (p .fills); goes = omega (arith, p .is) }
       loop-first f (times q n u b) h x F =
-          let p = part-one f s i to d (times q n u b) m (H .early) F (opened h) mid in
+          let p = first-inside m mid f (times q n u b) h F in
           record { takes = loop-takes f TIMES q n u (inr refl) (F .stands .0 .is) (F .of-form .0) (p .fills); goes = omega (arith, p .is) }
 
       pub loop-steps : opensBlock (r .kind) ≡ true → (r .kind ≡ IF → ⊥) → i < m → m < to → Steps s i to d σ (record { time = o; next = m + 1 })
@@ -127,13 +132,14 @@ module _ {s : List ℕ} {i to d : ℕ} {σ : Settings} {r : Record} (H : Here s 
       if-kind = sym (kind-is refl) ∙ k
 
       side-one : (f : Form) (b : Block) → Fills f s i to d b → Inside f s (i + 1) to d m (firstPart b)
-      side-one f b F = part-one f s i to d b m (H .early) F (ap opensBlock if-kind) mid
+      side-one f b F = first-inside m mid f b (ap opensBlock k) F
 
-      side-two : (f : Form) (b : Block) → Fills f s i to d b → Inside f s (m + 1) to d n (secondPart b)
-      side-two f b F = part-two f s i to d b m n (H .early) F if-kind (side-one f b F .is) end
+      -- and the second
+      pub second-inside : (f : Form) (b : Block) → Fills f s i to d b → Inside f s (m + 1) to d n (secondPart b)
+      second-inside f b F = part-two f s i to d b m n (H .early) F if-kind (side-one f b F .is) end
 
       pub one-sided-steps : to ≤ n → Steps s i to d σ (record { time = OverPeriod; next = to })
-      one-sided-steps h = nothing (λ f b F. let E = side-two f b F in omega (arith, E .early))
+      one-sided-steps h = nothing (λ f b F. let E = second-inside f b F in omega (arith, E .early))
 
       pub branch-steps : (x y o : Time) → i < n → n < to → BlockTimes s (i + 1) m (d - 1) σ x → BlockTimes s (m + 1) n (d - 1) σ y
           → ((t u : ℕ) → Gives (σ .period) t x → Gives (σ .period) u y → Gives (σ .period) (1 + max t u) o)
@@ -143,7 +149,7 @@ module _ {s : List ℕ} {i to d : ℕ} {σ : Settings} {r : Record} (H : Here s 
         high = omega arith;
         right = λ f b F.
             let A = side-one f b F in
-            let E = side-two f b F in
+            let E = second-inside f b F in
             subst (λ (z : Block). IsFirst σ i z (record { time = o; next = n + 1 })) (sym (if-is (H .early) b F if-kind))
             (record { takes = J (time σ (firstPart b)) (time σ (secondPart b)) (X .right f (firstPart b) (A .fills)) (Y .right f (secondPart b) (E .fills)); goes = omega (arith, A .is, E .is) });
       }

@@ -9,9 +9,9 @@ use Rattle.model.specs.declared.Form.the-variants.{Task}
 use Rattle.reading.specs.Closing.{opensBlock}
 use Rattle.reading.specs.Ranges.{firstPart, secondPart}
 use Rattle.reading.proofs.Filled.{Inside}
-use Rattle.timing.proofs.Firsts.{Here}
+use Rattle.timing.proofs.Firsts.{Here, first-inside, second-inside}
 use Rattle.equaliser.proofs.Merged.{one-skip}
-use Rattle.equaliser.proofs.StepSizes.{inner, skip-size, act-size, first-inside, loop-size, second-inside, if-size}
+use Rattle.equaliser.proofs.StepSizes.{inner, skip-size, act-size, loop-size, if-size}
 use Rattle.equaliser.proofs.Measured.{Measured, measured-start, measured-few, measured-all, measured-on, measured-over, measured-past, measured-next}
 use borrow.Fn.Kinds.{In}
 use borrow.Fn.PlainCycle.{Measures, is, falls, and}
@@ -165,7 +165,7 @@ body : (t : ℕ) (c : statement-size-lts.After-closing (statement-size-claims t)
     Inside Task (a .s .now) (a .i + 1) (a .to) (a .depth) (c .closing .result) (firstPart (k .pre .1 .0 .block))
 body t c =
     let T = c .before .before .before .before .before .pre .1 .0 in
-    first-inside (here t (c .before .before .before)) _ (c .closing .ensures .is) (T .block) (open-kind t (c .before)) (T .fills)
+    first-inside (here t (c .before .before .before)) _ (c .closing .ensures .is) Task (T .block) (open-kind t (c .before)) (T .fills)
 
 other : (t : ℕ) (c : statement-size-lts.After-closing2 (statement-size-claims t) (statement-size-at t) statement-size.Post) →
     let m = c .before .before .before .before in
@@ -175,7 +175,7 @@ other : (t : ℕ) (c : statement-size-lts.After-closing2 (statement-size-claims 
 other t c =
     let m = c .before .before .before .before in
     let T = m .before .before .before .before .before .pre .1 .0 in
-    second-inside (here t (m .before .before .before)) _ (m .closing .ensures .is) _ (c .closing2 .ensures .is) (c .before .if3 .left) (T .block) (T .fills)
+    second-inside (here t (m .before .before .before)) _ (m .closing .ensures .is) _ (c .closing2 .ensures .is) (c .before .if3 .left) Task (T .block) (T .fills)
 
 statement-size-record-at-requires : (t : ℕ) → statement-size-lts.Need-record-at-requires (statement-size-claims t) (statement-size-at t) statement-size.Post
 statement-size-record-at-requires t c κs = omega arith
