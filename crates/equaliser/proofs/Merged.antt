@@ -1,21 +1,17 @@
--- An equalised block statement by statement: what is written for each, how many records, and which bytes.
-use Prim.Native.Nat.{ℕ, zero, suc, _+_, _*_, _-_, _≤_}
+-- An equalised block statement by statement: what is written for each, and how many records.
+use Prim.Native.Nat.{ℕ, _+_, _*_, _-_, _≤_}
 use native.Mathlib.Nat.{add-zero, zero-add}
 use native.Mathlib.Omega.{arith}
 use mathlib.Core.Path.{_≡_, refl, ap, sym, _∙_}
-use mathlib.Core.List.{List, [], _∷_, _++_, append-assoc}
-use lib.ListN.{length}
 use Rattle.model.specs.declared.Settings.{Settings}
-use Rattle.model.specs.Records.{Rec, recordBytes, bytes}
-use Rattle.model.specs.Trees.{Block, nil, skip, act, branch, while, times, _⧺_, size, flatten}
+use Rattle.model.specs.Trees.{Block, nil, skip, act, branch, while, times, _⧺_, size}
 use Rattle.model.specs.Times.{time}
 use Rattle.model.specs.Equalising.{pad, F, waiting, merge, equalise}
-use Rattle.model.proofs.Passes.{length-file}
 use Rattle.theory.proofs.Times.{time-F}
+use Rattle.records.proofs.Blocks.{waiting-⧺, size-⧺, size-waiting, one-skip}
 use Rattle.reading.specs.Ranges.{afterFirst}
 use Rattle.timing.specs.Blocks.{firstTime}
-use Rattle.equaliser.specs.Merged.{padded, branchOut, loopOut, firstOut, firstWaits, blockBytes}
-use Rattle.equaliser.specs.Sizes.{skipRecords}
+use Rattle.equaliser.specs.Merged.{padded, branchOut, loopOut, firstOut, firstWaits}
 
 -- MERGING
 
@@ -26,10 +22,6 @@ merge-pad (act p b) n = rw (merge-pad b 0)
 merge-pad (branch q a d b) n = rw (merge-pad b 0)
 merge-pad (while q m a b) n = rw (merge-pad b 0)
 merge-pad (times q m a b) n = rw (merge-pad b 0)
-
-waiting-⧺ : (n : ℕ) (a b : Block) → waiting n a ⧺ b ≡ waiting n (a ⧺ b)
-waiting-⧺ zero a b = refl
-waiting-⧺ (suc n) a b = refl
 
 module _ (σ : Settings) where
   -- nothing waits and nothing is added
@@ -60,22 +52,6 @@ module _ (σ : Settings) where
 
 -- SIZES
 
-pub size-⧺ : (a b : Block) → size (a ⧺ b) ≡ size a + size b
-size-⧺ nil b = omega arith
-size-⧺ (skip n a) b = omega (arith, size-⧺ a b)
-size-⧺ (act p a) b = omega (arith, size-⧺ a b)
-size-⧺ (branch q x y a) b = omega (arith, size-⧺ a b)
-size-⧺ (while q n x a) b = omega (arith, size-⧺ a b)
-size-⧺ (times q n x a) b = omega (arith, size-⧺ a b)
-
-pub size-waiting : (n : ℕ) (b : Block) → size (waiting n b) ≡ skipRecords n + size b
-size-waiting zero b = omega arith
-size-waiting (suc n) b = omega arith
-
-pub one-skip : (n : ℕ) → skipRecords n ≤ 1
-one-skip zero = omega arith
-one-skip (suc n) = omega arith
-
 module _ (σ : Settings) where
   pub size-first : (n : ℕ) (b : Block) (k : ℕ) → size (padded σ n b k) ≡ size (firstOut σ n b) + size (padded σ (firstWaits n b) (afterFirst b) k)
   size-first n b k = ap size (padded-first σ n b k) ∙ size-⧺ (firstOut σ n b) (padded σ (firstWaits n b) (afterFirst b) k)
@@ -92,27 +68,3 @@ module _ (σ : Settings) where
       rw (size-waiting n, ← merge-pad (F σ a) 0) (omega (arith, one-skip n, padded-small a 0 0, one-skip (0 + time σ (F σ a)), padded-small b 0 k))
   padded-small (times q m a b) n k =
       rw (size-waiting n, ← merge-pad (F σ a) 0) (omega (arith, one-skip n, padded-small a 0 0, padded-small b 0 k))
-
--- BYTES
-
-pub bytes-++ : (rs ts : List Rec) → bytes (rs ++ ts) ≡ bytes rs ++ bytes ts
-unfolding bytes
-bytes-++ [] ts = refl
-bytes-++ (r ∷ rs) ts = rw (bytes-++ rs ts) (sym (append-assoc (recordBytes r) (bytes rs) (bytes ts)))
-
-flatten-⧺ : (a b : Block) → flatten (a ⧺ b) ≡ flatten a ++ flatten b
-unfolding flatten
-flatten-⧺ nil b = refl
-flatten-⧺ (skip n a) b = rw (flatten-⧺ a b)
-flatten-⧺ (act p a) b = rw (flatten-⧺ a b)
-flatten-⧺ (branch q x y a) b = rw (flatten-⧺ a b) (simp append-assoc)
-flatten-⧺ (while q n x a) b = rw (flatten-⧺ a b) (simp append-assoc)
-flatten-⧺ (times q n x a) b = rw (flatten-⧺ a b) (simp append-assoc)
-
-pub bytes-⧺ : (a b : Block) → blockBytes (a ⧺ b) ≡ blockBytes a ++ blockBytes b
-unfolding blockBytes
-bytes-⧺ a b = rw (flatten-⧺ a b) (bytes-++ (flatten a) (flatten b))
-
-pub length-block : (b : Block) → length (blockBytes b) ≡ 12 * size b
-unfolding blockBytes
-length-block b = length-file b

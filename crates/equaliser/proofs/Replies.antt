@@ -21,6 +21,8 @@ use Rattle.model.specs.Answers.{Verdict, finished, refusal, equalised}
 use Rattle.model.specs.Replies.{turnDown, noRoom, kept, over, equalisedTree, equaliseReply, equaliseOut}
 use Rattle.model.proofs.Sound.{sound-file}
 use Rattle.records.specs.declared.settings.Decoded.the-variants.{Valid, Refused}
+use Rattle.records.specs.Blocks.{blockBytes, skipRecords}
+use Rattle.records.proofs.Blocks.{length-block}
 use Rattle.reading.specs.Answers.{Reads}
 use Rattle.reading.specs.Ranges.{Fills}
 use Rattle.reading.proofs.Filled.{fills-file}
@@ -29,11 +31,11 @@ use Rattle.timing.specs.declared.ticks.Time.the-variants.{Ticks, OverPeriod}
 use Rattle.timing.specs.Times.{Gives}
 use Rattle.timing.proofs.Given.{was-ticks, was-over}
 use Rattle.equaliser.specs.declared.sizes.Size.{Size}
-use Rattle.equaliser.specs.Merged.{padded, blockBytes}
-use Rattle.equaliser.specs.Sizes.{InTask, skipRecords, BlockSize}
+use Rattle.equaliser.specs.Merged.{padded}
+use Rattle.equaliser.specs.Sizes.{InTask, BlockSize}
 use Rattle.equaliser.specs.Written.{BlockFits, BlockWritten}
 use Rattle.equaliser.specs.Answers.{SoundTask, sizedReply, Equalises}
-use Rattle.equaliser.proofs.Merged.{equalise-padded, length-block}
+use Rattle.equaliser.proofs.Merged.{equalise-padded}
 
 -- A TASK THAT WAS READ
 

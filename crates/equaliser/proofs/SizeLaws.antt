@@ -1,21 +1,18 @@
 -- The size of a side, of an IF and of a loop, from the sizes of the blocks inside.
-use Prim.Native.Nat.{ℕ, zero, suc, _+_, _-_, _≤_, max}
+use Prim.Native.Nat.{ℕ, _+_, _-_, _≤_, max}
 use native.Mathlib.Nat.{add-zero}
 use native.Mathlib.Omega.{arith}
 use mathlib.Core.Path.{_≡_, refl, ap, sym, subst, _∙_}
 use Rattle.records.specs.declared.Record.{Record}
 use Rattle.records.specs.Records.{recordOf}
+use Rattle.records.specs.Blocks.{skipRecords}
+use Rattle.records.proofs.Blocks.{one-skip}
 use Rattle.timing.specs.declared.ticks.Time.{Time}
 use Rattle.timing.specs.declared.ticks.Time.the-variants.{Ticks, OverPeriod}
 use Rattle.timing.specs.Times.{Gives, loopTicks}
 use Rattle.timing.proofs.Given.{was-ticks, was-over, loop-over}
 use Rattle.equaliser.specs.declared.sizes.Size.{Size}
-use Rattle.equaliser.specs.Sizes.{skipRecords, SideRecords, BranchSize, LoopSize}
-use Rattle.equaliser.proofs.Merged.{one-skip}
-
-pub some-skip : (n : ℕ) → (n ≡ 0 → ⊥) → 1 ≡ skipRecords n
-some-skip zero h = absurd (h refl)
-some-skip (suc n) h = refl
+use Rattle.equaliser.specs.Sizes.{SideRecords, BranchSize, LoopSize}
 
 -- A SIDE OF AN IF
 

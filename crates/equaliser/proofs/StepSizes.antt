@@ -12,6 +12,8 @@ use Rattle.model.specs.Trees.{Test, Block, nil, act, while, size}
 use Rattle.model.specs.Times.{time}
 use Rattle.records.specs.declared.Record.{Record}
 use Rattle.records.specs.Records.{recordOf}
+use Rattle.records.specs.Blocks.{skipRecords}
+use Rattle.records.proofs.Blocks.{size-waiting}
 use Rattle.reading.specs.Closing.{opensBlock, closingIn}
 use Rattle.reading.specs.Ranges.{Fills, firstPart, secondPart, afterFirst, testOf}
 use Rattle.reading.proofs.FirstKinds.{skip-is, act-is, if-is, while-is}
@@ -22,8 +24,7 @@ use Rattle.timing.specs.Blocks.{firstTime}
 use Rattle.timing.proofs.Firsts.{Here, loop-count, plain-first, first-inside, second-inside}
 use Rattle.equaliser.specs.declared.sizes.Size.{Size}
 use Rattle.equaliser.specs.Merged.{padded, branchOut, loopOut, firstOut, firstWaits}
-use Rattle.equaliser.specs.Sizes.{InTask, skipRecords, BranchSize, LoopSize, IsStep, StepSize, BlockSize}
-use Rattle.equaliser.proofs.Merged.{size-waiting}
+use Rattle.equaliser.specs.Sizes.{InTask, BranchSize, LoopSize, IsStep, StepSize, BlockSize}
 
 -- a block inside a block of a task
 unfoldable pub inner : {s : List ℕ} {i to d j m : ℕ} {a : Block} → InTask s i to d → Inside Task s j to d m a → InTask s j m (d - 1)

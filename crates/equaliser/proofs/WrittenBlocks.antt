@@ -8,17 +8,18 @@ use Rattle.model.specs.declared.Settings.{Settings}
 use Rattle.model.specs.declared.Form.the-variants.{Task}
 use Rattle.model.specs.Trees.{Block}
 use Rattle.model.specs.Times.{time}
+use Rattle.records.specs.Blocks.{blockBytes, skipBytes, Wrote}
 use Rattle.records.proofs.Over.{Part, lent, back, part-start, part-fits, part-fits-last}
+use Rattle.records.proofs.Laying.{wrote-next, wrote-room, wrote-last}
 use Rattle.reading.specs.Ranges.{Fills, afterFirst}
 use Rattle.reading.proofs.Filled.{fills-after, fills-none, first-some, fills-once}
 use Rattle.timing.proofs.Firsts.{time-first}
 use Rattle.equaliser.specs.declared.write.Written.{Written}
-use Rattle.equaliser.specs.Merged.{padded, firstOut, firstWaits, blockBytes}
+use Rattle.equaliser.specs.Merged.{padded, firstOut, firstWaits}
 use Rattle.equaliser.specs.Sizes.{InTask}
-use Rattle.equaliser.specs.Written.{skipBytes, Wrote, BlockFits, BlockWritten, StepFits, IsWritten, StepWritten}
+use Rattle.equaliser.specs.Written.{BlockFits, BlockWritten, StepFits, IsWritten, StepWritten}
 use Rattle.equaliser.proofs.Merged.{waits-less}
 use Rattle.equaliser.proofs.WrittenBytes.{first-bytes}
-use Rattle.equaliser.proofs.WrittenParts.{wrote-next, wrote-room, wrote-last}
 
 -- of the block in the records from `from` up to `to`, with k ticks of SKIP at its end: the records from i on are left, and w ticks of SKIP wait
 pub record Writing (s : List ℕ) (from to d : ℕ) (σ : Settings) (k : ℕ) (old new : List ℕ) (at w i : ℕ) : Type 0 where

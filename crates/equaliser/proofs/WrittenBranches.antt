@@ -10,11 +10,13 @@ use Rattle.model.specs.Records.{Rec, recordBytes}
 use Rattle.model.specs.Trees.{Block, elseRec, endRec}
 use Rattle.model.specs.Times.{time}
 use Rattle.model.specs.Replies.{over}
+use Rattle.records.specs.Blocks.{blockBytes, Wrote}
 use Rattle.records.proofs.Over.{Part, lent, back, part-first, part-fits, part-fits-last}
+use Rattle.records.proofs.Laying.{record-wrote, wrote-next, wrote-last}
 use Rattle.reading.proofs.Filled.{fills-once}
-use Rattle.equaliser.specs.Merged.{padded, blockBytes}
-use Rattle.equaliser.specs.Written.{branchBytes, Wrote, BlockTicks, BlockFits, BlockWritten, BranchFits, BranchWritten}
-use Rattle.equaliser.proofs.WrittenParts.{record-wrote, wrote-next, wrote-last, block-fits, block-laid}
+use Rattle.equaliser.specs.Merged.{padded}
+use Rattle.equaliser.specs.Written.{branchBytes, BlockTicks, BlockFits, BlockWritten, BranchFits, BranchWritten}
+use Rattle.equaliser.proofs.WrittenParts.{block-fits, block-laid}
 
 module _ {s : List ℕ} {x : Rec} {i m to d : ℕ} {σ : Settings} {old : List ℕ} where
   module _ (F : BranchFits s x i m to d σ old) where

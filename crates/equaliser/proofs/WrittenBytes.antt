@@ -1,24 +1,16 @@
 -- The bytes of what is written: a block's first statement and what follows it, and each statement's own.
-use Prim.Native.Nat.{ℕ, zero, suc}
-use mathlib.Core.Path.{_≡_, refl, ap, _∙_}
+use Prim.Native.Nat.{ℕ}
+use mathlib.Core.Path.{_≡_, ap, _∙_}
 use mathlib.Core.List.{_++_, append-assoc, append-nil}
 use Rattle.model.specs.declared.Settings.{Settings}
-use Rattle.model.specs.Records.{Rec, recordBytes, bytes, IF}
-use Rattle.model.specs.Trees.{Test, Act, Block, nil, act, testRec, actRec, flatten}
-use Rattle.model.specs.Equalising.{waiting}
+use Rattle.model.specs.Records.{Rec, bytes, IF}
+use Rattle.model.specs.Trees.{Test, Block, testRec, flatten}
+use Rattle.records.specs.Blocks.{blockBytes}
+use Rattle.records.proofs.Blocks.{bytes-++, bytes-⧺}
 use Rattle.reading.specs.Ranges.{testOf, afterFirst}
-use Rattle.equaliser.specs.Merged.{padded, branchOut, loopOut, firstOut, firstWaits, blockBytes}
-use Rattle.equaliser.specs.Written.{skipBytes, branchBytes, loopBytes}
-use Rattle.equaliser.proofs.Merged.{padded-first, bytes-++, bytes-⧺}
-
-pub waiting-bytes : (n : ℕ) (b : Block) → blockBytes (waiting n b) ≡ skipBytes n ++ blockBytes b
-unfolding blockBytes flatten bytes
-waiting-bytes zero b = refl
-waiting-bytes (suc n) b = refl
-
-pub act-bytes : (p : Act) → blockBytes (act p nil) ≡ recordBytes (actRec p)
-unfolding blockBytes flatten bytes
-act-bytes p = append-nil (recordBytes (actRec p))
+use Rattle.equaliser.specs.Merged.{padded, branchOut, loopOut, firstOut, firstWaits}
+use Rattle.equaliser.specs.Written.{branchBytes, loopBytes}
+use Rattle.equaliser.proofs.Merged.{padded-first}
 
 module _ (σ : Settings) where
   pub branch-bytes : (q : Test) (a d : Block) → blockBytes (branchOut σ q a d) ≡ branchBytes σ (testRec IF q 0) a d

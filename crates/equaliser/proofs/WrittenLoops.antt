@@ -10,11 +10,13 @@ use Rattle.model.specs.Records.{Rec}
 use Rattle.model.specs.Trees.{Block}
 use Rattle.model.specs.Times.{time}
 use Rattle.model.specs.Replies.{over}
+use Rattle.records.specs.Blocks.{blockBytes, Wrote}
 use Rattle.records.proofs.Over.{Part, lent, back, part-first, part-fits-last}
+use Rattle.records.proofs.Laying.{wrote-room, wrote-last}
 use Rattle.reading.proofs.Filled.{fills-once}
-use Rattle.equaliser.specs.Merged.{padded, blockBytes}
-use Rattle.equaliser.specs.Written.{loopHead, loopTail, loopBytes, Wrote, BlockTicks, BlockFits, BlockWritten, LoopFits, LoopWritten}
-use Rattle.equaliser.proofs.WrittenParts.{wrote-room, wrote-last, block-fits, block-laid}
+use Rattle.equaliser.specs.Merged.{padded}
+use Rattle.equaliser.specs.Written.{loopHead, loopTail, loopBytes, BlockTicks, BlockFits, BlockWritten, LoopFits, LoopWritten}
+use Rattle.equaliser.proofs.WrittenParts.{block-fits, block-laid}
 
 module _ {s : List ℕ} {x : Rec} {i to d : ℕ} {σ : Settings} {old : List ℕ} where
   -- the loop is laid up to its body, and with it

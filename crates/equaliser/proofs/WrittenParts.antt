@@ -1,31 +1,17 @@
--- What callees lay over what they are lent, as steps of Part: any bytes, a record, a block.
+-- A block inside a loop or an IF, laid over what is lent, as a step of Part.
 use Prim.Native.Nat.{ℕ, _+_, _≤_}
 use native.Mathlib.Omega.{arith}
-use mathlib.Core.Path.{_≡_, refl}
+use mathlib.Core.Path.{_≡_}
 use mathlib.Core.List.{List, _++_}
-use lib.ListN.{length}
 use Rattle.model.specs.declared.Settings.{Settings}
-use Rattle.model.specs.Records.{Rec, recordBytes}
 use Rattle.model.specs.Times.{time}
-use Rattle.model.specs.Replies.{over}
-use Rattle.records.proofs.Over.{Part, lent, back, part-room, part-fits, part-lent, part-last, part-count}
+use Rattle.records.specs.Blocks.{blockBytes}
+use Rattle.records.proofs.Over.{Part, lent, back, part-fits}
+use Rattle.records.proofs.Laying.{wrote-next}
 use Rattle.reading.specs.Ranges.{Ranged}
-use Rattle.equaliser.specs.Merged.{padded, blockBytes}
+use Rattle.equaliser.specs.Merged.{padded}
 use Rattle.equaliser.specs.Sizes.{InTask}
-use Rattle.equaliser.specs.Written.{Wrote, BlockFits, BlockWritten}
-
-pub record-wrote : (x : Rec) {old new : List ℕ} → new ≡ over (recordBytes x) old → Wrote (recordBytes x) old new 12
-record-wrote x e = record { laid = e; count = refl }
-
-module _ {w old new ys : List ℕ} {at n : ℕ} where
-  pub wrote-next : {rest : List ℕ} (bs : List ℕ) → Part w (bs ++ rest) old new at → Wrote bs (lent new at) ys n → Part w rest old (back new at ys) (at + n)
-  wrote-next bs p W = part-lent bs p (W .laid) (W .count)
-
-  pub wrote-room : {bs : List ℕ} → Part w bs old new at → Wrote bs (lent new at) ys n → at + n ≤ length old
-  wrote-room p W = omega (arith, part-room p, W .count)
-
-  pub wrote-last : {bs : List ℕ} → Part w bs old new at → Wrote bs (lent new at) ys n → Wrote w old (back new at ys) (at + n)
-  wrote-last p W = record { laid = part-last p (W .laid); count = part-count p (W .count) }
+use Rattle.equaliser.specs.Written.{BlockFits, BlockWritten}
 
 -- a range that a block fills
 pub in-range : {s : List ℕ} {i to d : ℕ} → InTask s i to d → Ranged s i to

@@ -16,18 +16,20 @@ use Rattle.model.specs.Replies.{over}
 use Rattle.model.proofs.Sound.{OfForm}
 use Rattle.records.specs.declared.Record.{Record}
 use Rattle.records.specs.Records.{recordOf}
+use Rattle.records.specs.Blocks.{blockBytes, skipBytes, Wrote}
 use Rattle.records.proofs.Over.{Part, lent, back, part-first, part-room, part-fits-last}
+use Rattle.records.proofs.Laying.{record-wrote, wrote-room, wrote-last}
+use Rattle.records.proofs.Blocks.{waiting-bytes, act-bytes}
 use Rattle.reading.specs.Closing.{opensBlock, closingIn}
 use Rattle.reading.specs.Ranges.{Fills, firstSize, firstPart, secondPart, afterFirst, testOf}
 use Rattle.reading.proofs.FirstKinds.{IsAct, skip-is, act-is, if-is, while-is}
 use Rattle.reading.proofs.Filled.{Inside, fills-once}
 use Rattle.timing.proofs.Firsts.{Here, loop-count, first-inside, second-inside}
 use Rattle.equaliser.specs.declared.write.Written.{Written}
-use Rattle.equaliser.specs.Merged.{branchOut, loopOut, padded, firstOut, firstWaits, blockBytes}
-use Rattle.equaliser.specs.Written.{skipBytes, branchBytes, loopBytes, Wrote, StepFits, IsWritten, StepWritten, BranchFits, BranchWritten, LoopFits, LoopWritten}
+use Rattle.equaliser.specs.Merged.{branchOut, loopOut, padded, firstOut, firstWaits}
+use Rattle.equaliser.specs.Written.{branchBytes, loopBytes, StepFits, IsWritten, StepWritten, BranchFits, BranchWritten, LoopFits, LoopWritten}
 use Rattle.equaliser.proofs.StepSizes.{inner}
-use Rattle.equaliser.proofs.WrittenBytes.{waiting-bytes, act-bytes, branch-bytes, loop-bytes}
-use Rattle.equaliser.proofs.WrittenParts.{record-wrote, wrote-room, wrote-last}
+use Rattle.equaliser.proofs.WrittenBytes.{branch-bytes, loop-bytes}
 
 module _ (σ : Settings) where
   -- a block takes at least as long as the blocks inside its first statement

@@ -1,9 +1,7 @@
 -- An equalised block as it is written from left to right, while ticks of SKIP wait for the next record.
 use Prim.Native.Nat.{ℕ, _+_, _-_}
-use mathlib.Core.List.{List}
 use Rattle.model.specs.declared.Settings.{Settings}
-use Rattle.model.specs.Records.{bytes}
-use Rattle.model.specs.Trees.{Test, Block, nil, skip, act, branch, while, times, _⧺_, flatten}
+use Rattle.model.specs.Trees.{Test, Block, nil, skip, act, branch, while, times, _⧺_}
 use Rattle.model.specs.Times.{time}
 use Rattle.model.specs.Equalising.{pad, F, waiting, merge}
 
@@ -34,7 +32,3 @@ firstWaits n (act p b) = 0
 firstWaits n (branch q a d b) = 0
 firstWaits n (while q m a b) = 0
 firstWaits n (times q m a b) = 0
-
--- the bytes of a block
-unfoldable pub blockBytes : Block → List ℕ
-blockBytes b = bytes (flatten b)

@@ -5,11 +5,11 @@ use mathlib.Core.List.{List}
 use lib.ListN.{length}
 use Rattle.model.specs.declared.Settings.{Settings}
 use Rattle.model.specs.declared.Form.the-variants.{Task}
-use Rattle.model.specs.Trees.{Block, nil, size}
+use Rattle.model.specs.Trees.{Block, size}
 use Rattle.model.specs.Times.{time}
-use Rattle.model.specs.Equalising.{waiting}
 use Rattle.records.specs.declared.Record.{Record}
 use Rattle.records.specs.Records.{recordOf}
+use Rattle.records.specs.Blocks.{skipRecords}
 use Rattle.reading.specs.Ranges.{Fills, firstSize}
 use Rattle.timing.specs.declared.ticks.Time.{Time}
 use Rattle.timing.specs.Times.{Gives, loopTicks}
@@ -24,10 +24,6 @@ pub record InTask (s : List ℕ) (i to d : ℕ) : Type 0 where
   pub fills : Fills Task s i to d block
   pub few : to ≤ 256
   pub inside : 12 * to ≤ length s
-
--- the records that n waiting ticks of SKIP become: one, or none
-abbrev pub skipRecords : ℕ → ℕ
-skipRecords n = size (waiting n nil)
 
 -- r holds t ticks, or that they are above p; and if they are not, c k records for k ticks of SKIP at the end
 pub record IsSize (p t : ℕ) (c : ℕ → ℕ) (r : Size) : Type 0 where

@@ -7,19 +7,15 @@ use Rattle.model.specs.declared.Settings.{Settings}
 use Rattle.model.specs.declared.Form.{Form}
 use Rattle.model.specs.declared.Form.the-variants.{Task}
 use Rattle.model.specs.Records.{Rec, recordBytes, IF, TIMES}
-use Rattle.model.specs.Trees.{Block, nil, testRec, elseRec, endRec}
+use Rattle.model.specs.Trees.{Block, testRec, elseRec, endRec}
 use Rattle.model.specs.Times.{time}
-use Rattle.model.specs.Equalising.{waiting}
-use Rattle.model.specs.Replies.{over}
+use Rattle.records.specs.Blocks.{blockBytes, skipBytes, Wrote}
 use Rattle.reading.specs.Ranges.{Fills, testOf, firstSize}
 use Rattle.equaliser.specs.declared.write.Written.{Written}
-use Rattle.equaliser.specs.Merged.{padded, firstOut, firstWaits, blockBytes}
+use Rattle.equaliser.specs.Merged.{padded, firstOut, firstWaits}
 use Rattle.equaliser.specs.Sizes.{InTask}
 
 -- PIECES
-
-abbrev pub skipBytes : ℕ → List ℕ
-skipBytes n = blockBytes (waiting n nil)
 
 -- an IF that opens with the record r
 abbrev pub branchBytes : Settings → Rec → Block → Block → List ℕ
@@ -37,11 +33,6 @@ abbrev pub loopBytes : Settings → Rec → Block → List ℕ
 loopBytes σ r a = loopHead r ++ (blockBytes (padded σ 0 a 0) ++ loopTail (time σ a))
 
 -- CONTRACTS
-
--- bs is laid over the front of old, and n is its length
-pub record Wrote (bs old new : List ℕ) (n : ℕ) : Type 0 where
-  pub laid : new ≡ over bs old
-  pub count : n ≡ length bs
 
 -- a block's time, where it is not above the period
 pub record BlockTicks (s : List ℕ) (i to d : ℕ) (σ : Settings) (t : ℕ) : Type 0 where

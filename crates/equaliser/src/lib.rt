@@ -16,7 +16,7 @@ use model::Refusal;
 use model::Settings;
 use records::no_room;
 use records::settings::Decoded;
-use sizes::skip_records;
+use records::skips::skip_records;
 use timing::ticks::Time;
 use write::write_block;
 

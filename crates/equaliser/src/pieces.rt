@@ -4,23 +4,13 @@ ghost use Prim.Native.Nat.{_≤_};
 ghost use lib.ListN.{length};
 ghost use Rattle.model.specs.Replies.{over};
 ghost use Rattle.records.specs.Records.{recordOf};
-ghost use Rattle.equaliser.specs.Written.{skipBytes, loopHead, loopTail, Wrote};
+ghost use Rattle.records.specs.Blocks.{Wrote};
+ghost use Rattle.equaliser.specs.Written.{loopHead, loopTail};
 use records::Record;
 use records::kinds;
 use records::put_bare;
 use records::put_record;
-
-// The SKIP that waiting ticks become, if there are any; the bytes written.
-pub fn put_skip(out: &mut [u8], wait: u32) -> usize
-    requires { ⌜ length (skipBytes wait) ≤ length (now out) ⌝ }
-    ensures { λ r. ⌜ Wrote (skipBytes wait) (now (out .entry)) (now (out .exit)) r ⌝ }
-{
-    if wait == 0 {
-        return 0;
-    }
-    put_bare(out, kinds::SKIP, 0, wait);
-    12
-}
+use records::skips::put_skip;
 
 // TIMES and IF with the test of a WHILE: 24 bytes.
 pub fn put_loop_head(out: &mut [u8], r: Record)

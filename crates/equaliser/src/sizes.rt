@@ -1,9 +1,9 @@
 // The sizes of blocks and of single statements once they are equalised.
-ghost use mathlib.Core.Path.{_≡_};
-ghost use Prim.Native.Nat.{_-_};
-ghost use Rattle.equaliser.specs.Sizes.{skipRecords, Small, SideRecords, BranchSize, LoopSize};
+ghost use Rattle.equaliser.specs.Sizes.{Small, SideRecords, BranchSize, LoopSize};
 use records::Record;
+use records::skips::skip_records;
 use timing::ticks::Time;
+use timing::ticks::beyond;
 use timing::ticks::branch_time;
 use timing::ticks::loop_time;
 
@@ -13,26 +13,6 @@ pub struct Size {
     pub time: Time,
     pub records: usize,
     pub wait: u64,
-}
-
-// The records that waiting ticks of SKIP become.
-pub fn skip_records(wait: u64) -> usize
-    ensures { λ r. ⌜ r ≡ skipRecords wait ⌝ }
-{
-    if wait == 0 {
-        return 0;
-    }
-    1
-}
-
-// By how much x is above y.
-pub fn beyond(x: u32, y: u32) -> u32
-    ensures { λ r. ⌜ r ≡ x - y ⌝ }
-{
-    if x <= y {
-        return 0;
-    }
-    x - y
 }
 
 // The records of a side of an IF, padded up to the other side's time.

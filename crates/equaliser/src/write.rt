@@ -4,8 +4,6 @@ ghost use Rattle.records.specs.Records.{recordOf};
 ghost use Rattle.equaliser.specs.Written.{BlockTicks, BlockFits, BlockWritten, StepFits, StepWritten, BranchFits, BranchWritten, LoopFits, LoopWritten};
 use crate::pieces::put_loop_head;
 use crate::pieces::put_loop_tail;
-use crate::pieces::put_skip;
-use crate::sizes::beyond;
 use model::Settings;
 use reading::blocks::closing;
 use reading::blocks::opens;
@@ -14,8 +12,10 @@ use records::kinds;
 use records::put_bare;
 use records::put_record;
 use records::record_at;
+use records::skips::put_skip;
 use timing::blocks::block_time;
 use timing::ticks::Time;
+use timing::ticks::beyond;
 
 // The index of the record after a statement, the bytes written for it, and the ticks of SKIP that wait after it.
 pub struct Written {

@@ -18,11 +18,14 @@ use Rattle.reading.specs.declared.scan.Scanned.the-variants.{Sound}
 use Rattle.reading.specs.Scanning.{scanned, Scans}
 use Rattle.reading.specs.Answers.{Reads}
 
+none : {A : Type 0} (x : Refusal) (σ : Settings) → Refused x ≡ Valid σ → A
+none x σ e = let z : _≡_ {A = ℕ} 0 1 = cc in absurd (omega arith)
+
 module _ (s : List ℕ) (f : Form) (file : List ℕ) where
   -- the settings are refused, whatever the file
   pub settings-refused : (x : Refusal) → Decodes s (Refused x) → Reads s f file (Refused x)
   unfolding reading
-  settings-refused x D = record { reply = λ next. D .reply (unless (fault f file) next); settings = λ σ e. let z : _≡_ {A = ℕ} 0 1 = cc in absurd (omega arith) }
+  settings-refused x D = record { reply = λ next. D .reply (unless (fault f file) next); settings = λ σ e. none x σ e; narrow = λ σ e. none x σ e }
 
   module _ (σ : Settings) (D : Decodes s (Valid σ)) where
     then-scanned : (q : Scanned) → Scans f file q → (next : Verdict) → scanned q next ≡ reading s f file next
@@ -30,10 +33,10 @@ module _ (s : List ℕ) (f : Form) (file : List ℕ) where
     then-scanned q S next = S .reply next ∙ D .reply (unless (fault f file) next)
 
     pub file-refused : (x : Refusal) → Scans f file (Scanned.Refused x) → Reads s f file (Refused x)
-    file-refused x S = record { reply = then-scanned (Scanned.Refused x) S; settings = λ τ e. let z : _≡_ {A = ℕ} 0 1 = cc in absurd (omega arith) }
+    file-refused x S = record { reply = then-scanned (Scanned.Refused x) S; settings = λ τ e. none x τ e; narrow = λ τ e. none x τ e }
 
     pub both-read : Scans f file Sound → Reads s f file (Valid σ)
-    both-read S = record { reply = then-scanned Sound S; settings = λ τ e. D .settings τ e }
+    both-read S = record { reply = then-scanned Sound S; settings = λ τ e. D .settings τ e; narrow = λ τ e. D .narrow τ e }
 
   pub read-sound : (σ : Settings) → Reads s f file (Valid σ) → fault f file ≡ sound
   unfolding reading

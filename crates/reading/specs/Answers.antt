@@ -1,7 +1,7 @@
 -- What reading the settings and a file answers.
 use mathlib.Core.Path.{_≡_}
 use mathlib.Core.List.{List}
-use Prim.Native.Nat.{ℕ}
+use Prim.Native.Nat.{ℕ, _≤_}
 use Rattle.model.specs.declared.Form.{Form}
 use Rattle.model.specs.declared.Settings.{Settings}
 use Rattle.model.specs.Settings.{settingsOf}
@@ -15,3 +15,4 @@ use Rattle.records.specs.Decoded.{decoded}
 pub record Reads (s : List ℕ) (f : Form) (file : List ℕ) (r : Decoded) : Type 0 where
   pub reply : (next : Verdict) → decoded r next ≡ reading s f file next
   pub settings : (σ : Settings) → r ≡ Valid σ → σ ≡ settingsOf s
+  pub narrow : (σ : Settings) → r ≡ Valid σ → σ .window ≤ 1000000

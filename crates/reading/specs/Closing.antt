@@ -12,6 +12,10 @@ use Rattle.reading.specs.declared.blocks.Pass.the-variants.{Ends, On}
 abbrev pub opensBlock : ℕ → Bool
 opensBlock k = eqb k IF || (eqb k WHILE || eqb k TIMES)
 
+-- or closes one, or its first side
+abbrev pub closesBlock : ℕ → Bool
+closesBlock k = eqb k ELSE || eqb k END
+
 -- what it makes of the count
 abbrev pub passTo : ℕ → ℕ → Pass
 passTo k n =

@@ -2,7 +2,7 @@
 ghost use mathlib.Core.Path.{_≡_};
 ghost use Prim.Native.Nat.{_*_, _^_, _≤_, _<_};
 ghost use lib.ListN.{length};
-ghost use Rattle.reading.specs.Closing.{Closes, opensBlock, passTo};
+ghost use Rattle.reading.specs.Closing.{Closes, opensBlock, closesBlock, passTo};
 use records::kind_at;
 use records::kinds;
 
@@ -11,6 +11,13 @@ pub fn opens(kind: u8) -> bool
     ensures { λ r. ⌜ r ≡ opensBlock kind ⌝ }
 {
     (kind == kinds::IF) | ((kind == kinds::WHILE) | (kind == kinds::TIMES))
+}
+
+// Whether a record of that kind closes one, or its first side.
+pub fn closes(kind: u8) -> bool
+    ensures { λ r. ⌜ r ≡ closesBlock kind ⌝ }
+{
+    (kind == kinds::ELSE) | (kind == kinds::END)
 }
 
 // What a record makes of the count of blocks opened: it ends the block, or the scan goes on.

@@ -1,6 +1,7 @@
 // Records of 12 bytes, read from a file and written to the front of a lent buffer.
 pub mod kinds;
 pub mod settings;
+pub mod skips;
 pub mod words;
 
 ghost use mathlib.Core.Path.{_≡_};

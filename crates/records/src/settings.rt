@@ -18,7 +18,7 @@ pub enum Decoded {
 // The numbers in 12 bytes of settings.
 fn numbers(s: &[u8]) -> Settings
     requires { ⌜ 12 ≤ length (now s) ⌝ }
-    ensures { λ r. ⌜ r ≡ settingsOf (now (s .entry)) ⌝ }
+    ensures { λ r. ⌜ (r ≡ settingsOf (now (s .entry))) × (r .window ≤ 65535) ⌝ }
 {
     Settings {
         set: wide(s[0]),

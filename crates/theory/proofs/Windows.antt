@@ -57,12 +57,12 @@ abbrev pub round : Settings → ℕ
 round σ = σ .spacing * σ .window
 
 -- ε ticks or more past the commands of its window: at the start of each round they are a BEAT and a SAVE, else a BEAT
-record Past (σ : Settings) (ε t : ℕ) : Type 0 where
-  beaten : σ .beat + ε ≤ t % σ .window
-  saved : σ .beat + σ .save + ε ≤ t % round σ
+pub record Past (σ : Settings) (ε t : ℕ) : Type 0 where
+  pub beaten : σ .beat + ε ≤ t % σ .window
+  pub saved : σ .beat + σ .save + ε ≤ t % round σ
 
 -- where a step or a command may start; one tick past the commands after any step, so that filling a side meets the other's end
-data Free (σ : Settings) (ε t : ℕ) : Type 0 where
+pub data Free (σ : Settings) (ε t : ℕ) : Type 0 where
   bound : t % σ .window ≡ 0 → Free σ ε t
   past : Past σ ε t → Free σ ε t
 
@@ -350,18 +350,34 @@ module _ (σ : Settings) (fits : Fits σ) where
   free-lay (while q n a b) ε t p c l f = absurd p
   free-lay (times q n a b) ε t p c l f = absurd p
 
+  -- what the places lead to, for crates above: behind a block, behind a test, and where filling ends
+  pub free-behind : (b : Block) (ε t : ℕ) → LoopFree b → CommandFree b → ε ≤ 1 → Free σ ε t → Free σ ε (t + time σ (lay σ b t))
+  free-behind b ε t p c l f = free-lay b ε t p c l f .there
+
+  pub free-tested : (ε t : ℕ) → Free σ ε t → Free σ 1 (t + time σ (before σ t 1) + 1)
+  free-tested ε t f = after-step 1 1 (t + time σ (before σ t 1)) (omega arith) (omega arith) (ready 1 one ε t f .there)
+
+  pub fill-ends : (t e : ℕ) → Free σ 1 t → Free σ 1 e → t ≤ e → t + time σ (fill σ (e - t) t e) ≡ e
+  fill-ends t e f g l = fill-meets (e - t) t e f g l (omega arith) .there
+
   -- THE WHOLE FILE
 
   -- tick 0 has BEAT and SAVE
-  commands-0 : commands σ 0 ≡ act (beat 1) (act (save 0) nil)
+  pub commands-0 : commands σ 0 ≡ act (beat 1) (act (save 0) nil)
   commands-0 = rw (zero-mod (σ .window), zero-mod (round σ))
+
+  -- and behind them
+  clear-0 : Commanded σ 0 (act (beat 1) (act (save 0) nil))
+  clear-0 = rw commands-0 at (commanded 0 (zero-mod (σ .window)))
+
+  pub free-start : Free σ 0 (σ .beat + σ .save)
+  free-start = let z : 0 + (σ .beat + (σ .save + 0)) ≡ σ .beat + σ .save = omega arith in past (rw z at (clear-0 .clear))
 
   free-opened : (b : Block) → LoopFree b → CommandFree b → Leads σ (Free σ 0) 0 (opened σ b)
   free-opened b p c =
-      let k : Commanded σ 0 (act (beat 1) (act (save 0) nil)) = rw commands-0 at (commanded 0 (zero-mod (σ .window))) in
       let z : 0 + (σ .beat + (σ .save + 0)) ≡ σ .beat + σ .save = omega arith in
-      leads-⧺ (act (beat 1) (act (save 0) nil)) (lay σ b (σ .beat + σ .save)) 0 (k .placed)
-      (rw z (free-lay b 0 (σ .beat + σ .save) p c (omega arith) (past (rw z at (k .clear)))))
+      leads-⧺ (act (beat 1) (act (save 0) nil)) (lay σ b (σ .beat + σ .save)) 0 (clear-0 .placed)
+      (rw z (free-lay b 0 (σ .beat + σ .save) p c (omega arith) free-start))
 
   bound-end : (t : ℕ) → Free σ 0 t → Leads σ (λ u. u % σ .window ≡ 0) t (cond (eqb (t % σ .window) 0) nil (skip (left σ t) nil))
   bound-end t f = go (eqb (t % σ .window) 0) refl f

@@ -1,6 +1,6 @@
-// The times of single statements, each up to the period.
+// The times of single statements, each up to the period, and by how much one is above another.
 ghost use mathlib.Core.Path.{_≡_};
-ghost use Prim.Native.Nat.{ℕ, _+_, _^_, _≤_, max};
+ghost use Prim.Native.Nat.{ℕ, _+_, _-_, _^_, _≤_, max};
 ghost use Rattle.records.specs.Records.{recordOf};
 ghost use Rattle.timing.specs.Times.{Gives, setTicks, stepTicks, roundTicks, loopTicks};
 use model::Settings;
@@ -21,6 +21,16 @@ pub fn up_to(period: u32, t: u64) -> Time
         return Time::OverPeriod;
     }
     Time::Ticks(t as u32)
+}
+
+// By how much x is above y.
+pub fn beyond(x: u32, y: u32) -> u32
+    ensures { λ r. ⌜ r ≡ x - y ⌝ }
+{
+    if x <= y {
+        return 0;
+    }
+    x - y
 }
 
 fn set_ticks(n: Settings, op: u8) -> u32

@@ -2,7 +2,7 @@
 use mathlib.Core.Path.{sym, _∙_}
 use native.Mathlib.Omega.{arith}
 use borrow.Author.Needs.{needs}
-use Rattle.equaliser.proofs.Merged.{one-skip}
+use Rattle.records.proofs.Blocks.{one-skip}
 use Rattle.equaliser.proofs.Replies.{in-task, over-period, no-room, has-room, written}
 use Rattle.equaliser.proofs.equalise_sound.Statement.{statement}
 use Rattle.equaliser.proofs.equalise_sound.Tie as tie

@@ -6,11 +6,11 @@ use mathlib.Core.Path.{_≡_, sym, _∙_}
 use borrow.Author.Needs.{needs}
 use borrow.Author.Tests.{not-true, not-false}
 use Rattle.model.specs.declared.Form.the-variants.{Task}
+use Rattle.records.proofs.Blocks.{one-skip}
 use Rattle.reading.specs.Closing.{opensBlock}
 use Rattle.reading.specs.Ranges.{firstPart, secondPart}
 use Rattle.reading.proofs.Filled.{Inside}
 use Rattle.timing.proofs.Firsts.{Here, first-inside, second-inside}
-use Rattle.equaliser.proofs.Merged.{one-skip}
 use Rattle.equaliser.proofs.StepSizes.{inner, skip-size, act-size, loop-size, if-size}
 use Rattle.equaliser.proofs.Measured.{Measured, measured-start, measured-few, measured-all, measured-on, measured-over, measured-past, measured-next}
 use borrow.Fn.Kinds.{In}
@@ -23,10 +23,10 @@ use Rattle.equaliser.proofs.measure.statement_size.Kinds as statement-s
 use Rattle.equaliser.proofs.measure.+block_size+statement_size.Lts-statement_size as statement-size-lts
 use Rattle.equaliser.proofs.sizes.branch_size.Reads as branch-size-reads
 use Rattle.equaliser.proofs.sizes.loop_size.Reads as loop-size-reads
-use Rattle.equaliser.proofs.sizes.skip_records.Reads as skip-records-reads
 use Rattle.reading.proofs.blocks.closing.Reads as closing-reads
 use Rattle.reading.proofs.blocks.opens.Reads as opens-reads
 use Rattle.records.proofs.record_at.Reads as record-at-reads
+use Rattle.records.proofs.skips.skip_records.Reads as skip-records-reads
 use Rattle.timing.proofs.ticks.step_ticks.Reads as step-ticks-reads
 use Rattle.timing.proofs.ticks.up_to.Reads as up-to-reads
 use Rattle.equaliser.proofs.measure.+block_size+statement_size.{statement}

@@ -6,15 +6,16 @@ use mathlib.Core.List.{_++_}
 use Prim.Native.Nat.{_+_}
 use Rattle.model.specs.Records.{recordBytes}
 use Rattle.model.specs.Trees.{endRec}
+use Rattle.records.specs.Blocks.{skipBytes}
 use Rattle.records.proofs.Over.{Part, back, part-at, part-room, part-fits, part-fits-last, part-lent, part-last, part-count}
-use Rattle.equaliser.specs.Written.{skipBytes, loopTail}
+use Rattle.equaliser.specs.Written.{loopTail}
 use Rattle.equaliser.proofs.PieceBytes.{else-laid, skip-laid}
 use Rattle.equaliser.proofs.pieces.put_loop_tail.Statement.{statement}
 use Rattle.equaliser.proofs.pieces.put_loop_tail.Tie as tie
 use Rattle.equaliser.proofs.pieces.put_loop_tail.Reads as reads
 use Rattle.equaliser.proofs.pieces.put_loop_tail.Lts as lts
-use Rattle.equaliser.proofs.pieces.put_skip.Reads as put-skip-reads
 use Rattle.records.proofs.put_bare.Reads as put-bare-reads
+use Rattle.records.proofs.skips.put_skip.Reads as put-skip-reads
 
 abbrev claims : lts.Claims
 claims = (put-bare-reads.Asked, put-bare-reads.Learnt, put-skip-reads.Asked, put-skip-reads.Learnt)

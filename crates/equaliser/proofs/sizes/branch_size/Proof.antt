@@ -1,6 +1,6 @@
 use native.Mathlib.Omega.{arith}
 use borrow.Author.Needs.{needs}
-use Rattle.equaliser.proofs.Merged.{one-skip}
+use Rattle.records.proofs.Blocks.{one-skip}
 use Rattle.equaliser.proofs.SizeLaws.{branch-sizes}
 use Rattle.equaliser.proofs.sizes.branch_size.Statement.{statement}
 use Rattle.equaliser.proofs.sizes.branch_size.Tie as tie

@@ -1,7 +1,7 @@
 use Prim.Native.Nat.{_+_}
 use native.Mathlib.Omega.{arith}
 use borrow.Author.Needs.{needs}
-use Rattle.equaliser.proofs.Merged.{one-skip}
+use Rattle.records.proofs.Blocks.{one-skip}
 use Rattle.equaliser.proofs.SizeLaws.{side-over, other-over, side-padded}
 use Rattle.equaliser.proofs.sizes.side_records.Statement.{statement}
 use Rattle.equaliser.proofs.sizes.side_records.Tie as tie

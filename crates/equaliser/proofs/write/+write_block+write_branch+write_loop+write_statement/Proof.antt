@@ -34,14 +34,14 @@ use Rattle.equaliser.proofs.write.write_statement.Kinds as write-statem
 use Rattle.equaliser.proofs.write.+write_block+write_branch+write_loop+write_statement.Lts-write_statement as write-statement-lts
 use Rattle.equaliser.proofs.pieces.put_loop_head.Reads as put-loop-head-reads
 use Rattle.equaliser.proofs.pieces.put_loop_tail.Reads as put-loop-tail-reads
-use Rattle.equaliser.proofs.pieces.put_skip.Reads as put-skip-reads
-use Rattle.equaliser.proofs.sizes.beyond.Reads as beyond-reads
 use Rattle.equaliser.proofs.write.block_ticks.Reads as block-ticks-reads
 use Rattle.reading.proofs.blocks.closing.Reads as closing-reads
 use Rattle.reading.proofs.blocks.opens.Reads as opens-reads
 use Rattle.records.proofs.put_bare.Reads as put-bare-reads
 use Rattle.records.proofs.put_record.Reads as put-record-reads
 use Rattle.records.proofs.record_at.Reads as record-at-reads
+use Rattle.records.proofs.skips.put_skip.Reads as put-skip-reads
+use Rattle.timing.proofs.ticks.beyond.Reads as beyond-reads
 use Rattle.equaliser.proofs.write.+write_block+write_branch+write_loop+write_statement.{
   statement,
 }

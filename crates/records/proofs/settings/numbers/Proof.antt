@@ -1,5 +1,6 @@
 -- Each number is what wide or word_at read.
 use borrow.Author.Needs.{needs}
+use native.Mathlib.Omega.{arith}
 use Rattle.model.specs.Settings.{settingsOf}
 use Rattle.records.proofs.settings.numbers.Statement.{statement}
 use Rattle.records.proofs.settings.numbers.Tie as tie
@@ -69,7 +70,7 @@ word-at-requires c κs = search needs
 
 returns : tie.Need-returns
 unfolding settingsOf
-returns c = cc
+returns c = (cc, omega arith)
 
 pub numbers-spec : {M : Type 1} → statement M
 numbers-spec =

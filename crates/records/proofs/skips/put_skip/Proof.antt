@@ -1,7 +1,7 @@
 use borrow.Author.Needs.{needs}
-use Rattle.equaliser.proofs.PieceBytes.{none-written, one-room, one-written}
-use Rattle.equaliser.proofs.pieces.put_skip.Statement.{statement}
-use Rattle.equaliser.proofs.pieces.put_skip.Tie as tie
+use Rattle.records.proofs.SkipBytes.{none-written, one-room, one-written}
+use Rattle.records.proofs.skips.put_skip.Statement.{statement}
+use Rattle.records.proofs.skips.put_skip.Tie as tie
 
 returns : tie.Need-returns
 returns c = none-written _ _ (c .if1 .taken)

@@ -1,7 +1,7 @@
 use borrow.Author.Needs.{needs}
-use Rattle.equaliser.proofs.SizeLaws.{some-skip}
-use Rattle.equaliser.proofs.sizes.skip_records.Statement.{statement}
-use Rattle.equaliser.proofs.sizes.skip_records.Tie as tie
+use Rattle.records.proofs.Blocks.{some-skip}
+use Rattle.records.proofs.skips.skip_records.Statement.{statement}
+use Rattle.records.proofs.skips.skip_records.Tie as tie
 
 returns : tie.Need-returns
 returns c = search needs

@@ -1,0 +1,70 @@
+-- Blocks one after the other, and after waiting ticks of SKIP: how many records they have, and which bytes.
+use Prim.Native.Nat.{ℕ, zero, suc, _+_, _*_, _≤_}
+use native.Mathlib.Omega.{arith}
+use mathlib.Core.Path.{_≡_, refl, sym}
+use mathlib.Core.List.{List, [], _∷_, _++_, append-assoc, append-nil}
+use lib.ListN.{length}
+use Rattle.model.specs.Records.{Rec, recordBytes, bytes}
+use Rattle.model.specs.Trees.{Act, Block, nil, skip, act, branch, while, times, _⧺_, actRec, size, flatten}
+use Rattle.model.specs.Equalising.{waiting}
+use Rattle.model.proofs.Passes.{length-file}
+use Rattle.records.specs.Blocks.{blockBytes, skipRecords, skipBytes}
+
+pub waiting-⧺ : (n : ℕ) (a b : Block) → waiting n a ⧺ b ≡ waiting n (a ⧺ b)
+waiting-⧺ zero a b = refl
+waiting-⧺ (suc n) a b = refl
+
+-- SIZES
+
+pub size-⧺ : (a b : Block) → size (a ⧺ b) ≡ size a + size b
+size-⧺ nil b = omega arith
+size-⧺ (skip n a) b = omega (arith, size-⧺ a b)
+size-⧺ (act p a) b = omega (arith, size-⧺ a b)
+size-⧺ (branch q x y a) b = omega (arith, size-⧺ a b)
+size-⧺ (while q n x a) b = omega (arith, size-⧺ a b)
+size-⧺ (times q n x a) b = omega (arith, size-⧺ a b)
+
+pub size-waiting : (n : ℕ) (b : Block) → size (waiting n b) ≡ skipRecords n + size b
+size-waiting zero b = omega arith
+size-waiting (suc n) b = omega arith
+
+pub one-skip : (n : ℕ) → skipRecords n ≤ 1
+one-skip zero = omega arith
+one-skip (suc n) = omega arith
+
+pub some-skip : (n : ℕ) → (n ≡ 0 → ⊥) → 1 ≡ skipRecords n
+some-skip zero h = absurd (h refl)
+some-skip (suc n) h = refl
+
+-- BYTES
+
+pub bytes-++ : (rs ts : List Rec) → bytes (rs ++ ts) ≡ bytes rs ++ bytes ts
+unfolding bytes
+bytes-++ [] ts = refl
+bytes-++ (r ∷ rs) ts = rw (bytes-++ rs ts) (sym (append-assoc (recordBytes r) (bytes rs) (bytes ts)))
+
+pub flatten-⧺ : (a b : Block) → flatten (a ⧺ b) ≡ flatten a ++ flatten b
+unfolding flatten
+flatten-⧺ nil b = refl
+flatten-⧺ (skip n a) b = rw (flatten-⧺ a b)
+flatten-⧺ (act p a) b = rw (flatten-⧺ a b)
+flatten-⧺ (branch q x y a) b = rw (flatten-⧺ a b) (simp append-assoc)
+flatten-⧺ (while q n x a) b = rw (flatten-⧺ a b) (simp append-assoc)
+flatten-⧺ (times q n x a) b = rw (flatten-⧺ a b) (simp append-assoc)
+
+pub bytes-⧺ : (a b : Block) → blockBytes (a ⧺ b) ≡ blockBytes a ++ blockBytes b
+unfolding blockBytes
+bytes-⧺ a b = rw (flatten-⧺ a b) (bytes-++ (flatten a) (flatten b))
+
+pub length-block : (b : Block) → length (blockBytes b) ≡ 12 * size b
+unfolding blockBytes
+length-block b = length-file b
+
+pub waiting-bytes : (n : ℕ) (b : Block) → blockBytes (waiting n b) ≡ skipBytes n ++ blockBytes b
+unfolding blockBytes flatten bytes
+waiting-bytes zero b = refl
+waiting-bytes (suc n) b = refl
+
+pub act-bytes : (p : Act) → blockBytes (act p nil) ≡ recordBytes (actRec p)
+unfolding blockBytes flatten bytes
+act-bytes p = append-nil (recordBytes (actRec p))
