@@ -3,16 +3,17 @@ use Prim.Native.Nat.{ℕ, suc, _+_, _-_, _≤_, _<_}
 use native.Mathlib.Omega.{arith}
 use mathlib.Core.Path.{_≡_, refl, ap, _∙_}
 use mathlib.Core.Bool.{Bool, true, false, cond}
+use mathlib.Core.Logic.{⊎-elim}
 use mathlib.Core.List.{List}
 use lib.Dec.{eqb}
-use borrow.Author.Tests.{ne-eqb}
+use borrow.Author.Tests.{eqb-true, ne-eqb}
 use Rattle.model.specs.Records.{Rec, kindAt, recordAt, ELSE, WHILE, END, TIMES}
 use Rattle.model.specs.Trees.{Test, Act, Block, nil, skip, act, branch, while, times, size, actRec}
-use Rattle.model.proofs.Shapes.{by-act}
+use Rattle.model.proofs.Shapes.{by-act, or-cases}
 use Rattle.model.proofs.Stands.{At, LoopAt}
 use Rattle.reading.specs.declared.blocks.Pass.{Pass}
 use Rattle.reading.specs.declared.blocks.Pass.the-variants.{Ends, On}
-use Rattle.reading.specs.Closing.{opensBlock, passTo, goOn, closingIn}
+use Rattle.reading.specs.Closing.{opensBlock, closesBlock, passTo, goOn, closingIn}
 
 -- what a record at i makes of the count is a matter of its kind
 pub passes : (s : List ℕ) (i n : ℕ) {r : Rec} → recordAt s i ≡ r → passTo (kindAt s i) n ≡ passTo (r .kind) n
@@ -26,6 +27,10 @@ pass-else n = simp (ne-eqb (n + 1) 0 (λ e. omega arith))
 
 pass-end : (n : ℕ) → passTo END (n + 1) ≡ On n
 pass-end n = simp (ne-eqb (n + 1) 0 (λ e. omega arith)) (ap On (omega arith))
+
+-- ELSE and END end the block that the count started in
+pub ends-block : (k : ℕ) → closesBlock k ≡ true → passTo k 0 ≡ Ends
+ends-block k h = ⊎-elim (λ e. rw (eqb-true k ELSE e)) (λ e. rw (eqb-true k END e)) (or-cases (eqb k ELSE) (eqb k END) h)
 
 -- a record opens at most one block
 on-le : (opens mid last none : Bool) (n k : ℕ) → cond opens (On (n + 1)) (cond mid (cond none Ends (On n)) (cond last (cond none Ends (On (n - 1))) (On n))) ≡ On k → k ≤ n + 1
@@ -102,3 +107,7 @@ pub found : (s : List ℕ) (b : Block) (m i : ℕ) → At s i b → size b < m �
 found s b m i at l h =
     through s b m (suc (m - size b - 1)) i 0 at (omega arith)
     ∙ step s (suc (m - size b - 1)) (m - size b - 1) (i + size b) 0 refl h
+
+-- and so is the end of the records, with which the block ends
+pub ran-out : (s : List ℕ) (b : Block) (m i : ℕ) → At s i b → size b ≡ m → closingIn s m i 0 ≡ i + size b
+ran-out s b m i at e = through s b m 0 i 0 at (omega arith) ∙ stop s 0 (i + size b) 0 refl

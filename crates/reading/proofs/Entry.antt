@@ -1,4 +1,4 @@
--- The settings are judged first and then the file; a file that was read is sound.
+-- The settings are judged first and then the file; where both were read, the settings are good and the file is sound.
 use Prim.Native.Nat.{ℕ}
 use native.Mathlib.Omega.{arith}
 use mathlib.Core.Path.{_≡_, refl, _∙_}
@@ -38,14 +38,22 @@ module _ (s : List ℕ) (f : Form) (file : List ℕ) where
     pub both-read : Scans f file Sound → Reads s f file (Valid σ)
     both-read S = record { reply = then-scanned Sound S; settings = λ τ e. D .settings τ e; narrow = λ τ e. D .narrow τ e }
 
-  pub read-sound : (σ : Settings) → Reads s f file (Valid σ) → fault f file ≡ sound
+  -- nothing refused it
+  read-good : (σ : Settings) → Reads s f file (Valid σ) → (badSettings s ≡ false) × (fault f file ≡ sound)
   unfolding reading
-  read-sound σ R = go (badSettings s) refl (fault f file) refl (R .reply (finished []))
+  read-good σ R = go (badSettings s) refl (fault f file) refl (R .reply (finished []))
     where
-      go : (a : Bool) → badSettings s ≡ a → (x : Fault) → fault f file ≡ x → finished [] ≡ turnDown 6 a (unless x (finished [])) → fault f file ≡ sound
+      go : (a : Bool) → badSettings s ≡ a → (x : Fault) → fault f file ≡ x → finished [] ≡ turnDown 6 a (unless x (finished []))
+          → (badSettings s ≡ false) × (fault f file ≡ sound)
       go true h x k e = let z : _≡_ {A = ℕ} 0 1 = cc in absurd (omega arith)
-      go false h sound k e = k
+      go false h sound k e = (h, k)
       go false h (faulty n y) k e = let z : _≡_ {A = ℕ} 0 1 = cc in absurd (omega arith)
+
+  pub read-settings : (σ : Settings) → Reads s f file (Valid σ) → badSettings s ≡ false
+  read-settings σ R = read-good σ R .0
+
+  pub read-sound : (σ : Settings) → Reads s f file (Valid σ) → fault f file ≡ sound
+  read-sound σ R = read-good σ R .1
 
 -- a refusal keeps what was lent
 pub kept-refusal : (x : Refusal) (new old : List ℕ) → kept (refusal x) new old ≡ old

@@ -6,7 +6,7 @@ use mathlib.Core.Bool.{true, false}
 use mathlib.Core.List.{List}
 use Rattle.model.specs.declared.Form.{Form}
 use Rattle.model.specs.declared.Form.the-variants.{Task}
-use Rattle.model.specs.Records.{Rec, kindAt, recordAt, SKIP, IF}
+use Rattle.model.specs.Records.{Rec, kindAt, recordAt, SKIP, IF, TIMES}
 use Rattle.model.specs.Trees.{Act, Block, nil, skip, act, branch, while, times, actRec}
 use Rattle.model.proofs.Shapes.{by-act}
 use Rattle.reading.specs.Closing.{opensBlock}
@@ -58,6 +58,14 @@ module _ {s : List ℕ} {i to d : ℕ} (l : i < to) where
   if-is (branch q a e b) F k = ap (λ (r : Rec). branch (testOf r) a e b) (sym (F .stands .0 .is))
   if-is (while q n a b) F k = absurd (omega (arith, k, kind-is s i (F .stands .0 .is)))
   if-is (times q n a b) F k = absurd (omega (arith, k, kind-is s i (F .stands .0 .is)))
+
+  pub times-is : {f : Form} (b : Block) → Fills f s i to d b → kindAt s i ≡ TIMES → b ≡ times (testOf (recordAt s i)) (recordAt s i .count) (firstPart b) (afterFirst b)
+  times-is nil F k = absurd (omega (arith, F .ends))
+  times-is (skip n b) F k = absurd (omega (arith, k, kind-is s i (F .stands .0)))
+  times-is (act p b) F k = absurd (shut s i (F .stands .0) (act-opens p) (ap opensBlock k))
+  times-is (branch q a e b) F k = absurd (omega (arith, k, kind-is s i (F .stands .0 .is)))
+  times-is (while q n a b) F k = absurd (omega (arith, k, kind-is s i (F .stands .0 .is)))
+  times-is (times q n a b) F k = ap (λ (r : Rec). times (testOf r) (r .count) a b) (sym (F .stands .0 .is))
 
   -- a task has no other loop
   pub while-is : (b : Block) → Fills Task s i to d b → opensBlock (kindAt s i) ≡ true → (kindAt s i ≡ IF → ⊥)

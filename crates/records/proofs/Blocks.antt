@@ -4,8 +4,8 @@ use native.Mathlib.Omega.{arith}
 use mathlib.Core.Path.{_≡_, refl, sym}
 use mathlib.Core.List.{List, [], _∷_, _++_, append-assoc, append-nil}
 use lib.ListN.{length}
-use Rattle.model.specs.Records.{Rec, recordBytes, bytes}
-use Rattle.model.specs.Trees.{Act, Block, nil, skip, act, branch, while, times, _⧺_, actRec, size, flatten}
+use Rattle.model.specs.Records.{Rec, recordBytes, bytes, IF}
+use Rattle.model.specs.Trees.{Test, Act, Block, nil, skip, act, branch, while, times, _⧺_, testRec, actRec, elseRec, endRec, size, flatten}
 use Rattle.model.specs.Equalising.{waiting}
 use Rattle.model.proofs.Passes.{length-file}
 use Rattle.records.specs.Blocks.{blockBytes, skipRecords, skipBytes}
@@ -68,3 +68,8 @@ waiting-bytes (suc n) b = refl
 pub act-bytes : (p : Act) → blockBytes (act p nil) ≡ recordBytes (actRec p)
 unfolding blockBytes flatten bytes
 act-bytes p = append-nil (recordBytes (actRec p))
+
+pub branch-bytes : (q : Test) (a d : Block)
+    → blockBytes (branch q a d nil) ≡ recordBytes (testRec IF q 0) ++ (blockBytes a ++ (recordBytes elseRec ++ (blockBytes d ++ recordBytes endRec)))
+unfolding blockBytes flatten bytes
+branch-bytes q a d = simp (bytes-++, append-nil)

@@ -58,7 +58,7 @@ pub record InRange (σ : Settings) : Type 0 where
 at-least-1 : (n : ℕ) → eqb n 0 ≡ false → 1 ≤ n
 at-least-1 n e = let h = eqb-false n 0 e in omega arith
 
-in-range : (s : List ℕ) → badSettings s ≡ false → InRange (settingsOf s)
+pub in-range : (s : List ℕ) → badSettings s ≡ false → InRange (settingsOf s)
 unfolding badSettings
 in-range s e = go (settingsOf s) (neither (not (eqb (length s) 12)) (outOfRange (settingsOf s)) e .1)
   where
@@ -87,7 +87,7 @@ in-range s e = go (settingsOf s) (neither (not (eqb (length s) 12)) (outOfRange 
           short = ltb-false 1000000 (σ .period) (h8 .1);
         }
 
-fits : (σ : Settings) → Positive σ → shortWindow σ ≡ false → Fits σ
+pub fits : (σ : Settings) → Positive σ → shortWindow σ ≡ false → Fits σ
 fits σ p e = record { positive = p; wide = ltb-false (σ .window) (σ .beat + σ .save + longest σ) e }
 
 -- CALLS
@@ -97,7 +97,7 @@ pub record Room (room n : ℕ) : Type 0 where
   pub fits-buffer : 12 * n ≤ room
   pub few : n ≤ 5461
 
-room-left : (room n : ℕ) → noRoom room n ≡ false → Room room n
+pub room-left : (room n : ℕ) → noRoom room n ≡ false → Room room n
 room-left room n e =
     let p = neither (ltb room (12 * n)) (ltb 5461 n) e in
     record { fits-buffer = ltb-false room (12 * n) (p .0); few = ltb-false 5461 n (p .1) }

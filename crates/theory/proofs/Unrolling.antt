@@ -94,6 +94,13 @@ module _ (b : Block) (p : Formed Equalised b) where
   pub unrolled-command-free : CommandFree (unroll b)
   unrolled-command-free = command-free (unroll b) (unrolled b p)
 
+  -- nor has any number of its rounds
+  pub rounds-loop-free : (n : ℕ) → LoopFree (copies n (unroll b))
+  rounds-loop-free n = loop-free (copies n (unroll b)) (unrolled-copies n (unroll b) (unrolled b p))
+
+  pub rounds-command-free : (n : ℕ) → CommandFree (copies n (unroll b))
+  rounds-command-free n = command-free (copies n (unroll b)) (unrolled-copies n (unroll b) (unrolled b p))
+
   pub unrolled-formed : Formed Laid (unroll b)
   unrolled-formed = formed (unroll b) (unrolled b p)
 

@@ -143,7 +143,7 @@ module _ (σ : Settings) (fits : Fits σ) where
   weaken : (ε ε′ t : ℕ) → ε′ ≤ ε → Past σ ε t → Past σ ε′ t
   weaken ε ε′ t l p = record { beaten = omega arith; saved = omega arith }
 
-  later : (ε t : ℕ) → ε ≤ 1 → Free σ 1 t → Free σ ε t
+  pub later : (ε t : ℕ) → ε ≤ 1 → Free σ 1 t → Free σ ε t
   later ε t l (bound e) = bound e
   later ε t l (past p) = past (weaken 1 ε t l p)
 
@@ -302,7 +302,7 @@ module _ (σ : Settings) (fits : Fits σ) where
       leads-⧺ a (fill σ (e - u) u e) t (k .placed) (fill-meets (e - u) u e (k .there) g l (omega arith))
 
   -- the later of two ends
-  free-max : (t x y : ℕ) → Free σ 1 (t + x) → Free σ 1 (t + y) → Free σ 1 (t + max x y)
+  pub free-max : (t x y : ℕ) → Free σ 1 (t + x) → Free σ 1 (t + y) → Free σ 1 (t + max x y)
   free-max t x y f g = go (ltb x y) refl
     where
       go : (o : Bool) → ltb x y ≡ o → Free σ 1 (t + max x y)

@@ -32,7 +32,7 @@ time-first σ (branch q a d b) = refl
 time-first σ (while q n a b) = refl
 time-first σ (times q n a b) = refl
 
-act-ticks : (σ : Settings) (p : Act) → stepTicks σ (actRec p) ≡ ticks σ p
+pub act-ticks : (σ : Settings) (p : Act) → stepTicks σ (actRec p) ≡ ticks σ p
 act-ticks σ (set o t l x) = refl
 act-ticks σ (read a p) = refl
 act-ticks σ (write a p) = refl

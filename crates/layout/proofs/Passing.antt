@@ -1,0 +1,175 @@
+-- Measuring a block statement by statement: what is laid, what is left, and what a tick above P says.
+use Prim.Native.Nat.{ℕ, _+_, _≤_, _<_}
+use native.Mathlib.Omega.{arith}
+use mathlib.Core.Path.{_≡_, refl, ap, sym, subst, _∙_}
+use mathlib.Core.Bool.{Bool, true, false}
+use mathlib.Core.List.{List}
+use lib.Dec.{ltb}
+use borrow.Author.Tests.{ltb-true, ltb-false}
+use Rattle.model.specs.declared.Settings.{Settings}
+use Rattle.model.specs.declared.Form.the-variants.{Equalised}
+use Rattle.model.specs.Records.{kindAt}
+use Rattle.model.specs.Trees.{Block, nil, skip, act, branch, while, times, _⧺_, size}
+use Rattle.model.specs.Times.{time}
+use Rattle.model.proofs.Trees.{⧺-nil, ⧺-assoc}
+use Rattle.model.proofs.Sound.{OfForm}
+use Rattle.theory.proofs.Times.{time-⧺}
+use Rattle.theory.proofs.Windows.{Free}
+use Rattle.reading.specs.Closing.{closesBlock}
+use Rattle.reading.specs.Ranges.{firstSize, afterFirst}
+use Rattle.layout.specs.declared.clock.State.{State}
+use Rattle.layout.specs.declared.measure.Passage.{Passage}
+use Rattle.layout.specs.States.{Laying, After}
+use Rattle.layout.specs.Ranges.{Stands, InFile, only}
+use Rattle.layout.specs.Measured.{laid, Passes, Entered, Statement, BlockPassed, StatementPassed}
+use Rattle.layout.proofs.Going.{after-nil, after-⧺}
+use Rattle.layout.proofs.Standing.{stands-once, stands-closed, stands-end, stands-some, stands-after}
+use Rattle.layout.proofs.Unrolled.{laid-first, laid-nil, laid-free}
+
+-- WHAT AN ANSWER SAYS
+
+module _ {σ : Settings} {c : Block} {j : ℕ} {s : State} {r : Passage} where
+  -- a tick up to P is where c ends
+  pub in-time : Passes σ c j s r → r .state .tick ≤ σ .period → s .tick + time σ c ≤ σ .period
+  in-time P h = go (ltb (σ .period) (s .tick + time σ c)) refl
+    where
+      go : (o : Bool) → ltb (σ .period) (s .tick + time σ c) ≡ o → s .tick + time σ c ≤ σ .period
+      go true e = let l : σ .period < r .state .tick = P .late (ltb-true (σ .period) (s .tick + time σ c) e) in absurd (omega arith)
+      go false e = ltb-false (σ .period) (s .tick + time σ c) e
+
+  -- and one above P says that c ends above it
+  pub too-late : Passes σ c j s r → σ .period < r .state .tick → σ .period < s .tick + time σ c
+  too-late P h = go (ltb (σ .period) (s .tick + time σ c)) refl
+    where
+      go : (o : Bool) → ltb (σ .period) (s .tick + time σ c) ≡ o → σ .period < s .tick + time σ c
+      go true e = ltb-true (σ .period) (s .tick + time σ c) e
+      go false e =
+          let l = ltb-false (σ .period) (s .tick + time σ c) e in
+          absurd (omega (arith, P .after l .tick))
+
+  -- where c is known to be laid, nothing more is to be said
+  pub passed : After σ c s (r .state) → r .next ≡ j → Passes σ c j s r
+  passed A g = record { late = λ h. omega (arith, A .tick); after = λ h. A; goes = λ h. g }
+
+  pub passed-late : σ .period < s .tick + time σ c → σ .period < r .state .tick → Passes σ c j s r
+  passed-late h l = record { late = λ x. l; after = λ x. absurd (omega arith); goes = λ x. absurd (omega arith) }
+
+-- a state within P from which laying out goes on
+pub laying-on : {σ : Settings} {c : Block} {s r : State} → Laying σ s → After σ c s r → r .tick ≤ σ .period → Laying σ r
+laying-on L A h = record { settings = L .settings; shows = A .shows; within = h }
+
+-- the first statement is of the form that the block is of
+pub only-form : (b : Block) → OfForm Equalised b → OfForm Equalised (only b)
+only-form nil p = tt
+only-form (skip n b) p = (p .0, tt)
+only-form (act q b) p = (p .0, tt)
+only-form (branch q a d b) p = (p .0, p .1, p .2, tt)
+only-form (while q n a b) p = (p .0, p .1, tt)
+only-form (times q n a b) p = (p .0, p .1, tt)
+
+-- THE TURNS OF THE LOOP
+
+-- of the block at `from`, laid from `at` on, the records from `next` on are left
+pub record Passing (s : List ℕ) (from to : ℕ) (σ : Settings) (at state : State) (next : ℕ) : Type 0 where
+  pub all : Entered s from to σ at
+  pub rest : Entered s next to σ state
+  pub on : from ≤ next
+  pub counts : next + size (rest .file .block) ≡ from + size (all .file .block)
+  pub done : Block
+  pub same : laid σ (all .file .block) (at .tick) ≡ done ⧺ laid σ (rest .file .block) (state .tick)
+  pub after : After σ done at state
+
+unfoldable pub passing-start : {s : List ℕ} {from to : ℕ} {σ : Settings} {at : State} → Entered s from to σ at → Passing s from to σ at at from
+passing-start E = record { all = E; rest = E; on = omega arith; counts = refl; done = nil; same = refl; after = after-nil (E .laying .shows) }
+
+module _ {s : List ℕ} {from to : ℕ} {σ : Settings} {at state : State} {next : ℕ} (P : Passing s from to σ at state next) where
+  abbrev left : Block
+  left = P .rest .file .block
+
+  -- what holds of the block that was asked about holds of every block at its place
+  answered : {r : Passage} → Passes σ (laid σ (P .all .file .block) (at .tick)) (from + size (P .all .file .block)) at r → BlockPassed s from to σ at r
+  answered {r} A = record {
+    right = λ b B.
+        subst (λ (x : Block). Passes σ (laid σ x (at .tick)) (from + size x) at r) (stands-once (P .all .file .block) b (P .all .file .stands) B) A;
+  }
+
+  -- nothing is left
+  ended : left ≡ nil → BlockPassed s from to σ at (record { state = state; next = next })
+  ended e = answered (passed whole (omega (arith, P .counts, ap size e)))
+    where
+      whole : After σ (laid σ (P .all .file .block) (at .tick)) at state
+      whole =
+          subst (λ (c : Block). After σ c at state)
+          (sym (P .same ∙ ap (λ (b : Block). P .done ⧺ laid σ b (state .tick)) e ∙ ap (λ (c : Block). P .done ⧺ c) (laid-nil σ (state .tick)) ∙ ⧺-nil (P .done)))
+          (P .after)
+
+  pub passing-closed : closesBlock (kindAt s next) ≡ true → BlockPassed s from to σ at (record { state = state; next = next })
+  passing-closed k = ended (stands-closed left (P .rest .file .stands) k)
+
+  pub passing-ended : to ≤ next → BlockPassed s from to σ at (record { state = state; next = next })
+  passing-ended l = ended (stands-end left (P .rest .file .stands) l)
+
+  -- a statement is left
+  module _ (l : next < to) (k : closesBlock (kindAt s next) ≡ false) where
+    unfoldable pub statement-next : Statement s next to σ state
+    statement-next = record { entered = P .rest; early = l; goes-on = k }
+
+    module _ {r : Passage} (S : StatementPassed s next to σ state r) where
+      abbrev one : Block
+      one = laid σ (only left) (state .tick)
+
+      abbrev two : Block
+      two = laid σ (afterFirst left) (state .tick + time σ one)
+
+      step : Passes σ one (next + firstSize left) state r
+      step = S .right left (P .rest .file .stands)
+
+      -- what is left is the statement and what follows it
+      pub split : laid σ (P .all .file .block) (at .tick) ≡ (P .done ⧺ one) ⧺ two
+      split =
+          P .same
+          ∙ ap (λ (c : Block). P .done ⧺ c) (laid-first σ (P .rest .laying .settings .fits) left (state .tick) (P .rest .file .stands .fills .of-form) (P .rest .free))
+          ∙ sym (⧺-assoc (P .done) one two)
+
+      lasts : at .tick + time σ (laid σ (P .all .file .block) (at .tick)) ≡ state .tick + time σ one + time σ two
+      lasts = omega (arith, ap (time σ) split, time-⧺ σ (P .done ⧺ one) two, time-⧺ σ (P .done) one, P .after .tick)
+
+      pub passing-late : σ .period < r .state .tick → BlockPassed s from to σ at r
+      passing-late h = answered (passed-late (omega (arith, lasts, too-late step h)) h)
+
+      module _ (h : r .state .tick ≤ σ .period) where
+        pub stepped : After σ one state (r .state)
+        stepped = step .after (in-time step h)
+
+        pub goes : r .next ≡ next + firstSize left
+        goes = step .goes (in-time step h)
+
+        pub passing-on : next < r .next
+        passing-on = omega (arith, goes, stands-some left (P .rest .file .stands) l k)
+
+        pub behind : Stands s (r .next) to (afterFirst left)
+        behind = subst (λ (j : ℕ). Stands s j to (afterFirst left)) (sym goes) (stands-after left (P .rest .file .stands) l k)
+
+        unfoldable pub passing-next : Passing s from to σ at (r .state) (r .next)
+        passing-next = record {
+          all = P .all;
+          rest = record {
+            file = record { block = afterFirst left; stands = behind; inside = P .rest .file .inside };
+            laying = laying-on (P .rest .laying) stepped h;
+            free = subst (Free σ 0) (sym (stepped .tick))
+                (laid-free σ (P .rest .laying .settings .fits) (only left) 0 (state .tick) (only-form left (P .rest .file .stands .fills .of-form)) (omega arith) (P .rest .free));
+          };
+          on = omega (arith, P .on, passing-on);
+          counts = omega (arith, P .counts, goes, sizes left);
+          done = P .done ⧺ one;
+          same = split ∙ ap (λ (t : ℕ). (P .done ⧺ one) ⧺ laid σ (afterFirst left) t) (sym (stepped .tick));
+          after = after-⧺ (P .done) one (P .after) stepped;
+        }
+          where
+            sizes : (b : Block) → size b ≡ firstSize b + size (afterFirst b)
+            sizes nil = refl
+            sizes (skip n b) = refl
+            sizes (act p b) = refl
+            sizes (branch q a e b) = refl
+            sizes (while q n a b) = refl
+            sizes (times q n a b) = refl

@@ -1,0 +1,180 @@
+-- Measuring a loop: round after round of its body, and then its CHECK.
+use Prim.Native.Nat.{ℕ, zero, suc, _+_, _-_, _≤_, _<_}
+use native.Mathlib.Omega.{arith}
+use native.Mathlib.Nat.{add-zero}
+use mathlib.Core.Path.{_≡_, refl, ap, sym, subst, _∙_}
+use mathlib.Core.List.{List}
+use Rattle.model.specs.declared.Settings.{Settings}
+use Rattle.model.specs.declared.Form.the-variants.{Equalised}
+use Rattle.model.specs.Records.{kindAt, recordAt, TIMES}
+use Rattle.model.specs.Trees.{Test, check, Block, nil, act, times, _⧺_, size}
+use Rattle.model.specs.Times.{time}
+use Rattle.model.specs.Layout.{copies, unroll, before, lay}
+use Rattle.model.specs.Placement.{Fits}
+use Rattle.model.proofs.Sound.{OfForm}
+use Rattle.theory.proofs.Times.{time-⧺}
+use Rattle.theory.proofs.Windows.{Free}
+use Rattle.reading.specs.Ranges.{firstSize, firstPart, afterFirst, testOf}
+use Rattle.layout.specs.declared.clock.State.{State}
+use Rattle.layout.specs.declared.measure.Passage.{Passage}
+use Rattle.layout.specs.States.{Laying, After, Stepped}
+use Rattle.layout.specs.Ranges.{Stands, only}
+use Rattle.layout.specs.Measured.{laid, Passes, Entered, Statement, BlockPassed, StatementPassed, Rounds}
+use Rattle.layout.proofs.Going.{after-nil, after-⧺}
+use Rattle.layout.proofs.Standing.{times-at, body-stands, body-ends, some-rounds}
+use Rattle.layout.proofs.Unrolled.{rounds, rounds-none, rounds-more, laid-times, laid-free}
+use Rattle.layout.proofs.Passing.{in-time, too-late, passed, passed-late, laying-on}
+use Rattle.layout.proofs.PassingSteps.{block, stands, answered-of}
+
+-- more rounds take longer
+rounds-longer : (σ : Settings) (fits : Fits σ) (a : Block) (m k t : ℕ) → OfForm Equalised a → Free σ 0 t → time σ (rounds σ a m t) ≤ time σ (rounds σ a (m + k) t)
+rounds-longer σ fits a m zero t p f = omega (arith, ap (λ (n : ℕ). time σ (rounds σ a n t)) (add-zero m))
+rounds-longer σ fits a m (suc k) t p f =
+    let n : m + suc k ≡ m + k + 1 = omega arith in
+    let u = t + time σ (rounds σ a (m + k) t) in
+    omega (
+      arith,
+      rounds-longer σ fits a m k t p f,
+      ap (λ (n : ℕ). time σ (rounds σ a n t)) n,
+      ap (time σ) (rounds-more σ fits a (m + k) t p f),
+      time-⧺ σ (rounds σ a (m + k) t) (laid σ a u),
+    )
+
+-- a count that was read from the loop's record
+pub rounds-of : {s : List ℕ} {i to c d n : ℕ} → c ≡ d → Rounds s i to c n → Rounds s i to d n
+rounds-of {s} {i} {to} {c} {d} {n} e R = subst (λ (x : ℕ). Rounds s i to x n) e R
+
+-- the loop at i
+module _ {s : List ℕ} {i to : ℕ} {σ : Settings} {from : State} (S : Statement s i to σ from) (k : kindAt s i ≡ TIMES) where
+  abbrev pub body : Block
+  body = firstPart (block S)
+
+  abbrev pub test : Test
+  test = testOf (recordAt s i)
+
+  abbrev pub count : ℕ
+  count = recordAt s i .count
+
+  pub is-times : block S ≡ times test count body (afterFirst (block S))
+  is-times = times-at (block S) (stands S) (S .early) (S .goes-on) k
+
+  pub body-there : Stands s (i + 1) to body
+  body-there = body-stands (block S) (stands S) (S .early) (S .goes-on) k
+
+  pub body-form : OfForm Equalised body
+  body-form = body-there .fills .of-form
+
+  pub body-inside : i + 1 + size body < to
+  body-inside = body-ends (block S) (stands S) (S .early) (S .goes-on) k
+
+  -- so many rounds are laid, and `last` are to be walked
+  pub record Rounding (last : ℕ) (state : State) (next round : ℕ) : Type 0 where
+    pub upto : round ≤ last
+    pub laying : Laying σ state
+    pub free : Free σ 0 (state .tick)
+    pub after : After σ (rounds σ body round (from .tick)) from state
+    pub first : round ≡ 0 → next ≡ i + 1
+    pub later : 1 ≤ round → next ≡ i + 1 + size body
+
+  unfoldable pub rounding-start : (last : ℕ) → Rounding last from (i + 1) 0
+  rounding-start last = record {
+    upto = omega arith;
+    laying = S .entered .laying;
+    free = S .entered .free;
+    after = subst (λ (c : Block). After σ c from from) (sym (rounds-none σ body (from .tick))) (after-nil (S .entered .laying .shows));
+    first = λ h. refl;
+    later = λ h. absurd (omega arith);
+  }
+
+  module _ {last : ℕ} (R : Rounds s (i + 1) to count last) where
+    -- as many as the count
+    rounds-same : rounds σ body last (from .tick) ≡ rounds σ body count (from .tick)
+    unfolding rounds
+    rounds-same = ap (λ (c : Block). lay σ c (from .tick)) (R .same body body-there)
+
+    -- the loop is its rounds, and the CHECK from u on
+    abbrev pub check-tick : ℕ
+    check-tick = from .tick + time σ (rounds σ body last (from .tick))
+
+    abbrev pub whole : Block
+    whole = rounds σ body last (from .tick) ⧺ (before σ check-tick 1 ⧺ act (check test) nil)
+
+    pub laid-whole : laid σ (only (times test count body (afterFirst (block S)))) (from .tick) ≡ whole
+    laid-whole =
+        laid-times σ (S .entered .laying .settings .fits) test count body (from .tick) body-form (S .entered .free)
+        ∙ ap (λ (c : Block). c ⧺ (before σ (from .tick + time σ c) 1 ⧺ act (check test) nil)) (sym rounds-same)
+
+    told : {r : Passage} → Passes σ whole (i + (2 + size body)) from r → StatementPassed s i to σ from r
+    told {r} A =
+        answered-of S (times test count body (afterFirst (block S))) is-times
+        (subst (λ (c : Block). Passes σ c (i + (2 + size body)) from r) (sym laid-whole) A)
+
+    module _ {state : State} {next round : ℕ} (P : Rounding last state next round) where
+      -- A ROUND
+
+      unfoldable pub body-entered : Entered s (i + 1) to σ state
+      body-entered = record { file = record { block = body; stands = body-there; inside = S .entered .file .inside }; laying = P .laying; free = P .free }
+
+      module _ (l : round < last) {r : Passage} (B : BlockPassed s (i + 1) to σ state r) where
+        abbrev one : Block
+        one = laid σ body (state .tick)
+
+        passes : Passes σ one (i + 1 + size body) state r
+        passes = B .right body body-there
+
+        more : rounds σ body (round + 1) (from .tick) ≡ rounds σ body round (from .tick) ⧺ one
+        more = rounds-more σ (S .entered .laying .settings .fits) body round (from .tick) body-form (S .entered .free) ∙ ap (λ (t : ℕ). rounds σ body round (from .tick) ⧺ laid σ body t) (sym (P .after .tick))
+
+        -- they end where this one does, or later
+        not-before : state .tick + time σ one ≤ from .tick + time σ whole
+        not-before =
+            let n : round + 1 + (last - (round + 1)) ≡ last = omega arith in
+            omega (
+              arith,
+              P .after .tick,
+              ap (time σ) more,
+              time-⧺ σ (rounds σ body round (from .tick)) one,
+              rounds-longer σ (S .entered .laying .settings .fits) body (round + 1) (last - (round + 1)) (from .tick) body-form (S .entered .free),
+              ap (λ (m : ℕ). time σ (rounds σ body m (from .tick))) n,
+              time-⧺ σ (rounds σ body last (from .tick)) (before σ check-tick 1 ⧺ act (check test) nil),
+            )
+
+        pub rounding-late : σ .period < r .state .tick → StatementPassed s i to σ from r
+        rounding-late h = told (passed-late (omega (arith, not-before, too-late passes h)) h)
+
+        pub rounding-next : r .state .tick ≤ σ .period → Rounding last (r .state) (r .next) (round + 1)
+        rounding-next h =
+            let A = passes .after (in-time passes h) in
+            record {
+              upto = omega arith;
+              laying = laying-on (P .laying) A h;
+              free = subst (Free σ 0) (sym (A .tick)) (laid-free σ (P .laying .settings .fits) body 0 (state .tick) body-form (omega arith) (P .free));
+              after = subst (λ (c : Block). After σ c from (r .state)) (sym more) (after-⧺ (rounds σ body round (from .tick)) one (P .after) A);
+              first = λ z. absurd (omega arith);
+              later = λ z. passes .goes (in-time passes h);
+            }
+
+      -- THE CHECK
+
+      module _ (l : last ≤ round) where
+        done : round ≡ last
+        done = omega (arith, P .upto)
+
+        -- the END stands at next
+        pub at-end : next ≡ i + 1 + size body
+        at-end = go round refl
+          where
+            go : (n : ℕ) → round ≡ n → next ≡ i + 1 + size body
+            go zero e =
+                let z = R .none body body-there (omega (arith, done)) (λ h. omega (arith, some-rounds (block S) (stands S) (S .early) (S .goes-on) k)) in
+                omega (arith, P .first e)
+            go (suc n) e = P .later (omega arith)
+
+        pub rounds-passed : {r : State} → Stepped σ state 1 r → StatementPassed s i to σ from (record { state = r; next = next + 1 })
+        rounds-passed {r} T = told (passed (after-⧺ (rounds σ body last (from .tick)) (before σ check-tick 1 ⧺ act (check test) nil) P′ C) (omega (arith, at-end)))
+          where
+            P′ : After σ (rounds σ body last (from .tick)) from state
+            P′ = subst (λ (n : ℕ). After σ (rounds σ body n (from .tick)) from state) done (P .after)
+
+            C : After σ (before σ check-tick 1 ⧺ act (check test) nil) state r
+            C = subst (λ (t : ℕ). After σ (before σ t 1 ⧺ act (check test) nil) state r) (P′ .tick) (T .after (check test) refl)

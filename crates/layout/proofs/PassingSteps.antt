@@ -1,0 +1,118 @@
+-- Measuring a statement that opens no block: a SKIP, or a step with its ticks.
+use Prim.Native.Nat.{ℕ, _+_, _≤_, _<_, _%_}
+use native.Mathlib.Omega.{arith}
+use mathlib.Core.Path.{_≡_, refl, ap, sym, subst, _∙_}
+use mathlib.Core.Bool.{Bool, true, false, cond, false≢true}
+use mathlib.Core.List.{List}
+use lib.Dec.{eqb, ltb}
+use borrow.Author.Tests.{ltb-true, ltb-false}
+use Rattle.model.specs.declared.Settings.{Settings}
+use Rattle.model.specs.declared.Form.the-variants.{Equalised}
+use Rattle.model.specs.Records.{Rec, kindAt, recordAt, SKIP, IF, TIMES}
+use Rattle.model.specs.Trees.{Act, set, read, write, check, beat, save, Block, nil, skip, act, _⧺_, actRec}
+use Rattle.model.specs.Times.{ticks, time}
+use Rattle.model.specs.Layout.{before, idles, fill}
+use Rattle.model.specs.Replies.{longest}
+use Rattle.model.proofs.Shapes.{Fit}
+use Rattle.model.proofs.Sound.{OfForm}
+use Rattle.theory.proofs.Sequences.{either}
+use Rattle.records.specs.declared.Record.{Record}
+use Rattle.records.specs.Records.{recordOf}
+use Rattle.reading.specs.Ranges.{firstSize, afterFirst}
+use Rattle.reading.proofs.FirstKinds.{IsAct}
+use Rattle.timing.specs.Times.{stepTicks}
+use Rattle.timing.proofs.Firsts.{act-ticks}
+use Rattle.layout.specs.declared.clock.State.{State}
+use Rattle.layout.specs.declared.measure.Passage.{Passage}
+use Rattle.layout.specs.States.{Layable, Laying, After, Stepped}
+use Rattle.layout.specs.Ranges.{Stands, only}
+use Rattle.layout.specs.Measured.{laid, Passes, Entered, Statement, StatementPassed}
+use Rattle.layout.proofs.Filling.{skip-within, skip-late}
+use Rattle.layout.proofs.Standing.{stands-once, skip-at, act-at}
+use Rattle.layout.proofs.Unrolled.{laid-skip, laid-act}
+use Rattle.layout.proofs.Passing.{passed}
+
+-- the acts of an equalised file take at least a tick, and at most the longest
+pub act-short : {σ : Settings} → Layable σ → (p : Act) → Fit Equalised (actRec p) → (1 ≤ ticks σ p) × (ticks σ p ≤ longest σ)
+act-short {σ} L (set o t l x) F =
+    either (λ (n : ℕ). (1 ≤ n) × (n ≤ longest σ)) (eqb (o % 16) 3) (σ .multiply) (σ .set) (omega arith) (omega arith)
+act-short L (read a p) F = omega arith
+act-short L (write a p) F = omega arith
+act-short L (check q) F = absurd (false≢true (F .kind))
+act-short L (beat x) F = absurd (false≢true (F .kind))
+act-short L (save m) F = absurd (false≢true (F .kind))
+
+module _ {s : List ℕ} {i to : ℕ} {σ : Settings} {from : State} (S : Statement s i to σ from) where
+  abbrev pub block : Block
+  block = S .entered .file .block
+
+  pub stands : Stands s i to block
+  stands = S .entered .file .stands
+
+  -- what holds of the block that was asked about holds of every block at its place
+  pub answered : {r : Passage} → Passes σ (laid σ (only block) (from .tick)) (i + firstSize block) from r → StatementPassed s i to σ from r
+  answered {r} A = record {
+    right = λ b B. subst (λ (x : Block). Passes σ (laid σ (only x) (from .tick)) (i + firstSize x) from r) (stands-once block b stands B) A;
+  }
+
+  -- and so where the block is known to be b
+  pub answered-of : {r : Passage} (b : Block) → block ≡ b → Passes σ (laid σ (only b) (from .tick)) (i + firstSize b) from r → StatementPassed s i to σ from r
+  answered-of {r} b e A = answered (subst (λ (x : Block). Passes σ (laid σ (only x) (from .tick)) (i + firstSize x) from r) (sym e) A)
+
+  -- the record at i
+  module _ {x : Record} (e : recordOf x ≡ recordAt s i) where
+    pub kind-there : {k : ℕ} → x .kind ≡ k → kindAt s i ≡ k
+    kind-there h = sym (ap (λ (y : Rec). y .kind) e) ∙ h
+
+    pub count-there : x .count ≡ recordAt s i .count
+    count-there = ap (λ (y : Rec). y .count) e
+
+    kind-is : kindAt s i ≡ x .kind
+    kind-is = kind-there refl
+
+    -- A SKIP
+
+    pub skip-passed : x .kind ≡ SKIP → {r : State} → After σ (fill σ (x .count) (from .tick) (σ .period + 1)) from r
+        → StatementPassed s i to σ from (record { state = r; next = i + 1 })
+    skip-passed k {r} A = answered-of (skip n (afterFirst block)) is (subst (λ (c : Block). Passes σ c (i + 1) from (record { state = r; next = i + 1 })) (sym (laid-skip σ n (from .tick))) (go (ltb (σ .period) end) refl))
+      where
+        n : ℕ
+        n = recordAt s i .count
+
+        is : block ≡ skip n (afterFirst block)
+        is = skip-at block stands (S .early) (S .goes-on) (kind-is ∙ k)
+
+        A′ : After σ (fill σ n (from .tick) (σ .period + 1)) from r
+        A′ = subst (λ (m : ℕ). After σ (fill σ m (from .tick) (σ .period + 1)) from r) count-there A
+
+        end : ℕ
+        end = from .tick + time σ (idles σ n (from .tick))
+
+        go : (o : Bool) → ltb (σ .period) end ≡ o → Passes σ (idles σ n (from .tick)) (i + 1) from (record { state = r; next = i + 1 })
+        go true h =
+            let l = ltb-true (σ .period) end h in
+            record { late = λ y. omega (arith, A′ .tick, skip-late σ n (from .tick) l); after = λ y. absurd (omega arith); goes = λ y. refl }
+        go false h = passed (subst (λ (c : Block). After σ c from r) (skip-within σ n (from .tick) (ltb-false (σ .period) end h)) A′) refl
+
+    -- ANY OTHER
+
+    module _ (k : x .kind ≡ SKIP → ⊥) (m : x .kind ≡ IF → ⊥) (l : x .kind ≡ TIMES → ⊥) where
+      pub is-act : IsAct (recordAt s i) block
+      is-act = act-at block stands (S .early) (S .goes-on) (λ h. k (sym kind-is ∙ h)) (λ h. m (sym kind-is ∙ h)) (λ h. l (sym kind-is ∙ h))
+
+      pub act-lasts : ticks σ (is-act .act-of) ≡ stepTicks σ (recordOf x)
+      act-lasts = sym (ap (stepTicks σ) (e ∙ is-act .same) ∙ act-ticks σ (is-act .act-of))
+
+      act-fit : Fit Equalised (actRec (is-act .act-of))
+      act-fit = subst (λ (b : Block). OfForm Equalised b) (is-act .is) (stands .fills .of-form) .0
+
+      pub step-short : {d : ℕ} → d ≡ stepTicks σ (recordOf x) → (1 ≤ d) × (d ≤ longest σ)
+      step-short h = let a = act-short (S .entered .laying .settings) (is-act .act-of) act-fit in omega (arith, act-lasts)
+
+      pub act-passed : {d : ℕ} {r : State} → d ≡ stepTicks σ (recordOf x) → Stepped σ from d r → StatementPassed s i to σ from (record { state = r; next = i + 1 })
+      act-passed {d} {r} h T =
+          answered-of (act (is-act .act-of) (afterFirst block)) (is-act .is)
+          (passed (subst (λ (c : Block). After σ c from r) (same ∙ sym (laid-act σ (is-act .act-of) (from .tick))) (T .after (is-act .act-of) (act-lasts ∙ sym h))) refl)
+        where
+          same : before σ (from .tick) d ⧺ act (is-act .act-of) nil ≡ before σ (from .tick) (ticks σ (is-act .act-of)) ⧺ act (is-act .act-of) nil
+          same = ap (λ (n : ℕ). before σ (from .tick) n ⧺ act (is-act .act-of) nil) (h ∙ sym act-lasts)

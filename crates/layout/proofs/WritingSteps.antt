@@ -1,0 +1,128 @@
+-- Writing a statement that opens no block: a SKIP, or a step with its record.
+use Prim.Native.Nat.{ℕ, _+_, _≤_}
+use native.Mathlib.Omega.{arith}
+use mathlib.Core.Path.{_≡_, refl, ap, sym, subst, _∙_}
+use mathlib.Core.List.{List, _++_}
+use lib.ListN.{length}
+use Rattle.model.specs.declared.Settings.{Settings}
+use Rattle.model.specs.Records.{Rec, kindAt, recordAt, SKIP, IF, TIMES, recordBytes}
+use Rattle.model.specs.Trees.{Act, Block, nil, skip, act, _⧺_, actRec}
+use Rattle.model.specs.Times.{ticks, time}
+use Rattle.model.specs.Layout.{before, idles, fill}
+use Rattle.model.specs.Replies.{longest, over}
+use Rattle.records.specs.declared.Record.{Record}
+use Rattle.records.specs.Records.{recordOf}
+use Rattle.records.specs.Blocks.{blockBytes, skipBytes}
+use Rattle.records.proofs.Blocks.{waiting-bytes, act-bytes}
+use Rattle.reading.specs.Ranges.{firstSize, afterFirst}
+use Rattle.reading.proofs.FirstKinds.{IsAct}
+use Rattle.timing.specs.Times.{stepTicks}
+use Rattle.layout.specs.declared.clock.State.{State}
+use Rattle.layout.specs.declared.measure.Passage.{Passage}
+use Rattle.layout.specs.Merging.{settled, waits}
+use Rattle.layout.specs.Ranges.{Stands, only}
+use Rattle.layout.specs.Measured.{laid, Passes, StatementPassed}
+use Rattle.layout.specs.Written.{bytesOf, Room, Lays, stepBytes, StepLaid, LaidFits, StatementFits, LaysTo, StatementLaid}
+use Rattle.layout.proofs.Settling.{bytes-settled}
+use Rattle.layout.proofs.Filling.{skip-within}
+use Rattle.layout.proofs.Standing.{stands-once, skip-at}
+use Rattle.layout.proofs.Unrolled.{laid-skip, laid-act}
+use Rattle.layout.proofs.Passing.{passed}
+use Rattle.layout.proofs.PassingSteps.{kind-there, count-there, is-act, act-lasts, step-short}
+
+-- A STEP
+
+-- the bytes of an act and of what stands before it
+pub step-bytes : (σ : Settings) (s : State) (d : ℕ) (p : Act) → bytesOf s (before σ (s .tick) d ⧺ act p nil) ≡ stepBytes σ s d (actRec p)
+step-bytes σ s d p =
+    let w = waits (s .wait) (before σ (s .tick) d) in
+    bytes-settled (s .wait) (before σ (s .tick) d) (act p nil)
+    ∙ ap (λ (bs : List ℕ). bytesOf s (before σ (s .tick) d) ++ bs) (waiting-bytes w (act p nil) ∙ ap (λ (bs : List ℕ). skipBytes w ++ bs) (act-bytes p))
+
+module _ (σ : Settings) {s : State} (d : ℕ) {x : Rec} (p : Act) (e : x ≡ actRec p) where
+  pub step-fits : {out : List ℕ} → Room (before σ (s .tick) d ⧺ act p nil) s out → length (stepBytes σ s d x) ≤ length out
+  step-fits {out} R = subst (λ (bs : List ℕ). length bs ≤ length out) (step-bytes σ s d p ∙ ap (stepBytes σ s d) (sym e)) (R .room)
+
+  pub step-lays : {old new : List ℕ} {r : State} → ticks σ p ≡ d → StepLaid σ s d x old new r → Lays σ (before σ (s .tick) d ⧺ act p nil) s old new r
+  step-lays {old} h L = record {
+    after = L .state .after p h;
+    wrote = L .wrote ∙ ap (λ (bs : List ℕ). over bs old) (ap (stepBytes σ s d) e ∙ sym (step-bytes σ s d p));
+  }
+
+-- A STATEMENT
+
+-- what is laid has passed
+pub laid-passed : {s : List ℕ} {i to : ℕ} {σ : Settings} {at : State} {old new : List ℕ} {r : Passage} → StatementLaid s i to σ at old new r → StatementPassed s i to σ at r
+laid-passed L = record { right = λ b B. passed (L .right b B .lays .after) (L .right b B .goes) }
+
+module _ {s : List ℕ} {i to : ℕ} {σ : Settings} {from : State} {old : List ℕ} (F : StatementFits s i to σ from old) where
+  abbrev pub block : Block
+  block = F .statement .entered .file .block
+
+  pub stands : Stands s i to block
+  stands = F .statement .entered .file .stands
+
+  -- where the block is known to be b, and its first statement is laid as c
+  module _ (b : Block) (e : block ≡ b) (c : Block) (f : laid σ (only b) (from .tick) ≡ c) where
+    pub fits-as : LaidFits σ c from old
+    fits-as = subst (λ (x : Block). LaidFits σ x from old) (ap (λ (y : Block). laid σ (only y) (from .tick)) e ∙ f) (F .fits)
+
+    pub answered-as : {new : List ℕ} {r : Passage} → LaysTo σ c (i + firstSize b) from old new r → StatementLaid s i to σ from old new r
+    answered-as {new} {r} L = record {
+      right = λ y Y.
+          subst (λ (z : Block). LaysTo σ (laid σ (only z) (from .tick)) (i + firstSize z) from old new r) (sym e ∙ stands-once block y stands Y)
+          (subst (λ (x : Block). LaysTo σ x (i + firstSize b) from old new r) (sym f) L);
+    }
+
+  -- what passed and was written is laid
+  pub passed-laid : {new : List ℕ} {r : Passage} → StatementPassed s i to σ from r → new ≡ over (bytesOf from (laid σ (only block) (from .tick))) old
+      → StatementLaid s i to σ from old new r
+  passed-laid {new} {r} P e =
+      answered-as block refl _ refl (record { lays = record { after = Q .after (F .fits .within); wrote = e }; goes = Q .goes (F .fits .within) })
+    where
+      Q : Passes σ (laid σ (only block) (from .tick)) (i + firstSize block) from r
+      Q = P .right block stands
+
+  -- the record at i
+  module _ {x : Record} (e : recordOf x ≡ recordAt s i) where
+    -- a SKIP is laid as the filling up to a tick past P
+    module _ (k : x .kind ≡ SKIP) where
+      abbrev n : ℕ
+      n = recordAt s i .count
+
+      is-skip : block ≡ skip n (afterFirst block)
+      is-skip = skip-at block stands (F .statement .early) (F .statement .goes-on) (kind-there (F .statement) e k)
+
+      within : from .tick + time σ (idles σ n (from .tick)) ≤ σ .period
+      within = fits-as (skip n (afterFirst block)) is-skip (idles σ n (from .tick)) (laid-skip σ n (from .tick)) .within
+
+      as-filled : laid σ (only (skip n (afterFirst block))) (from .tick) ≡ fill σ (x .count) (from .tick) (σ .period + 1)
+      as-filled =
+          laid-skip σ n (from .tick)
+          ∙ sym (skip-within σ n (from .tick) within)
+          ∙ ap (λ (m : ℕ). fill σ m (from .tick) (σ .period + 1)) (sym (count-there (F .statement) e))
+
+      pub skip-room : Room (fill σ (x .count) (from .tick) (σ .period + 1)) from old
+      skip-room = fits-as (skip n (afterFirst block)) is-skip _ as-filled .room
+
+      pub skip-laid : {new : List ℕ} {r : State} → Lays σ (fill σ (x .count) (from .tick) (σ .period + 1)) from old new r
+          → StatementLaid s i to σ from old new (record { state = r; next = i + 1 })
+      skip-laid L = answered-as (skip n (afterFirst block)) is-skip _ as-filled (record { lays = L; goes = refl })
+
+    -- any other is a step
+    module _ (k : x .kind ≡ SKIP → ⊥) (m : x .kind ≡ IF → ⊥) (l : x .kind ≡ TIMES → ⊥) {d : ℕ} (h : d ≡ stepTicks σ (recordOf x)) where
+      abbrev the : IsAct (recordAt s i) block
+      the = is-act (F .statement) e k m l
+
+      lasts : ticks σ (the .act-of) ≡ d
+      lasts = act-lasts (F .statement) e k m l ∙ sym h
+
+      as-step : laid σ (only (act (the .act-of) (afterFirst block))) (from .tick) ≡ before σ (from .tick) d ⧺ act (the .act-of) nil
+      as-step = laid-act σ (the .act-of) (from .tick) ∙ ap (λ (n : ℕ). before σ (from .tick) n ⧺ act (the .act-of) nil) lasts
+
+      pub act-fits : length (stepBytes σ from d (recordOf x)) ≤ length old
+      act-fits = step-fits σ d (the .act-of) (e ∙ the .same) (fits-as (act (the .act-of) (afterFirst block)) (the .is) _ as-step .room)
+
+      pub act-laid : {new : List ℕ} {r : State} → StepLaid σ from d (recordOf x) old new r → StatementLaid s i to σ from old new (record { state = r; next = i + 1 })
+      act-laid L =
+          answered-as (act (the .act-of) (afterFirst block)) (the .is) _ as-step (record { lays = step-lays σ d (the .act-of) (e ∙ the .same) lasts L; goes = refl })

@@ -1,0 +1,150 @@
+-- Where laying out ends decides rows 8 and 9; where neither refuses, it is the room that writing asks for.
+use native.Mathlib.Omega.{arith}
+use mathlib.Core.Path.{sym, _∙_}
+use borrow.Author.Needs.{needs}
+use Rattle.layout.specs.States.{Layable}
+use Rattle.layout.proofs.Replies.{short-window, layable, over-period, InTime, few-counted, no-room, has-room, written}
+use Rattle.layout.proofs.lay_out_sound.Statement.{statement}
+use Rattle.layout.proofs.lay_out_sound.Tie as tie
+use Rattle.layout.proofs.lay_out_sound.Reads as reads
+use Rattle.layout.proofs.lay_out_sound.Lts as lts
+use Rattle.layout.proofs.measure.measure_file.Reads as measure-file-reads
+use Rattle.layout.proofs.short_window.Reads as short-window-reads
+use Rattle.layout.proofs.write.write_file.Reads as write-file-reads
+use Rattle.records.proofs.no_room.Reads as no-room-reads
+use Rattle.records.proofs.skips.skip_records.Reads as skip-records-reads
+
+abbrev claims : lts.Claims
+claims = (
+  short-window-reads.Asked,
+  short-window-reads.Learnt,
+  measure-file-reads.Asked,
+  measure-file-reads.Learnt,
+  skip-records-reads.Asked,
+  skip-records-reads.Learnt,
+  no-room-reads.Asked,
+  no-room-reads.Learnt,
+  write-file-reads.Asked,
+  write-file-reads.Learnt,
+)
+
+-- row 7 does not refuse
+wide : (c : lts.Else1 claims reads.Pre reads.Post) → Layable (c .before .before .before .before .args .n)
+wide c = layable (c .before .before .before .before .pre .1) (sym (c .before .short-window .ensures) ∙ c .if1 .left)
+
+-- nor does row 8
+timed : (c : lts.After-skip-records claims reads.Pre reads.Post) →
+    let k = c .before .before .before .before .before .before .before .before in
+    let a = k .before .before .before .before .before .args in
+    InTime (a .file .now) (a .n) (k .measure-file .result) (c .skip-records .result)
+timed c =
+    let i = c .before .before .before in
+    let k = i .before .before .before .before .before in
+    record {
+      sound = k .before .before .before .before .before .pre .0;
+      settings = wide (k .before);
+      passed = k .measure-file .ensures;
+      short = i .if2 .left;
+      skips = c .skip-records .ensures;
+    }
+
+short-window-requires : tie.Need-short-window-requires
+short-window-requires c κs = search needs
+
+returns : tie.Need-returns
+returns c = short-window _ _ _ (sym (c .before .short-window .ensures) ∙ c .if1 .taken)
+
+measure-file-requires : tie.Need-measure-file-requires
+measure-file-requires c κs = (c .before .before .before .before .pre .0, wide c)
+
+cast-total : tie.Need-cast-total
+cast-total c = search needs
+
+cast-total-2 : tie.Need-cast-total-2
+cast-total-2 c = search needs
+
+add-total : tie.Need-add-total
+add-total c = search needs
+
+cast-total-3 : tie.Need-cast-total-3
+cast-total-3 c = search needs
+
+add-total-2 : tie.Need-add-total-2
+add-total-2 c = search needs
+
+cast-if2 : tie.Need-cast-if2
+cast-if2 c = search needs
+
+returns-2 : tie.Need-returns-2
+returns-2 c = let k = c .before .before .before .before .before in over-period (wide (k .before)) (k .measure-file .ensures) _ (c .if2 .taken)
+
+cast-skip-records : tie.Need-cast-skip-records
+cast-skip-records c = search needs
+
+cast-skip-records-2 : tie.Need-cast-skip-records-2
+cast-skip-records-2 c = search needs
+
+add-skip-records : tie.Need-add-skip-records
+add-skip-records c = search needs
+
+skip-records-requires : tie.Need-skip-records-requires
+skip-records-requires c κs = search needs
+
+add-records : tie.Need-add-records
+add-records c = omega (arith, few-counted (timed (c .before)))
+
+add-records-2 : tie.Need-add-records-2
+add-records-2 c = omega (arith, few-counted (timed (c .before)))
+
+no-room-requires : tie.Need-no-room-requires
+no-room-requires c κs = search needs
+
+returns-3 : tie.Need-returns-3
+returns-3 c = no-room (timed (c .before .before .before)) _ (sym (c .before .no-room .ensures) ∙ c .if3 .taken)
+
+write-file-requires : tie.Need-write-file-requires
+write-file-requires c κs =
+    let j = c .before in
+    has-room (timed (j .before .before .before)) _ (sym (j .before .no-room .ensures) ∙ j .if3 .left)
+
+mul-t16 : tie.Need-mul-t16
+mul-t16 c = omega (arith, few-counted (timed (c .before .before .before .before .before .before .before)))
+
+cast-t22 : tie.Need-cast-t22
+cast-t22 c = let t = timed (c .before .before .before .before .before .before .before) in omega (arith, t .short, t .settings .short)
+
+same-length : tie.Need-same-length
+same-length c = search needs
+
+returns-4 : tie.Need-returns-4
+returns-4 c =
+    let j = c .before .before .before .before in
+    written (timed (j .before .before .before)) _ (sym (j .before .no-room .ensures) ∙ j .if3 .left) _ (c .before .before .write-file .ensures)
+
+pub lay-out-sound-spec : {M : Type 1} → statement M
+lay-out-sound-spec =
+    tie.close
+    (tie.spec
+    short-window-requires
+    returns
+    measure-file-requires
+    cast-total
+    cast-total-2
+    add-total
+    cast-total-3
+    add-total-2
+    cast-if2
+    returns-2
+    cast-skip-records
+    cast-skip-records-2
+    add-skip-records
+    skip-records-requires
+    add-records
+    add-records-2
+    no-room-requires
+    returns-3
+    write-file-requires
+    mul-t16
+    cast-t22
+    same-length
+    returns-4)

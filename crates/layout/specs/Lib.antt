@@ -1,0 +1,7 @@
+-- What the contracts of laying out cite beside the model's definitions.
+pub mod Merging
+pub mod States
+pub mod Ranges
+pub mod Measured
+pub mod Written
+pub mod Answers

@@ -1,0 +1,74 @@
+-- What measuring answers: the state once a part of the file is laid, or a tick above P.
+use Prim.Native.Nat.{ℕ, _+_, _≤_, _<_, max}
+use mathlib.Core.Path.{_≡_}
+use mathlib.Core.Bool.{false}
+use mathlib.Core.List.{List}
+use Rattle.model.specs.declared.Settings.{Settings}
+use Rattle.model.specs.Records.{kindAt}
+use Rattle.model.specs.Trees.{Block, size, fileTree}
+use Rattle.model.specs.Times.{time}
+use Rattle.model.specs.Equalising.{merge}
+use Rattle.model.specs.Layout.{copies, unroll, filled, lay, opened}
+use Rattle.theory.proofs.Windows.{Free}
+use Rattle.reading.specs.Closing.{closesBlock}
+use Rattle.reading.specs.Ranges.{firstSize}
+use Rattle.layout.specs.declared.clock.State.{State}
+use Rattle.layout.specs.declared.measure.Passage.{Passage}
+use Rattle.layout.specs.States.{cap, Shows, Laying, After, aside, started}
+use Rattle.layout.specs.Ranges.{Stands, InFile, only}
+
+-- an equalised block laid from tick t on
+unfoldable pub laid : Settings → Block → ℕ → Block
+laid σ b t = lay σ (unroll b) t
+
+-- c is laid from s on, and the next record is j; or the tick is above P, as it is once c is laid
+pub record Passes (σ : Settings) (c : Block) (j : ℕ) (s : State) (r : Passage) : Type 0 where
+  pub late : σ .period < s .tick + time σ c → σ .period < r .state .tick
+  pub after : s .tick + time σ c ≤ σ .period → After σ c s (r .state)
+  pub goes : s .tick + time σ c ≤ σ .period → r .next ≡ j
+
+-- the sides of an IF meet: its test ended at s, and they are laid as a and d
+pub record Met (σ : Settings) (s : State) (a d : Block) (r : State) : Type 0 where
+  pub shows : Shows σ r
+  pub tick : r .tick ≡ s .tick + max (time σ a) (time σ d)
+  pub wait : r .wait ≡ 0
+  pub records : r .records ≡ cap (s .records + (2 + size (merge 0 (filled σ (s .tick) a (r .tick))) + size (merge 0 (filled σ (s .tick) d (r .tick)))))
+
+-- they end at x and y
+pub record Meeting (σ : Settings) (s x y : State) : Type 0 where
+  pub test : Laying σ s
+  pub one : Laying σ x
+  pub two : Laying σ y
+  pub free-one : Free σ 1 (x .tick)
+  pub free-two : Free σ 1 (y .tick)
+
+pub record Meets (σ : Settings) (s x y r : State) : Type 0 where
+  pub right : (a d : Block) → After σ a (aside s) x → After σ d (aside s) y → Met σ s a d r
+
+-- a block of the file is laid from s on
+pub record Entered (s : List ℕ) (i to : ℕ) (σ : Settings) (at : State) : Type 0 where
+  pub file : InFile s i to
+  pub laying : Laying σ at
+  pub free : Free σ 0 (at .tick)
+
+-- and it is not empty
+pub record Statement (s : List ℕ) (i to : ℕ) (σ : Settings) (at : State) : Type 0 where
+  pub entered : Entered s i to σ at
+  pub early : i < to
+  pub goes-on : closesBlock (kindAt s i) ≡ false
+
+pub record BlockPassed (s : List ℕ) (i to : ℕ) (σ : Settings) (at : State) (r : Passage) : Type 0 where
+  pub right : (b : Block) → Stands s i to b → Passes σ (laid σ b (at .tick)) (i + size b) at r
+
+pub record StatementPassed (s : List ℕ) (i to : ℕ) (σ : Settings) (at : State) (r : Passage) : Type 0 where
+  pub right : (b : Block) → Stands s i to b → Passes σ (laid σ (only b) (at .tick)) (i + firstSize b) at r
+
+-- n rounds of the body at i are as many as c: none are walked of an empty one
+pub record Rounds (s : List ℕ) (i to c n : ℕ) : Type 0 where
+  pub same : (a : Block) → Stands s i to a → copies n (unroll a) ≡ copies c (unroll a)
+  pub none : (a : Block) → Stands s i to a → n ≡ 0 → (c ≡ 0 → ⊥) → size a ≡ 0
+
+-- the whole file from tick 0 on, up to its last step
+pub record FilePassed (s : List ℕ) (σ : Settings) (r : State) : Type 0 where
+  pub late : σ .period < time σ (opened σ (unroll (fileTree s))) → σ .period < r .tick
+  pub after : time σ (opened σ (unroll (fileTree s))) ≤ σ .period → After σ (opened σ (unroll (fileTree s))) started r

@@ -1,0 +1,75 @@
+// The equalised file unrolled, with heartbeats and checkpoints at their ticks. One pass measures the result, and one writes it.
+mod clock;
+mod measure;
+mod pieces;
+mod write;
+
+ghost use mathlib.Core.Path.{_≡_};
+ghost use Prim.Native.Nat.{_+_};
+ghost use lib.ListN.{length};
+ghost use Rattle.model.specs.Answers.{laidOut};
+ghost use Rattle.model.specs.Replies.{longest, shortWindow, layOutReply, layOutOut};
+ghost use Rattle.layout.specs.Ranges.{SoundFile};
+ghost use Rattle.layout.specs.Answers.{InRange, LaysOut};
+use measure::measure_file;
+use model::Form;
+use model::LaidOut;
+use model::Refusal;
+use model::Settings;
+use records::no_room;
+use records::settings::Decoded;
+use records::skips::skip_records;
+use write::write_file;
+
+// The longest of the steps that are no commands.
+fn longest_step(n: Settings) -> u32
+    ensures { λ r. ⌜ r ≡ longest n ⌝ }
+{
+    measure::later(
+        measure::later(n.set, n.multiply),
+        measure::later(n.read, n.write),
+    )
+}
+
+// Refusal 7.
+fn short_window(n: Settings) -> bool
+    ensures { λ r. ⌜ r ≡ shortWindow n ⌝ }
+{
+    (n.window as u64) < n.beat as u64 + n.save as u64 + longest_step(n) as u64
+}
+
+// A file that was read: refusals 7, 8 and 9, or the laid file over the front of out.
+fn lay_out_sound(file: &[u8], n: Settings, out: &mut [u8]) -> LaidOut
+    requires { ⌜ (SoundFile (now file)) × (InRange n) ⌝ }
+    ensures { λ r. ⌜ LaysOut (now (file .entry)) n (now (out .entry)) (now (out .exit)) r ⌝ }
+{
+    if short_window(n) {
+        return LaidOut::Refused(Refusal::ShortWindow);
+    }
+    let end = measure_file(file, n);
+    let total = end.tick as u64 + end.left as u64 + n.beat as u64;
+    if (n.period as u64) < total {
+        return LaidOut::Refused(Refusal::OverPeriod);
+    }
+    let records = end.records + skip_records(end.wait as u64 + end.left as u64) + 1;
+    if no_room(out.len(), records) {
+        return LaidOut::Refused(Refusal::NoRoom);
+    }
+    write_file(file, n, out);
+    LaidOut::Written {
+        bytes: 12 * records,
+        total: total as u32,
+    }
+}
+
+// The laid file over the front of out, or the first refusal of 6, 1 to 5 and 7 to 9.
+pub fn lay_out(settings: &[u8], equalised: &[u8], out: &mut [u8]) -> LaidOut
+    ensures { λ r. ⌜ (laidOut r ≡ layOutReply (now (settings .entry)) (now (equalised .entry)) (length (now (out .entry))))
+        × (now (out .exit) ≡ layOutOut (now (settings .entry)) (now (equalised .entry)) (now (out .entry))) ⌝ }
+{
+    let read = reading::read(settings, Form::Equalised, equalised);
+    match read {
+        Decoded::Refused(x) => LaidOut::Refused(x),
+        Decoded::Valid(n) => lay_out_sound(equalised, n, out),
+    }
+}
