@@ -19,6 +19,7 @@ pub mod PassingBranches
 pub mod WritingSteps
 pub mod WritingBlocks
 pub mod WritingRounds
+pub mod WritingSides
 pub mod WritingBranches
 pub mod Whole
 pub mod Replies

@@ -175,7 +175,7 @@ module _ {s : List ℕ} {i to : ℕ} {σ : Settings} {from : State} (S : Stateme
       one-late l = told (passed-late (omega (arith, not-before, too-late one-passes l)) l)
 
       module _ (l : a .state .tick ≤ σ .period) where
-        one-after : After σ first (aside test) (a .state)
+        pub one-after : After σ first (aside test) (a .state)
         one-after = one-passes .after (in-time one-passes l)
 
         pub one-goes : a .next ≡ i + 1 + size one
@@ -197,7 +197,7 @@ module _ {s : List ℕ} {i to : ℕ} {σ : Settings} {from : State} (S : Stateme
           two-late m = told (passed-late (omega (arith, not-before, too-late two-passes m)) m)
 
           module _ (m : d .state .tick ≤ σ .period) where
-            two-after : After σ second (aside test) (d .state)
+            pub two-after : After σ second (aside test) (d .state)
             two-after = two-passes .after (in-time two-passes m)
 
             pub two-goes : d .next ≡ i + 1 + size one + 1 + size two

@@ -40,10 +40,6 @@ rounds-longer σ fits a m (suc k) t p f =
       time-⧺ σ (rounds σ a (m + k) t) (laid σ a u),
     )
 
--- a count that was read from the loop's record
-pub rounds-of : {s : List ℕ} {i to c d n : ℕ} → c ≡ d → Rounds s i to c n → Rounds s i to d n
-rounds-of {s} {i} {to} {c} {d} {n} e R = subst (λ (x : ℕ). Rounds s i to x n) e R
-
 -- the loop at i
 module _ {s : List ℕ} {i to : ℕ} {σ : Settings} {from : State} (S : Statement s i to σ from) (k : kindAt s i ≡ TIMES) where
   abbrev pub body : Block
@@ -66,6 +62,10 @@ module _ {s : List ℕ} {i to : ℕ} {σ : Settings} {from : State} (S : Stateme
 
   pub body-inside : i + 1 + size body < to
   body-inside = body-ends (block S) (stands S) (S .early) (S .goes-on) k
+
+  -- the rounds to walk, by a count that was read from its record
+  pub rounds-there : {c n : ℕ} → c ≡ count → Rounds s (i + 1) to c n → Rounds s (i + 1) to count n
+  rounds-there {c} {n} e R = subst (λ (m : ℕ). Rounds s (i + 1) to m n) e R
 
   -- so many rounds are laid, and `last` are to be walked
   pub record Rounding (last : ℕ) (state : State) (next round : ℕ) : Type 0 where

@@ -7,9 +7,10 @@ use Rattle.model.specs.declared.Settings.{Settings}
 use Rattle.model.specs.Records.{Rec, recordBytes}
 use Rattle.model.specs.Trees.{Block, beat, actRec, size, fileTree}
 use Rattle.model.specs.Times.{time}
-use Rattle.model.specs.Layout.{before, fill, lastValue, layout, total}
+use Rattle.model.specs.Equalising.{merge}
+use Rattle.model.specs.Layout.{before, fill, filled, lastValue, layout, total}
 use Rattle.model.specs.Replies.{over}
-use Rattle.records.specs.Blocks.{blockBytes, skipBytes}
+use Rattle.records.specs.Blocks.{blockBytes, skipBytes, Wrote}
 use Rattle.reading.specs.Ranges.{firstSize}
 use Rattle.layout.specs.declared.clock.State.{State}
 use Rattle.layout.specs.declared.measure.Passage.{Passage}
@@ -40,13 +41,13 @@ pub record StepLaid (σ : Settings) (s : State) (d : ℕ) (x : Rec) (old new : L
   pub state : Stepped σ s d r
   pub wrote : new ≡ over (stepBytes σ s d x) old
 
--- a side of an IF from s on: SKIPs up to tick e, and the record x that closes the side
+-- the end of a side of an IF that is laid up to s: SKIPs up to tick e, and the record x that closes the side
 abbrev pub closingBytes : Settings → State → ℕ → Rec → List ℕ
 closingBytes σ s e x =
     let c = fill σ (e - s .tick) (s .tick) e in
     bytesOf s c ++ (skipBytes (waits (s .wait) c) ++ recordBytes x)
 
-pub record SideFits (σ : Settings) (s : State) (e : ℕ) (x : Rec) (out : List ℕ) : Type 0 where
+pub record EndFits (σ : Settings) (s : State) (e : ℕ) (x : Rec) (out : List ℕ) : Type 0 where
   pub laying : Laying σ s
   pub reaches : s .tick ≤ e
   pub upto : e ≤ σ .period
@@ -65,6 +66,20 @@ pub record BlockFits (s : List ℕ) (i to : ℕ) (σ : Settings) (at : State) (o
 pub record StatementFits (s : List ℕ) (i to : ℕ) (σ : Settings) (at : State) (out : List ℕ) : Type 0 where
   pub statement : Statement s i to σ at
   pub fits : LaidFits σ (laid σ (only (statement .entered .file .block)) (at .tick)) at out
+
+-- a side of an IF with the block b from s on, filled up to tick e and closed by the record x
+abbrev pub sideBytes : Settings → State → Block → ℕ → Rec → List ℕ
+sideBytes σ s b e x = blockBytes (merge (s .wait) (filled σ (s .tick) (laid σ b (s .tick)) e)) ++ recordBytes x
+
+pub record SideFits (s : List ℕ) (i to : ℕ) (σ : Settings) (at : State) (e : ℕ) (x : Rec) (out : List ℕ) : Type 0 where
+  pub entered : Entered s i to σ at
+  pub reaches : at .tick + time σ (laid σ (entered .file .block) (at .tick)) ≤ e
+  pub upto : e ≤ σ .period
+  pub few : at .records + size (merge (at .wait) (filled σ (at .tick) (laid σ (entered .file .block) (at .tick)) e)) ≤ 5461
+  pub room : length (sideBytes σ at (entered .file .block) e x) ≤ length out
+
+pub record SideLaid (s : List ℕ) (i to : ℕ) (σ : Settings) (at : State) (e : ℕ) (x : Rec) (old new : List ℕ) (n : ℕ) : Type 0 where
+  pub right : (b : Block) → Stands s i to b → Wrote (sideBytes σ at b e x) old new n
 
 -- and the index after it
 pub record LaysTo (σ : Settings) (c : Block) (j : ℕ) (s : State) (old new : List ℕ) (r : Passage) : Type 0 where

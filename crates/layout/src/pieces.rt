@@ -9,7 +9,7 @@ ghost use Rattle.model.specs.Replies.{longest, over};
 ghost use Rattle.records.specs.Records.{recordOf};
 ghost use Rattle.records.specs.Blocks.{Wrote};
 ghost use Rattle.layout.specs.States.{Layable, Laying};
-ghost use Rattle.layout.specs.Written.{bytesOf, Room, Lays, stepBytes, StepLaid, closingBytes, SideFits, tailBytes};
+ghost use Rattle.layout.specs.Written.{bytesOf, Room, Lays, stepBytes, StepLaid, closingBytes, EndFits, tailBytes};
 use crate::clock::State;
 use crate::clock::idle_ticks;
 use crate::clock::idled;
@@ -88,7 +88,7 @@ pub fn put_skips(n: Settings, from: State, most: u32, end: u32, out: &mut [u8]) 
 
 // The end of a side of an IF that is laid up to s: SKIPs to the tick `end`, and the record that closes it; the bytes written.
 pub fn close_side(n: Settings, s: State, end: u32, kind: u8, out: &mut [u8]) -> usize
-    requires { ⌜ SideFits n s end (rec kind 0 0 0 0 0) (now out) ⌝ }
+    requires { ⌜ EndFits n s end (rec kind 0 0 0 0 0) (now out) ⌝ }
     ensures { λ r. ⌜ Wrote (closingBytes n s end (rec kind 0 0 0 0 0)) (now (out .entry)) (now (out .exit)) r ⌝ }
 {
     let f = put_skips(n, s, end - s.tick, end, out);

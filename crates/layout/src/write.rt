@@ -1,12 +1,12 @@
 // The second pass: the laid block, over the front of a lent buffer. Each block and what follows it is lent the rest of the buffer.
 ghost use mathlib.Core.Path.{_≡_};
-ghost use Rattle.model.specs.Records.{recordAt, IF, TIMES};
+ghost use Rattle.model.specs.Records.{rec, kindAt, recordAt, IF, TIMES};
 ghost use Rattle.model.specs.Trees.{fileTree};
 ghost use Rattle.model.specs.Layout.{layout};
 ghost use Rattle.model.specs.Replies.{over};
 ghost use Rattle.records.specs.Records.{recordOf};
 ghost use Rattle.records.specs.Blocks.{blockBytes};
-ghost use Rattle.layout.specs.Written.{BlockFits, BlockLaid, StatementFits, StatementLaid, FileFits};
+ghost use Rattle.layout.specs.Written.{BlockFits, BlockLaid, SideFits, SideLaid, StatementFits, StatementLaid, FileFits};
 use crate::clock::State;
 use crate::clock::commanded;
 use crate::clock::start;
@@ -30,7 +30,27 @@ use records::kinds;
 use records::record_at;
 use timing::ticks::step_ticks;
 
-// The IF at i, with the record r.
+// The side of an IF at i, filled up to the tick `end` and closed by a record of that kind; the bytes written.
+fn write_side(
+    s: &[u8],
+    i: usize,
+    to: usize,
+    n: Settings,
+    start: State,
+    end: u32,
+    kind: u8,
+    out: &mut [u8],
+) -> usize
+    requires { ⌜ SideFits (now s) i to n start end (rec kind 0 0 0 0 0) (now out) ⌝ }
+    ensures { λ r. ⌜ SideLaid (now (s .entry)) i to n start end (rec kind 0 0 0 0 0) (now (out .entry)) (now (out .exit)) r ⌝ }
+{
+    let e = write_block(s, i, to, n, start, out);
+    let state = e.state;
+    let at = written(start, state);
+    at + close_side(n, state, end, kind, &mut out[at..])
+}
+
+// The IF at i, with the record r: where its sides meet is measured before they are written.
 fn write_branch(
     s: &[u8],
     i: usize,
@@ -40,27 +60,23 @@ fn write_branch(
     from: State,
     out: &mut [u8],
 ) -> Passage
-    requires { ⌜ (StatementFits (now s) i to n from (now out)) × (recordOf r ≡ recordAt (now s) i) × (r .kind ≡ IF) ⌝ }
+    requires { ⌜ (StatementFits (now s) i to n from (now out)) × (recordOf r ≡ recordAt (now s) i) × (kindAt (now s) i ≡ IF) ⌝ }
     ensures { λ p. ⌜ StatementLaid (now (s .entry)) i to n from (now (out .entry)) (now (out .exit)) p ⌝ }
 {
     let test = put_step(n, from, 1, r, out);
     let at = written(from, test);
     let start = side(test);
-    let first = write_block(s, i + 1, to, n, start, &mut out[at..]);
+    let first = measure_block(s, i + 1, to, n, start);
     let one = first.state;
     let other = first.next + 1;
-    let ahead = measure_block(s, other, to, n, start);
-    let far = ahead.state;
-    let end = later(one.tick, far.tick);
-    let mid = at + written(start, one);
-    let second = mid + close_side(n, one, end, kinds::ELSE, &mut out[mid..]);
-    let last = write_block(s, other, to, n, start, &mut out[second..]);
-    let two = last.state;
-    let tail = second + written(start, two);
-    close_side(n, two, end, kinds::END, &mut out[tail..]);
+    let second = measure_block(s, other, to, n, start);
+    let two = second.state;
+    let end = later(one.tick, two.tick);
+    let mid = at + write_side(s, i + 1, to, n, start, end, kinds::ELSE, &mut out[at..]);
+    write_side(s, other, to, n, start, end, kinds::END, &mut out[mid..]);
     Passage {
         state: meet(n, test, one, two),
-        next: last.next + 1,
+        next: second.next + 1,
     }
 }
 
@@ -74,7 +90,7 @@ fn write_rounds(
     from: State,
     out: &mut [u8],
 ) -> Passage
-    requires { ⌜ (StatementFits (now s) i to n from (now out)) × (recordOf r ≡ recordAt (now s) i) × (r .kind ≡ TIMES) ⌝ }
+    requires { ⌜ (StatementFits (now s) i to n from (now out)) × (recordOf r ≡ recordAt (now s) i) × (kindAt (now s) i ≡ TIMES) ⌝ }
     ensures { λ p. ⌜ StatementLaid (now (s .entry)) i to n from (now (out .entry)) (now (out .exit)) p ⌝ }
 {
     let body = i + 1;
