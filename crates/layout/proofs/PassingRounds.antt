@@ -178,3 +178,10 @@ module _ {s : List ℕ} {i to : ℕ} {σ : Settings} {from : State} (S : Stateme
 
             C : After σ (before σ check-tick 1 ⧺ act (check test) nil) state r
             C = subst (λ (t : ℕ). After σ (before σ t 1 ⧺ act (check test) nil) state r) (P′ .tick) (T .after (check test) refl)
+
+-- all that is known at a turn of the loop
+pub record PassingRounds (s : List ℕ) (i to : ℕ) (σ : Settings) (from : State) (last : ℕ) (state : State) (next round : ℕ) : Type 0 where
+  pub loop : Statement s i to σ from
+  pub kind : kindAt s i ≡ TIMES
+  pub rounds : Rounds s (i + 1) to (recordAt s i .count) last
+  pub turn : Rounding loop kind last state next round

@@ -145,3 +145,10 @@ module _ {s : List ℕ} {i to : ℕ} {σ : Settings} {from : State} {old : List 
               lays = writing-end (writing-next (check-from (state .tick)) nil final (step-lays σ 1 (check (test (F .statement) k)) e refl L));
               goes = omega (arith, at-end (F .statement) k R (W .rounding) l);
             }))
+
+-- all that is known at a turn of the loop
+pub record WritingLoop (s : List ℕ) (i to : ℕ) (σ : Settings) (from : State) (old : List ℕ) (last : ℕ) (state : State) (next round : ℕ) (new : List ℕ) : Type 0 where
+  pub loop : StatementFits s i to σ from old
+  pub kind : kindAt s i ≡ TIMES
+  pub rounds : Rounds s (i + 1) to (recordAt s i .count) last
+  pub turn : WritingRounds loop kind rounds state next round new

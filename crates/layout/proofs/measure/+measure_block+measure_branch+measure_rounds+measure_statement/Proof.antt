@@ -1,13 +1,12 @@
 -- A block is measured statement by statement; the laws of proofs/Passing*.antt say what each turn and each answer comes to.
 use Prim.Native.Nat.{ℕ, _+_, _*_, _-_, _<_}
 use native.Mathlib.Omega.{arith}
-use mathlib.Core.Path.{_≡_, sym, subst}
+use mathlib.Core.Path.{sym, subst}
 use borrow.Author.Needs.{needs}
-use Rattle.model.specs.Records.{kindAt, TIMES}
-use Rattle.layout.specs.Measured.{Entered, Statement}
+use Rattle.layout.specs.Measured.{Entered}
 use Rattle.layout.proofs.Passing.{closing-told, Passing, passing-start, passing-closed, passing-ended, statement-next, passing-late, passing-on, passing-next}
 use Rattle.layout.proofs.PassingSteps.{kind-there, count-there, skip-passed, step-short, act-passed}
-use Rattle.layout.proofs.PassingRounds.{rounds-there, body-inside, Rounding, rounding-start, body-entered, rounding-late, rounding-next, at-end, rounds-passed}
+use Rattle.layout.proofs.PassingRounds.{rounds-there, body-inside, PassingRounds, rounding-start, body-entered, rounding-late, rounding-next, at-end, rounds-passed}
 use Rattle.layout.proofs.PassingBranches.{passed-from, both-inside, test-late, one-entered, one-late, one-goes, two-entered, two-late, two-goes, meeting, branch-passed}
 use borrow.Fn.Kinds.{In}
 use borrow.Fn.PlainCycle.{Measures, is, falls, and}
@@ -121,13 +120,35 @@ abbrev measure-block-claims : ℕ → measure-block-lts.Claims
 measure-block-claims t = (kind-at-reads.Asked, kind-at-reads.Learnt, closes-reads.Asked, closes-reads.Learnt, measure-statement-below t, measure-statement.Post)
 
 abbrev measure-branch-claims : ℕ → measure-branch-lts.Claims
-measure-branch-claims t = (stepped-reads.Asked, stepped-reads.Learnt, side-reads.Asked, side-reads.Learnt, measure-block-below t, measure-block.Post, meet-reads.Asked, meet-reads.Learnt)
+measure-branch-claims t = (
+  stepped-reads.Asked,
+  stepped-reads.Learnt,
+  side-reads.Asked,
+  side-reads.Learnt,
+  measure-block-below t,
+  measure-block.Post,
+  meet-reads.Asked,
+  meet-reads.Learnt,
+)
 
 abbrev measure-rounds-claims : ℕ → measure-rounds-lts.Claims
 measure-rounds-claims t = (rounds-reads.Asked, rounds-reads.Learnt, measure-block-below t, measure-block.Post, stepped-reads.Asked, stepped-reads.Learnt)
 
 abbrev measure-statement-claims : ℕ → measure-statement-lts.Claims
-measure-statement-claims t = (record-at-reads.Asked, record-at-reads.Learnt, measure-branch-below t, measure-branch.Post, measure-rounds-below t, measure-rounds.Post, filled-reads.Asked, filled-reads.Learnt, step-ticks-reads.Asked, step-ticks-reads.Learnt, stepped-reads.Asked, stepped-reads.Learnt)
+measure-statement-claims t = (
+  record-at-reads.Asked,
+  record-at-reads.Learnt,
+  measure-branch-below t,
+  measure-branch.Post,
+  measure-rounds-below t,
+  measure-rounds.Post,
+  filled-reads.Asked,
+  filled-reads.Learnt,
+  step-ticks-reads.Asked,
+  step-ticks-reads.Learnt,
+  stepped-reads.Asked,
+  stepped-reads.Learnt,
+)
 
 measure-block-loop-holds : (t : ℕ) → measure-block-lts.Need-loop-holds (measure-block-claims t) (measure-block-at t) measure-block.Post measure-block-Inv-loop measure-block-μ-loop
 measure-block-loop-holds t c = passing-start (c .before .pre .1)
@@ -139,30 +160,39 @@ measure-block-closes-requires : (t : ℕ) → measure-block-lts.Need-closes-requ
 measure-block-closes-requires t c κs = search needs
 
 measure-block-returns : (t : ℕ) → measure-block-lts.Need-returns (measure-block-claims t) (measure-block-at t) measure-block.Post measure-block-Inv-loop measure-block-μ-loop
-measure-block-returns t c = passing-closed (c .before .before .before .before .loop .inv) (closing-told (c .before .before .kind-at .ensures) (c .before .closes .ensures) (c .if1 .taken))
+measure-block-returns t c = passing-closed (c .before .before .before .before .loop .inv)
+    (closing-told (c .before .before .kind-at .ensures) (c .before .closes .ensures) (c .if1 .taken))
 
 measure-block-measure-statement-requires : (t : ℕ) → measure-block-lts.Need-measure-statement-requires (measure-block-claims t) (measure-block-at t) measure-block.Post measure-block-Inv-loop measure-block-μ-loop
 measure-block-measure-statement-requires t c κs =
-    let w = c .before .before .before in
-    (omega (arith, w .before .loop .inv .on), statement-next (w .before .loop .inv) (w .loop-test .taken) (closing-told (c .before .before .kind-at .ensures) (c .before .closes .ensures) (c .if1 .left)))
+    let w = c .before .before .before in (
+      omega (arith, w .before .loop .inv .on),
+      statement-next (w .before .loop .inv) (w .loop-test .taken) (closing-told (c .before .before .kind-at .ensures) (c .before .closes .ensures) (c .if1 .left)),
+    )
 
 measure-block-returns-2 : (t : ℕ) → measure-block-lts.Need-returns-2 (measure-block-claims t) (measure-block-at t) measure-block.Post measure-block-Inv-loop measure-block-μ-loop
 measure-block-returns-2 t c =
     let w = c .before .before .before .before in
     let v = w .before .before .before in
-    passing-late (v .before .before .loop .inv) (v .before .loop-test .taken) (closing-told (v .kind-at .ensures) (w .before .before .closes .ensures) (w .before .if1 .left)) (w .measure-statement .ensures) (c .if2 .taken)
+    passing-late (v .before .before .loop .inv) (v .before .loop-test .taken)
+    (closing-told (v .kind-at .ensures) (w .before .before .closes .ensures) (w .before .if1 .left)) (w .measure-statement .ensures) (c .if2 .taken)
 
 measure-block-loop-less : (t : ℕ) → measure-block-lts.Need-loop-less (measure-block-claims t) (measure-block-at t) measure-block.Post measure-block-Inv-loop measure-block-μ-loop
 measure-block-loop-less t c =
     let w = c .before .before .before .before in
     let v = w .before .before .before in
-    omega (arith, passing-on (v .before .before .loop .inv) (v .before .loop-test .taken) (closing-told (v .kind-at .ensures) (w .before .before .closes .ensures) (w .before .if1 .left)) (w .measure-statement .ensures) (c .if2 .left))
+    omega (
+      arith,
+      passing-on (v .before .before .loop .inv) (v .before .loop-test .taken)
+          (closing-told (v .kind-at .ensures) (w .before .before .closes .ensures) (w .before .if1 .left)) (w .measure-statement .ensures) (c .if2 .left),
+    )
 
 measure-block-loop-again : (t : ℕ) → measure-block-lts.Need-loop-again (measure-block-claims t) (measure-block-at t) measure-block.Post measure-block-Inv-loop measure-block-μ-loop
 measure-block-loop-again t c =
     let w = c .before .before .before .before in
     let v = w .before .before .before in
-    passing-next (v .before .before .loop .inv) (v .before .loop-test .taken) (closing-told (v .kind-at .ensures) (w .before .before .closes .ensures) (w .before .if1 .left)) (w .measure-statement .ensures) (c .if2 .left)
+    passing-next (v .before .before .loop .inv) (v .before .loop-test .taken)
+    (closing-told (v .kind-at .ensures) (w .before .before .closes .ensures) (w .before .if1 .left)) (w .measure-statement .ensures) (c .if2 .left)
 
 measure-block-returns-3 : (t : ℕ) → measure-block-lts.Need-returns-3 (measure-block-claims t) (measure-block-at t) measure-block.Post measure-block-Inv-loop measure-block-μ-loop
 measure-block-returns-3 t c = passing-ended (c .before .loop .inv) (c .loop-test .left)
@@ -183,20 +213,30 @@ measure-branch-side-requires t c κs = search needs
 
 measure-branch-measure-block-requires : (t : ℕ) → measure-branch-lts.Need-measure-block-requires (measure-branch-claims t) (measure-branch-at t) measure-branch.Post
 measure-branch-measure-block-requires t c κs =
-    let w = c .before .before .before .before in
-    (omega (arith, w .before .before .pre .1 .0 .early), subst (Entered _ _ _ _) (sym (c .side .ensures)) (one-entered (w .before .before .pre .1 .0) (w .before .before .pre .1 .1) (w .stepped .ensures) (c .before .if1 .left)))
+    let w = c .before .before .before .before in (
+      omega (arith, w .before .before .pre .1 .0 .early),
+      subst (Entered _ _ _ _) (sym (c .side .ensures)) (one-entered (w .before .before .pre .1 .0) (w .before .before .pre .1 .1) (w .stepped .ensures) (c .before .if1 .left)),
+    )
 
 measure-branch-returns-2 : (t : ℕ) → measure-branch-lts.Need-returns-2 (measure-branch-claims t) (measure-branch-at t) measure-branch.Post
 measure-branch-returns-2 t c =
     let w = c .before .before .before .before in
     let v = w .before .before .before .before .before in
-    one-late (v .before .before .pre .1 .0) (v .before .before .pre .1 .1) (v .stepped .ensures) (w .before .before .if1 .left) (passed-from (w .before .side .ensures) (w .measure-block .ensures)) (c .if2 .taken)
+    one-late (v .before .before .pre .1 .0) (v .before .before .pre .1 .1) (v .stepped .ensures) (w .before .before .if1 .left)
+    (passed-from (w .before .side .ensures) (w .measure-block .ensures)) (c .if2 .taken)
 
 measure-branch-add-measure-block-2 : (t : ℕ) → measure-branch-lts.Need-add-measure-block-2 (measure-branch-claims t) (measure-branch-at t) measure-branch.Post
 measure-branch-add-measure-block-2 t c =
     let w = c .before .before .before .before .before in
     let v = w .before .before .before .before .before in
-    omega (arith, one-goes (v .before .before .pre .1 .0) (v .before .before .pre .1 .1) (v .stepped .ensures) (w .before .before .if1 .left) (passed-from (w .before .side .ensures) (w .measure-block .ensures)) (c .before .if2 .left), both-inside (v .before .before .pre .1 .0) (v .before .before .pre .1 .1) (v .stepped .ensures), v .before .before .pre .1 .0 .entered .file .inside, v .before .before .good .0 .0)
+    omega (
+      arith,
+      one-goes (v .before .before .pre .1 .0) (v .before .before .pre .1 .1) (v .stepped .ensures) (w .before .before .if1 .left)
+          (passed-from (w .before .side .ensures) (w .measure-block .ensures)) (c .before .if2 .left),
+      both-inside (v .before .before .pre .1 .0) (v .before .before .pre .1 .1) (v .stepped .ensures),
+      v .before .before .pre .1 .0 .entered .file .inside,
+      v .before .before .good .0 .0,
+    )
 
 measure-branch-side-requires-2 : (t : ℕ) → measure-branch-lts.Need-side-requires-2 (measure-branch-claims t) (measure-branch-at t) measure-branch.Post
 measure-branch-side-requires-2 t c κs = search needs
@@ -204,8 +244,16 @@ measure-branch-side-requires-2 t c κs = search needs
 measure-branch-measure-block-requires-2 : (t : ℕ) → measure-branch-lts.Need-measure-block-requires-2 (measure-branch-claims t) (measure-branch-at t) measure-branch.Post
 measure-branch-measure-block-requires-2 t c κs =
     let w = c .before .before .before .before .before .before in
-    let v = w .before .before .before .before .before in
-    (omega (arith, one-goes (v .before .before .pre .1 .0) (v .before .before .pre .1 .1) (v .stepped .ensures) (w .before .before .if1 .left) (passed-from (w .before .side .ensures) (w .measure-block .ensures)) (c .before .before .if2 .left), v .before .before .pre .0, v .before .before .pre .1 .0 .early), subst (Entered _ _ _ _) (sym (c .side2 .ensures)) (two-entered (v .before .before .pre .1 .0) (v .before .before .pre .1 .1) (v .stepped .ensures) (w .before .before .if1 .left) (passed-from (w .before .side .ensures) (w .measure-block .ensures)) (c .before .before .if2 .left)))
+    let v = w .before .before .before .before .before in (
+      omega (
+        arith,
+        one-goes (v .before .before .pre .1 .0) (v .before .before .pre .1 .1) (v .stepped .ensures) (w .before .before .if1 .left)
+            (passed-from (w .before .side .ensures) (w .measure-block .ensures)) (c .before .before .if2 .left),
+        v .before .before .pre .0,
+        v .before .before .pre .1 .0 .early,
+      ),
+      subst (Entered _ _ _ _) (sym (c .side2 .ensures)) (two-entered (v .before .before .pre .1 .0) (v .before .before .pre .1 .1) (v .stepped .ensures) (w .before .before .if1 .left) (passed-from (w .before .side .ensures) (w .measure-block .ensures)) (c .before .before .if2 .left)),
+    )
 
 measure-branch-returns-3 : (t : ℕ) → measure-branch-lts.Need-returns-3 (measure-branch-claims t) (measure-branch-at t) measure-branch.Post
 measure-branch-returns-3 t c =
@@ -213,7 +261,8 @@ measure-branch-returns-3 t c =
     let v = w .before .before .before in
     let u = v .before .before .before .before in
     let q = u .before .before .before .before .before in
-    two-late (q .before .before .pre .1 .0) (q .before .before .pre .1 .1) (q .stepped .ensures) (u .before .before .if1 .left) (passed-from (u .before .side .ensures) (u .measure-block .ensures)) (v .if2 .left)
+    two-late (q .before .before .pre .1 .0) (q .before .before .pre .1 .1) (q .stepped .ensures) (u .before .before .if1 .left)
+    (passed-from (u .before .side .ensures) (u .measure-block .ensures)) (v .if2 .left)
     (passed-from (w .before .side2 .ensures) (w .measure-block2 .ensures)) (c .if3 .taken)
 
 measure-branch-meet-requires : (t : ℕ) → measure-branch-lts.Need-meet-requires (measure-branch-claims t) (measure-branch-at t) measure-branch.Post
@@ -222,7 +271,8 @@ measure-branch-meet-requires t c κs =
     let v = w .before .before .before in
     let u = v .before .before .before .before in
     let q = u .before .before .before .before .before in
-    meeting (q .before .before .pre .1 .0) (q .before .before .pre .1 .1) (q .stepped .ensures) (u .before .before .if1 .left) (passed-from (u .before .side .ensures) (u .measure-block .ensures)) (v .if2 .left)
+    meeting (q .before .before .pre .1 .0) (q .before .before .pre .1 .1) (q .stepped .ensures) (u .before .before .if1 .left)
+    (passed-from (u .before .side .ensures) (u .measure-block .ensures)) (v .if2 .left)
     (passed-from (w .before .side2 .ensures) (w .measure-block2 .ensures)) (c .if3 .left)
 
 measure-branch-add-t12 : (t : ℕ) → measure-branch-lts.Need-add-t12 (measure-branch-claims t) (measure-branch-at t) measure-branch.Post
@@ -235,7 +285,8 @@ measure-branch-add-t12 t c =
       arith,
       two-goes (q .before .before .pre .1 .0) (q .before .before .pre .1 .1) (q .stepped .ensures) (u .before .before .if1 .left) (passed-from (u .before .side .ensures) (u .measure-block .ensures)) (v .if2 .left)
           (passed-from (w .before .side2 .ensures) (w .measure-block2 .ensures)) (c .before .before .if3 .left),
-      both-inside (q .before .before .pre .1 .0) (q .before .before .pre .1 .1) (q .stepped .ensures),
+      both-inside (q .before .before .pre .1 .0)
+          (q .before .before .pre .1 .1) (q .stepped .ensures),
       q .before .before .pre .1 .0 .entered .file .inside,
       q .before .before .good .0 .0,
     )
@@ -246,12 +297,12 @@ measure-branch-returns-4 t c =
     let v = w .before .before .before in
     let u = v .before .before .before .before in
     let q = u .before .before .before .before .before in
-    branch-passed (q .before .before .pre .1 .0) (q .before .before .pre .1 .1) (q .stepped .ensures) (u .before .before .if1 .left) (passed-from (u .before .side .ensures) (u .measure-block .ensures)) (v .if2 .left)
+    branch-passed (q .before .before .pre .1 .0) (q .before .before .pre .1 .1) (q .stepped .ensures) (u .before .before .if1 .left)
+    (passed-from (u .before .side .ensures) (u .measure-block .ensures)) (v .if2 .left)
     (passed-from (w .before .side2 .ensures) (w .measure-block2 .ensures)) (c .before .before .if3 .left) (c .before .meet .ensures)
 
 abbrev measure-rounds-Inv-loop : measure-rounds-lts.InvT-loop
-measure-rounds-Inv-loop s i to count n body last state₀ next₀ round₀ state next round =
-    (S : Statement s i to n state₀) (k : kindAt s i ≡ TIMES) → Rounding S k last state next round
+measure-rounds-Inv-loop s i to count n body last state₀ next₀ round₀ state next round = PassingRounds s i to n state₀ last state next round
 
 abbrev measure-rounds-μ-loop : measure-rounds-lts.MeasureT-loop
 measure-rounds-μ-loop s i to count n body last state₀ next₀ round₀ state next round = last - round
@@ -263,18 +314,25 @@ measure-rounds-rounds-requires : (t : ℕ) → measure-rounds-lts.Need-rounds-re
 measure-rounds-rounds-requires t c κs = omega (arith, body-inside (c .before .pre .1 .0) (c .before .pre .1 .1), c .before .pre .1 .0 .entered .file .inside)
 
 measure-rounds-loop-holds : (t : ℕ) → measure-rounds-lts.Need-loop-holds (measure-rounds-claims t) (measure-rounds-at t) measure-rounds.Post measure-rounds-Inv-loop measure-rounds-μ-loop
-measure-rounds-loop-holds t c = λ S k. rounding-start S k _
+measure-rounds-loop-holds t c =
+    record {
+      loop = c .before .before .pre .1 .0;
+      kind = c .before .before .pre .1 .1;
+      rounds = rounds-there (c .before .before .pre .1 .0)
+          (c .before .before .pre .1 .1) (c .before .before .pre .1 .2) (c .rounds .ensures);
+      turn = rounding-start (c .before .before .pre .1 .0) (c .before .before .pre .1 .1) _;
+    }
 
 measure-rounds-measure-block-requires : (t : ℕ) → measure-rounds-lts.Need-measure-block-requires (measure-rounds-claims t) (measure-rounds-at t) measure-rounds.Post measure-rounds-Inv-loop measure-rounds-μ-loop
 measure-rounds-measure-block-requires t c κs =
-    let w = c .before .before .before .before in
-    (omega (arith, w .pre .1 .0 .early), body-entered (w .pre .1 .0) (w .pre .1 .1) (rounds-there (w .pre .1 .0) (w .pre .1 .1) (w .pre .1 .2) (c .before .before .rounds .ensures)) (c .before .loop .inv (w .pre .1 .0) (w .pre .1 .1)))
+    let l = c .before .loop .inv in
+    (omega (arith, c .before .before .before .before .pre .1 .0 .early), body-entered (l .loop) (l .kind) (l .rounds) (l .turn))
 
 measure-rounds-returns : (t : ℕ) → measure-rounds-lts.Need-returns (measure-rounds-claims t) (measure-rounds-at t) measure-rounds.Post measure-rounds-Inv-loop measure-rounds-μ-loop
 measure-rounds-returns t c =
     let w = c .before .before .before .before in
-    let v = w .before .before .before in
-    rounding-late (v .before .before .pre .1 .0) (v .before .before .pre .1 .1) (rounds-there (v .before .before .pre .1 .0) (v .before .before .pre .1 .1) (v .before .before .pre .1 .2) (v .rounds .ensures)) (w .before .before .loop .inv (v .before .before .pre .1 .0) (v .before .before .pre .1 .1)) (w .before .loop-test .taken) (w .measure-block .ensures) (c .if1 .taken)
+    let l = w .before .before .loop .inv in
+    rounding-late (l .loop) (l .kind) (l .rounds) (l .turn) (w .before .loop-test .taken) (w .measure-block .ensures) (c .if1 .taken)
 
 measure-rounds-add-round : (t : ℕ) → measure-rounds-lts.Need-add-round (measure-rounds-claims t) (measure-rounds-at t) measure-rounds.Post measure-rounds-Inv-loop measure-rounds-μ-loop
 measure-rounds-add-round t c = omega arith
@@ -285,23 +343,33 @@ measure-rounds-loop-less t c = omega arith
 measure-rounds-loop-again : (t : ℕ) → measure-rounds-lts.Need-loop-again (measure-rounds-claims t) (measure-rounds-at t) measure-rounds.Post measure-rounds-Inv-loop measure-rounds-μ-loop
 measure-rounds-loop-again t c =
     let w = c .before .before .before .before in
-    let v = w .before .before .before in
-    λ S k. rounding-next S k (rounds-there S k (v .before .before .pre .1 .2) (v .rounds .ensures)) (w .before .before .loop .inv S k) (w .before .loop-test .taken) (w .measure-block .ensures) (c .if1 .left)
+    let l = w .before .before .loop .inv in
+    record {
+      loop = l .loop;
+      kind = l .kind;
+      rounds = l .rounds;
+      turn = rounding-next (l .loop) (l .kind) (l .rounds) (l .turn) (w .before .loop-test .taken)
+          (w .measure-block .ensures) (c .if1 .left);
+    }
 
 measure-rounds-stepped-requires : (t : ℕ) → measure-rounds-lts.Need-stepped-requires (measure-rounds-claims t) (measure-rounds-at t) measure-rounds.Post measure-rounds-Inv-loop measure-rounds-μ-loop
-measure-rounds-stepped-requires t c κs =
-    let w = c .before .before .before .before in
-    ((c .before .loop .inv (w .pre .1 .0) (w .pre .1 .1)) .laying, omega arith, omega arith)
+measure-rounds-stepped-requires t c κs = (c .before .loop .inv .turn .laying, omega arith, omega arith)
 
 measure-rounds-add-t15 : (t : ℕ) → measure-rounds-lts.Need-add-t15 (measure-rounds-claims t) (measure-rounds-at t) measure-rounds.Post measure-rounds-Inv-loop measure-rounds-μ-loop
 measure-rounds-add-t15 t c =
-    let w = c .before .before .before in
-    omega (arith, at-end (w .before .before .pre .1 .0) (w .before .before .pre .1 .1) (rounds-there (w .before .before .pre .1 .0) (w .before .before .pre .1 .1) (w .before .before .pre .1 .2) (w .rounds .ensures)) (c .before .before .loop .inv (w .before .before .pre .1 .0) (w .before .before .pre .1 .1)) (c .before .loop-test .left), body-inside (w .before .before .pre .1 .0) (w .before .before .pre .1 .1), w .before .before .pre .1 .0 .entered .file .inside)
+    let l = c .before .before .loop .inv in
+    omega (
+      arith,
+      at-end (l .loop) (l .kind) (l .rounds) (l .turn) (c .before .loop-test .left),
+      body-inside (l .loop) (l .kind),
+      l .loop .entered .file .inside,
+      c .before .before .before .before .before .good .0 .0,
+    )
 
 measure-rounds-returns-2 : (t : ℕ) → measure-rounds-lts.Need-returns-2 (measure-rounds-claims t) (measure-rounds-at t) measure-rounds.Post measure-rounds-Inv-loop measure-rounds-μ-loop
 measure-rounds-returns-2 t c =
-    let w = c .before .before .before in
-    rounds-passed (w .before .before .pre .1 .0) (w .before .before .pre .1 .1) (rounds-there (w .before .before .pre .1 .0) (w .before .before .pre .1 .1) (w .before .before .pre .1 .2) (w .rounds .ensures)) (c .before .before .loop .inv (w .before .before .pre .1 .0) (w .before .before .pre .1 .1)) (c .before .loop-test .left) (c .stepped .ensures)
+    let l = c .before .before .loop .inv in
+    rounds-passed (l .loop) (l .kind) (l .rounds) (l .turn) (c .before .loop-test .left) (c .stepped .ensures)
 
 measure-statement-record-at-requires : (t : ℕ) → measure-statement-lts.Need-record-at-requires (measure-statement-claims t) (measure-statement-at t) measure-statement.Post
 measure-statement-record-at-requires t c κs = omega (arith, c .before .pre .1 .early, c .before .pre .1 .entered .file .inside)
@@ -316,8 +384,10 @@ measure-statement-returns t c = c .measure-branch .ensures
 
 measure-statement-measure-rounds-requires : (t : ℕ) → measure-statement-lts.Need-measure-rounds-requires (measure-statement-claims t) (measure-statement-at t) measure-statement.Post
 measure-statement-measure-rounds-requires t c κs =
-    let w = c .before .before .before .before in
-    (omega arith, (w .before .before .pre .1, kind-there (w .before .before .pre .1) (w .record-at .ensures) (c .if2 .taken), count-there (w .before .before .pre .1) (w .record-at .ensures)))
+    let w = c .before .before .before .before in (
+      omega arith,
+      (w .before .before .pre .1, kind-there (w .before .before .pre .1) (w .record-at .ensures) (c .if2 .taken), count-there (w .before .before .pre .1) (w .record-at .ensures)),
+    )
 
 measure-statement-returns-2 : (t : ℕ) → measure-statement-lts.Need-returns-2 (measure-statement-claims t) (measure-statement-at t) measure-statement.Post
 measure-statement-returns-2 t c = c .measure-rounds .ensures
@@ -356,7 +426,8 @@ measure-statement-returns-4 : (t : ℕ) → measure-statement-lts.Need-returns-4
 measure-statement-returns-4 t c =
     let w = c .before .before .before .before in
     let v = w .before .before .before .before in
-    act-passed (v .before .before .pre .1) (v .record-at .ensures) (c .before .before .if3 .left) (w .before .before .if1 .left) (w .if2 .left) (c .before .step-ticks .ensures) (c .stepped .ensures)
+    act-passed (v .before .before .pre .1) (v .record-at .ensures) (c .before .before .if3 .left) (w .before .before .if1 .left) (w .if2 .left)
+    (c .before .step-ticks .ensures) (c .stepped .ensures)
 
 pub +measure-block+measure-branch+measure-rounds+measure-statement-spec :
     {M : Type 1} → statement M

@@ -1,14 +1,12 @@
 -- A block is written statement by statement; the laws of proofs/Writing*.antt say what is laid after each call.
 use Prim.Native.Nat.{ℕ, _+_, _*_, _-_, _<_}
 use native.Mathlib.Omega.{arith}
-use mathlib.Core.Path.{_≡_, ap, _∙_}
+use mathlib.Core.Path.{ap, _∙_}
 use borrow.Author.Needs.{needs}
-use Rattle.model.specs.Records.{Rec, kindAt, recordAt, TIMES, CHECK}
+use Rattle.model.specs.Records.{Rec, CHECK}
 use Rattle.model.specs.Trees.{testRec}
 use Rattle.records.proofs.Over.{part-length}
 use Rattle.reading.specs.Ranges.{testOf}
-use Rattle.layout.specs.Measured.{Rounds}
-use Rattle.layout.specs.Written.{StatementFits}
 use Rattle.layout.proofs.Writing.{writing-upto, writing-at}
 use Rattle.layout.proofs.Passing.{closing-told}
 use Rattle.layout.proofs.PassingSteps.{kind-there, count-there, step-short}
@@ -16,7 +14,7 @@ use Rattle.layout.proofs.PassingRounds.{rounds-there, body-inside, at-e
 use Rattle.layout.proofs.PassingBranches.{both-inside}
 use Rattle.layout.proofs.WritingSteps.{skip-room, skip-laid, act-fits, act-laid}
 use Rattle.layout.proofs.WritingBlocks.{WritingBlock, block-start, block-closed, block-ended, statement-fits, block-on, block-next}
-use Rattle.layout.proofs.WritingRounds.{WritingRounds, rounds-start, body-fits, rounds-next, check-fits, rounds-laid}
+use Rattle.layout.proofs.WritingRounds.{WritingLoop, rounds-start, body-fits, rounds-next, check-fits, rounds-laid}
 use Rattle.layout.proofs.WritingSides.{side-fits, side-upto, side-at, side-long, end-fits, side-room, side-laid}
 use Rattle.layout.proofs.WritingBranches.{test-fits, test-upto, one-starts, one-ends, two-starts, two-ends, both-meet, test-at, one-fits, one-at, one-long, two-fits, branch-laid}
 use borrow.Fn.Kinds.{In}
@@ -134,19 +132,65 @@ abbrev write-block-μ-loop : write-block-lts.MeasureT-loop
 write-block-μ-loop s from to n at out₀ state₀ next₀ out state next = to - next
 
 abbrev write-block-claims : ℕ → write-block-lts.Claims
-write-block-claims t = (kind-at-reads.Asked, kind-at-reads.Learnt, closes-reads.Asked, closes-reads.Learnt, written-reads.Asked, written-reads.Learnt, write-statement-below t, write-statement.Post)
+write-block-claims t = (
+  kind-at-reads.Asked,
+  kind-at-reads.Learnt,
+  closes-reads.Asked,
+  closes-reads.Learnt,
+  written-reads.Asked,
+  written-reads.Learnt,
+  write-statement-below t,
+  write-statement.Post,
+)
 
 abbrev write-branch-claims : ℕ → write-branch-lts.Claims
-write-branch-claims t = (put-step-reads.Asked, put-step-reads.Learnt, written-reads.Asked, written-reads.Learnt, side-reads.Asked, side-reads.Learnt, measure-block-reads.Asked, measure-block-reads.Learnt, later-reads.Asked, later-reads.Learnt, write-side-below t, write-side.Post, meet-reads.Asked, meet-reads.Learnt)
+write-branch-claims t = (
+  put-step-reads.Asked,
+  put-step-reads.Learnt,
+  written-reads.Asked,
+  written-reads.Learnt,
+  side-reads.Asked,
+  side-reads.Learnt,
+  measure-block-reads.Asked,
+  measure-block-reads.Learnt,
+  later-reads.Asked,
+  later-reads.Learnt,
+  write-side-below t,
+  write-side.Post,
+  meet-reads.Asked,
+  meet-reads.Learnt,
+)
 
 abbrev write-rounds-claims : ℕ → write-rounds-lts.Claims
-write-rounds-claims t = (rounds-reads.Asked, rounds-reads.Learnt, written-reads.Asked, written-reads.Learnt, write-block-below t, write-block.Post, put-step-reads.Asked, put-step-reads.Learnt)
+write-rounds-claims t = (
+  rounds-reads.Asked,
+  rounds-reads.Learnt,
+  written-reads.Asked,
+  written-reads.Learnt,
+  write-block-below t,
+  write-block.Post,
+  put-step-reads.Asked,
+  put-step-reads.Learnt,
+)
 
 abbrev write-side-claims : ℕ → write-side-lts.Claims
 write-side-claims t = (write-block-below t, write-block.Post, written-reads.Asked, written-reads.Learnt, close-side-reads.Asked, close-side-reads.Learnt)
 
 abbrev write-statement-claims : ℕ → write-statement-lts.Claims
-write-statement-claims t = (record-at-reads.Asked, record-at-reads.Learnt, write-branch-below t, write-branch.Post, write-rounds-below t, write-rounds.Post, put-skips-reads.Asked, put-skips-reads.Learnt, step-ticks-reads.Asked, step-ticks-reads.Learnt, put-step-reads.Asked, put-step-reads.Learnt)
+write-statement-claims t = (
+  record-at-reads.Asked,
+  record-at-reads.Learnt,
+  write-branch-below t,
+  write-branch.Post,
+  write-rounds-below t,
+  write-rounds.Post,
+  put-skips-reads.Asked,
+  put-skips-reads.Learnt,
+  step-ticks-reads.Asked,
+  step-ticks-reads.Learnt,
+  put-step-reads.Asked,
+  put-step-reads.Learnt,
+)
 
 write-block-loop-holds : (t : ℕ) → write-block-lts.Need-loop-holds (write-block-claims t) (write-block-at t) write-block.Post write-block-Inv-loop write-block-μ-loop
 write-block-loop-holds t c = block-start (c .before .before .pre .1)
@@ -161,7 +205,8 @@ write-block-same-length : (t : ℕ) → write-block-lts.Need-same-length (write-
 write-block-same-length t c = part-length (c .before .before .before .before .loop .inv .writing .part)
 
 write-block-returns : (t : ℕ) → write-block-lts.Need-returns (write-block-claims t) (write-block-at t) write-block.Post write-block-Inv-loop write-block-μ-loop
-write-block-returns t c = block-closed (c .before .before .before .before .loop .inv) (closing-told (c .before .before .kind-at .ensures) (c .before .closes .ensures) (c .if1 .taken))
+write-block-returns t c = block-closed (c .before .before .before .before .loop .inv)
+    (closing-told (c .before .before .kind-at .ensures) (c .before .closes .ensures) (c .if1 .taken))
 
 write-block-written-requires : (t : ℕ) → write-block-lts.Need-written-requires (write-block-claims t) (write-block-at t) write-block.Post write-block-Inv-loop write-block-μ-loop
 write-block-written-requires t c κs = writing-upto (c .before .before .before .before .loop .inv .writing)
@@ -178,22 +223,30 @@ write-block-part-write-statement-end t c = search needs
 write-block-write-statement-requires : (t : ℕ) → write-block-lts.Need-write-statement-requires (write-block-claims t) (write-block-at t) write-block.Post write-block-Inv-loop write-block-μ-loop
 write-block-write-statement-requires t c κs =
     let w = c .before .before .before in
-    let v = w .before .before .before in
-    (omega (arith, v .loop .inv .passing .on), statement-fits (v .loop .inv) (w .before .before .loop-test .taken) (closing-told (w .before .kind-at .ensures) (w .closes .ensures) (c .before .before .if1 .left)) (c .before .written .ensures))
+    let v = w .before .before .before in (
+      omega (arith, v .loop .inv .passing .on),
+      statement-fits (v .loop .inv) (w .before .before .loop-test .taken)
+          (closing-told (w .before .kind-at .ensures) (w .closes .ensures) (c .before .before .if1 .left)) (c .before .written .ensures),
+    )
 
 write-block-loop-less : (t : ℕ) → write-block-lts.Need-loop-less (write-block-claims t) (write-block-at t) write-block.Post write-block-Inv-loop write-block-μ-loop
 write-block-loop-less t c =
     let w = c .before .before .before in
     let v = w .before .before .before in
     let u = v .before .before .before in
-    omega (arith, block-on (u .before .loop .inv) (u .loop-test .taken) (closing-told (v .before .before .kind-at .ensures) (v .before .closes .ensures) (v .if1 .left)) (w .before .before .written .ensures) (w .write-statement .ensures))
+    omega (
+      arith,
+      block-on (u .before .loop .inv) (u .loop-test .taken) (closing-told (v .before .before .kind-at .ensures) (v .before .closes .ensures) (v .if1 .left))
+          (w .before .before .written .ensures) (w .write-statement .ensures),
+    )
 
 write-block-loop-again : (t : ℕ) → write-block-lts.Need-loop-again (write-block-claims t) (write-block-at t) write-block.Post write-block-Inv-loop write-block-μ-loop
 write-block-loop-again t c =
     let w = c .before .before .before in
     let v = w .before .before .before in
     let u = v .before .before .before in
-    block-next (u .before .loop .inv) (u .loop-test .taken) (closing-told (v .before .before .kind-at .ensures) (v .before .closes .ensures) (v .if1 .left)) (w .before .before .written .ensures) (w .write-statement .ensures)
+    block-next (u .before .loop .inv) (u .loop-test .taken) (closing-told (v .before .before .kind-at .ensures) (v .before .closes .ensures) (v .if1 .left))
+    (w .before .before .written .ensures) (w .write-statement .ensures)
 
 write-block-same-length-2 : (t : ℕ) → write-block-lts.Need-same-length-2 (write-block-claims t) (write-block-at t) write-block.Post write-block-Inv-loop write-block-μ-loop
 write-block-same-length-2 t c = part-length (c .before .loop .inv .writing .part)
@@ -228,7 +281,13 @@ write-branch-add-other t c =
     let w = c .before .before .before in
     let v = w .before .before .before .before in
     let u = v .before .before .before .before in
-    omega (arith, one-ends (u .pre .1 .0) (u .pre .1 .2) (u .pre .1 .1) (v .put-step .ensures) (w .side .ensures) (c .before .before .measure-block .ensures), both-inside (u .pre .1 .0 .statement) (u .pre .1 .2) (v .put-step .ensures .state), u .pre .1 .0 .statement .entered .file .inside, u .good .0 .0)
+    omega (
+      arith,
+      one-ends (u .pre .1 .0) (u .pre .1 .2) (u .pre .1 .1) (v .put-step .ensures) (w .side .ensures) (c .before .before .measure-block .ensures),
+      both-inside (u .pre .1 .0 .statement) (u .pre .1 .2) (v .put-step .ensures .state),
+      u .pre .1 .0 .statement .entered .file .inside,
+      u .good .0 .0,
+    )
 
 write-branch-measure-block-requires-2 : (t : ℕ) → write-branch-lts.Need-measure-block-requires-2 (write-branch-claims t) (write-branch-at t) write-branch.Post
 write-branch-measure-block-requires-2 t c κs =
@@ -270,7 +329,11 @@ write-branch-write-side-requires t c κs =
     let v = w .before .before .before in
     let u = v .before .before .before .before .before in
     let q = u .before .before .before .before in (
-      omega (arith, q .pre .0, q .pre .1 .0 .statement .early),
+      omega (
+        arith,
+        q .pre .0,
+        q .pre .1 .0 .statement .early,
+      ),
       one-fits (q .pre .1 .0) (q .pre .1 .2) (q .pre .1 .1) (u .put-step .ensures) (v .before .side .ensures) (v .measure-block .ensures) (w .measure-block2 .ensures)
           (c .before .later .ensures) (v .before .before .written .ensures),
     )
@@ -285,7 +348,8 @@ write-branch-add-mid t c =
       arith,
       one-at (q .pre .1 .0) (q .pre .1 .2) (q .pre .1 .1) (u .put-step .ensures) (v .before .side .ensures) (v .measure-block .ensures) (w .before .before .measure-block2 .ensures)
           (w .later .ensures) (v .before .before .written .ensures) (c .before .before .write-side .ensures),
-      one-long (q .pre .1 .0) (q .pre .1 .2) (q .pre .1 .1) (u .put-step .ensures) (v .before .side .ensures) (v .measure-block .ensures) (w .before .before .measure-block2 .ensures)
+      one-long (q .pre .1 .0) (q .pre .1 .2) (q .pre .1 .1)
+          (u .put-step .ensures) (v .before .side .ensures) (v .measure-block .ensures) (w .before .before .measure-block2 .ensures)
           (w .later .ensures) (v .before .before .written .ensures) (c .before .before .write-side .ensures),
       q .good .1 .1 .1 .1 .1 .1 .0 .0,
     )
@@ -318,7 +382,12 @@ write-branch-write-side-requires-2 t c κs =
     let u = v .before .before .before in
     let q = u .before .before .before .before .before in
     let p = q .before .before .before .before in (
-      omega (arith, p .pre .0, one-ends (p .pre .1 .0) (p .pre .1 .2) (p .pre .1 .1) (q .put-step .ensures) (u .before .side .ensures) (u .measure-block .ensures), p .pre .1 .0 .statement .early),
+      omega (
+        arith,
+        p .pre .0,
+        one-ends (p .pre .1 .0) (p .pre .1 .2) (p .pre .1 .1) (q .put-step .ensures) (u .before .side .ensures) (u .measure-block .ensures),
+        p .pre .1 .0 .statement .early,
+      ),
       two-fits (p .pre .1 .0) (p .pre .1 .2) (p .pre .1 .1) (q .put-step .ensures) (u .before .side .ensures) (u .measure-block .ensures) (v .measure-block2 .ensures)
           (w .before .before .later .ensures) (u .before .before .written .ensures) (w .write-side .ensures),
     )
@@ -337,7 +406,13 @@ write-branch-add-t21 t c =
     let v = w .before .before .before in
     let u = v .before .before .before .before .before in
     let q = u .before .before .before .before in
-    omega (arith, two-ends (q .pre .1 .0) (q .pre .1 .2) (q .pre .1 .1) (u .put-step .ensures) (v .before .side .ensures) (v .measure-block .ensures) (w .measure-block2 .ensures), both-inside (q .pre .1 .0 .statement) (q .pre .1 .2) (u .put-step .ensures .state), q .pre .1 .0 .statement .entered .file .inside, q .good .0 .0)
+    omega (
+      arith,
+      two-ends (q .pre .1 .0) (q .pre .1 .2) (q .pre .1 .1) (u .put-step .ensures) (v .before .side .ensures) (v .measure-block .ensures) (w .measure-block2 .ensures),
+      both-inside (q .pre .1 .0 .statement) (q .pre .1 .2) (u .put-step .ensures .state),
+      q .pre .1 .0 .statement .entered .file .inside,
+      q .good .0 .0,
+    )
 
 write-branch-same-length : (t : ℕ) → write-branch-lts.Need-same-length (write-branch-claims t) (write-branch-at t) write-branch.Post
 write-branch-same-length t c =
@@ -347,7 +422,8 @@ write-branch-same-length t c =
     let q = u .before .before .before in
     let p = q .before .before .before .before .before in
     let o = p .before .before .before .before in
-    w .out3 .given .1 ∙ one-long (o .pre .1 .0) (o .pre .1 .2) (o .pre .1 .1) (p .put-step .ensures) (q .before .side .ensures) (q .measure-block .ensures) (u .measure-block2 .ensures)
+    w .out3 .given .1 ∙ one-long (o .pre .1 .0) (o .pre .1 .2) (o .pre .1 .1) (p .put-step .ensures) (q .before .side .ensures) (q .measure-block .ensures)
+    (u .measure-block2 .ensures)
     (v .before .before .later .ensures) (q .before .before .written .ensures) (v .write-side .ensures)
 
 write-branch-returns : (t : ℕ) → write-branch-lts.Need-returns (write-branch-claims t) (write-branch-at t) write-branch.Post
@@ -362,8 +438,7 @@ write-branch-returns t c =
     (v .before .before .later .ensures) (q .before .before .written .ensures) (v .write-side .ensures) (w .write-side2 .ensures) (c .before .meet .ensures)
 
 abbrev write-rounds-Inv-loop : write-rounds-lts.InvT-loop
-write-rounds-Inv-loop s i to r n from out₀ body last state₀ next₀ round₀ out state next round =
-    (F : StatementFits s i to n from out₀) (k : kindAt s i ≡ TIMES) (R : Rounds s (i + 1) to (recordAt s i .count) last) → WritingRounds F k R state next round out
+write-rounds-Inv-loop s i to r n from out₀ body last state₀ next₀ round₀ out state next round = WritingLoop s i to n from out₀ last state next round out
 
 abbrev write-rounds-μ-loop : write-rounds-lts.MeasureT-loop
 write-rounds-μ-loop s i to r n from out₀ body last state₀ next₀ round₀ out state next round = last - round
@@ -372,27 +447,26 @@ write-rounds-add-body : (t : ℕ) → write-rounds-lts.Need-add-body (write-roun
 write-rounds-add-body t c = omega (arith, c .before .before .pre .1 .0 .statement .early, c .before .before .pre .1 .0 .statement .entered .file .inside)
 
 write-rounds-rounds-requires : (t : ℕ) → write-rounds-lts.Need-rounds-requires (write-rounds-claims t) (write-rounds-at t) write-rounds.Post write-rounds-Inv-loop write-rounds-μ-loop
-write-rounds-rounds-requires t c κs = omega (arith, body-inside (c .before .before .pre .1 .0 .statement) (c .before .before .pre .1 .2), c .before .before .pre .1 .0 .statement .entered .file .inside)
+write-rounds-rounds-requires t c κs = omega (
+  arith,
+  body-inside (c .before .before .pre .1 .0 .statement) (c .before .before .pre .1 .2),
+  c .before .before .pre .1 .0 .statement .entered .file .inside,
+)
 
 write-rounds-loop-holds : (t : ℕ) → write-rounds-lts.Need-loop-holds (write-rounds-claims t) (write-rounds-at t) write-rounds.Post write-rounds-Inv-loop write-rounds-μ-loop
-write-rounds-loop-holds t c = λ F k R. rounds-start F k R
+write-rounds-loop-holds t c =
+    let w = c .before .before .before in
+    let R = rounds-there (w .pre .1 .0 .statement) (w .pre .1 .2) (count-there (w .pre .1 .0 .statement) (w .pre .1 .1)) (c .rounds .ensures) in
+    record { loop = w .pre .1 .0; kind = w .pre .1 .2; rounds = R; turn = rounds-start (w .pre .1 .0) (w .pre .1 .2) R }
 
 write-rounds-written-requires : (t : ℕ) → write-rounds-lts.Need-written-requires (write-rounds-claims t) (write-rounds-at t) write-rounds.Post write-rounds-Inv-loop write-rounds-μ-loop
-write-rounds-written-requires t c κs =
-    let w = c .before .before .before .before .before in
-    writing-upto ((c .before .loop .inv (w .pre .1 .0) (w .pre .1 .2) (rounds-there (w .pre .1 .0 .statement) (w .pre .1 .2) (count-there (w .pre .1 .0 .statement) (w .pre .1 .1)) (c .before .before .rounds .ensures))) .writing)
+write-rounds-written-requires t c κs = writing-upto (c .before .loop .inv .turn .writing)
 
 write-rounds-sub-write-block : (t : ℕ) → write-rounds-lts.Need-sub-write-block (write-rounds-claims t) (write-rounds-at t) write-rounds.Post write-rounds-Inv-loop write-rounds-μ-loop
-write-rounds-sub-write-block t c =
-    let w = c .before .before .before in
-    let v = w .before .before .before in
-    rw (c .written .ensures) (writing-at ((c .before .before .loop .inv (v .pre .1 .0) (v .pre .1 .2) (rounds-there (v .pre .1 .0 .statement) (v .pre .1 .2) (count-there (v .pre .1 .0 .statement) (v .pre .1 .1)) (w .rounds .ensures))) .writing))
+write-rounds-sub-write-block t c = rw (c .written .ensures) (writing-at (c .before .before .loop .inv .turn .writing))
 
 write-rounds-part-write-block-start : (t : ℕ) → write-rounds-lts.Need-part-write-block-start (write-rounds-claims t) (write-rounds-at t) write-rounds.Post write-rounds-Inv-loop write-rounds-μ-loop
-write-rounds-part-write-block-start t c =
-    let w = c .before .before .before in
-    let v = w .before .before .before in
-    rw (c .written .ensures) (writing-at ((c .before .before .loop .inv (v .pre .1 .0) (v .pre .1 .2) (rounds-there (v .pre .1 .0 .statement) (v .pre .1 .2) (count-there (v .pre .1 .0 .statement) (v .pre .1 .1)) (w .rounds .ensures))) .writing))
+write-rounds-part-write-block-start t c = rw (c .written .ensures) (writing-at (c .before .before .loop .inv .turn .writing))
 
 write-rounds-part-write-block-end : (t : ℕ) → write-rounds-lts.Need-part-write-block-end (write-rounds-claims t) (write-rounds-at t) write-rounds.Post write-rounds-Inv-loop write-rounds-μ-loop
 write-rounds-part-write-block-end t c = search needs
@@ -401,7 +475,10 @@ write-rounds-write-block-requires : (t : ℕ) → write-rounds-lts.Need-write-bl
 write-rounds-write-block-requires t c κs =
     let w = c .before .before .before in
     let v = w .before .before .before .before in
-    (omega (arith, v .pre .0, v .pre .1 .0 .statement .early), body-fits (v .pre .1 .0) (v .pre .1 .2) (rounds-there (v .pre .1 .0 .statement) (v .pre .1 .2) (count-there (v .pre .1 .0 .statement) (v .pre .1 .1)) (w .before .rounds .ensures)) (w .loop .inv (v .pre .1 .0) (v .pre .1 .2) (rounds-there (v .pre .1 .0 .statement) (v .pre .1 .2) (count-there (v .pre .1 .0 .statement) (v .pre .1 .1)) (w .before .rounds .ensures))) (c .before .before .loop-test .taken) (c .before .written .ensures))
+    let l = w .loop .inv in (
+      omega (arith, v .pre .0, v .pre .1 .0 .statement .early),
+      body-fits (l .loop) (l .kind) (l .rounds) (l .turn) (c .before .before .loop-test .taken) (c .before .written .ensures),
+    )
 
 write-rounds-add-round : (t : ℕ) → write-rounds-lts.Need-add-round (write-rounds-claims t) (write-rounds-at t) write-rounds.Post write-rounds-Inv-loop write-rounds-μ-loop
 write-rounds-add-round t c = omega arith
@@ -413,24 +490,23 @@ write-rounds-loop-again : (t : ℕ) → write-rounds-lts.Need-loop-again (write-
 write-rounds-loop-again t c =
     let w = c .before .before .before in
     let v = w .before .before .before in
-    λ F k R. rounds-next F k R (v .before .loop .inv F k R) (v .loop-test .taken) (w .before .before .written .ensures) (w .write-block .ensures)
+    let l = v .before .loop .inv in
+    record {
+      loop = l .loop;
+      kind = l .kind;
+      rounds = l .rounds;
+      turn = rounds-next (l .loop) (l .kind) (l .rounds) (l .turn) (v .loop-test .taken)
+          (w .before .before .written .ensures) (w .write-block .ensures);
+    }
 
 write-rounds-written-requires-2 : (t : ℕ) → write-rounds-lts.Need-written-requires-2 (write-rounds-claims t) (write-rounds-at t) write-rounds.Post write-rounds-Inv-loop write-rounds-μ-loop
-write-rounds-written-requires-2 t c κs =
-    let w = c .before .before .before .before .before in
-    writing-upto ((c .before .loop .inv (w .pre .1 .0) (w .pre .1 .2) (rounds-there (w .pre .1 .0 .statement) (w .pre .1 .2) (count-there (w .pre .1 .0 .statement) (w .pre .1 .1)) (c .before .before .rounds .ensures))) .writing)
+write-rounds-written-requires-2 t c κs = writing-upto (c .before .loop .inv .turn .writing)
 
 write-rounds-sub-put-step : (t : ℕ) → write-rounds-lts.Need-sub-put-step (write-rounds-claims t) (write-rounds-at t) write-rounds.Post write-rounds-Inv-loop write-rounds-μ-loop
-write-rounds-sub-put-step t c =
-    let w = c .before .before .before in
-    let v = w .before .before .before in
-    rw (c .written2 .ensures) (writing-at ((c .before .before .loop .inv (v .pre .1 .0) (v .pre .1 .2) (rounds-there (v .pre .1 .0 .statement) (v .pre .1 .2) (count-there (v .pre .1 .0 .statement) (v .pre .1 .1)) (w .rounds .ensures))) .writing))
+write-rounds-sub-put-step t c = rw (c .written2 .ensures) (writing-at (c .before .before .loop .inv .turn .writing))
 
 write-rounds-part-put-step-start : (t : ℕ) → write-rounds-lts.Need-part-put-step-start (write-rounds-claims t) (write-rounds-at t) write-rounds.Post write-rounds-Inv-loop write-rounds-μ-loop
-write-rounds-part-put-step-start t c =
-    let w = c .before .before .before in
-    let v = w .before .before .before in
-    rw (c .written2 .ensures) (writing-at ((c .before .before .loop .inv (v .pre .1 .0) (v .pre .1 .2) (rounds-there (v .pre .1 .0 .statement) (v .pre .1 .2) (count-there (v .pre .1 .0 .statement) (v .pre .1 .1)) (w .rounds .ensures))) .writing))
+write-rounds-part-put-step-start t c = rw (c .written2 .ensures) (writing-at (c .before .before .loop .inv .turn .writing))
 
 write-rounds-part-put-step-end : (t : ℕ) → write-rounds-lts.Need-part-put-step-end (write-rounds-claims t) (write-rounds-at t) write-rounds.Post write-rounds-Inv-loop write-rounds-μ-loop
 write-rounds-part-put-step-end t c = search needs
@@ -439,26 +515,37 @@ write-rounds-put-step-requires : (t : ℕ) → write-rounds-lts.Need-put-step-re
 write-rounds-put-step-requires t c κs =
     let w = c .before .before .before in
     let v = w .before .before .before .before in
-    ((w .loop .inv (v .pre .1 .0) (v .pre .1 .2) (rounds-there (v .pre .1 .0 .statement) (v .pre .1 .2) (count-there (v .pre .1 .0 .statement) (v .pre .1 .1)) (w .before .rounds .ensures))) .rounding .laying, omega arith, omega (arith, v .pre .1 .0 .statement .entered .laying .settings .fits .positive .set-lasts), check-fits (v .pre .1 .0) (v .pre .1 .2) (rounds-there (v .pre .1 .0 .statement) (v .pre .1 .2) (count-there (v .pre .1 .0 .statement) (v .pre .1 .1)) (w .before .rounds .ensures)) (w .loop .inv (v .pre .1 .0) (v .pre .1 .2) (rounds-there (v .pre .1 .0 .statement) (v .pre .1 .2) (count-there (v .pre .1 .0 .statement) (v .pre .1 .1)) (w .before .rounds .ensures))) (c .before .before .loop-test .left) (ap (λ (y : Rec). testRec CHECK (testOf y) 0) (v .pre .1 .1)) (c .before .written2 .ensures))
+    let l = w .loop .inv in (
+      l .turn .rounding .laying,
+      omega arith,
+      omega (arith, v .pre .1 .0 .statement .entered .laying .settings .fits .positive .set-lasts),
+      check-fits (l .loop) (l .kind) (l .rounds) (l .turn) (c .before .before .loop-test .left) (ap (λ (y : Rec). testRec CHECK (testOf y) 0) (v .pre .1 .1))
+          (c .before .written2 .ensures),
+    )
 
 write-rounds-add-t24 : (t : ℕ) → write-rounds-lts.Need-add-t24 (write-rounds-claims t) (write-rounds-at t) write-rounds.Post write-rounds-Inv-loop write-rounds-μ-loop
 write-rounds-add-t24 t c =
     let w = c .before .before .before .before .before in
     let v = w .before .before .before .before .before in
-    omega (arith, at-end (v .pre .1 .0 .statement) (v .pre .1 .2) (rounds-there (v .pre .1 .0 .statement) (v .pre .1 .2) (count-there (v .pre .1 .0 .statement) (v .pre .1 .1)) (w .before .before .rounds .ensures)) ((w .before .loop .inv (v .pre .1 .0) (v .pre .1 .2) (rounds-there (v .pre .1 .0 .statement) (v .pre .1 .2) (count-there (v .pre .1 .0 .statement) (v .pre .1 .1)) (w .before .before .rounds .ensures))) .rounding) (w .loop-test .left), body-inside (v .pre .1 .0 .statement) (v .pre .1 .2), v .pre .1 .0 .statement .entered .file .inside)
+    let l = w .before .loop .inv in
+    omega (
+      arith,
+      at-end (l .loop .statement) (l .kind) (l .rounds) (l .turn .rounding) (w .loop-test .left),
+      body-inside (l .loop .statement) (l .kind),
+      l .loop .statement .entered .file .inside,
+      v .good .0 .0,
+    )
 
 write-rounds-same-length : (t : ℕ) → write-rounds-lts.Need-same-length (write-rounds-claims t) (write-rounds-at t) write-rounds.Post write-rounds-Inv-loop write-rounds-μ-loop
-write-rounds-same-length t c =
-    let w = c .before .before .before .before .before .before in
-    let v = w .before .before .before .before in
-    c .before .out2 .given .1 ∙ part-length ((w .loop .inv (v .pre .1 .0) (v .pre .1 .2) (rounds-there (v .pre .1 .0 .statement) (v .pre .1 .2) (count-there (v .pre .1 .0 .statement) (v .pre .1 .1)) (w .before .rounds .ensures))) .writing .part)
+write-rounds-same-length t c = c .before .out2 .given .1 ∙ part-length (c .before .before .before .before .before .before .loop .inv .turn .writing .part)
 
 write-rounds-returns : (t : ℕ) → write-rounds-lts.Need-returns (write-rounds-claims t) (write-rounds-at t) write-rounds.Post write-rounds-Inv-loop write-rounds-μ-loop
 write-rounds-returns t c =
     let w = c .before .before .before .before in
-    let v = w .before .before .before in
-    let u = v .before .before .before in
-    rounds-laid (u .pre .1 .0) (u .pre .1 .2) (rounds-there (u .pre .1 .0 .statement) (u .pre .1 .2) (count-there (u .pre .1 .0 .statement) (u .pre .1 .1)) (v .rounds .ensures)) (w .before .before .loop .inv (u .pre .1 .0) (u .pre .1 .2) (rounds-there (u .pre .1 .0 .statement) (u .pre .1 .2) (count-there (u .pre .1 .0 .statement) (u .pre .1 .1)) (v .rounds .ensures))) (w .before .loop-test .left) (ap (λ (y : Rec). testRec CHECK (testOf y) 0) (u .pre .1 .1)) (w .written2 .ensures) (c .before .before .put-step .ensures)
+    let v = w .before .before .before .before .before .before in
+    let l = w .before .before .loop .inv in
+    rounds-laid (l .loop) (l .kind) (l .rounds) (l .turn) (w .before .loop-test .left) (ap (λ (y : Rec). testRec CHECK (testOf y) 0) (v .pre .1 .1))
+    (w .written2 .ensures) (c .before .before .put-step .ensures)
 
 write-side-write-block-requires : (t : ℕ) → write-side-lts.Need-write-block-requires (write-side-claims t) (write-side-at t) write-side.Post
 write-side-write-block-requires t c κs = (omega arith, side-fits (c .before .before .before .pre .1))
@@ -572,8 +659,13 @@ write-statement-put-step-requires t c κs =
     let w = c .before .before .before .before in
     let v = w .before .before .before .before in
     let u = v .before .before .before in
-    let d = step-short (u .pre .1 .statement) (v .record-at .ensures) (c .before .before .if3 .left) (w .before .before .if1 .left) (w .if2 .left) (c .before .step-ticks .ensures) in
-    (u .pre .1 .statement .entered .laying, d .0, d .1, act-fits (u .pre .1) (v .record-at .ensures) (c .before .before .if3 .left) (w .before .before .if1 .left) (w .if2 .left) (c .before .step-ticks .ensures))
+    let d = step-short (u .pre .1 .statement) (v .record-at .ensures) (c .before .before .if3 .left) (w .before .before .if1 .left) (w .if2 .left)
+    (c .before .step-ticks .ensures) in (
+      u .pre .1 .statement .entered .laying,
+      d .0,
+      d .1,
+      act-fits (u .pre .1) (v .record-at .ensures) (c .before .before .if3 .left) (w .before .before .if1 .left) (w .if2 .left) (c .before .step-ticks .ensures),
+    )
 
 write-statement-same-length-4 : (t : ℕ) → write-statement-lts.Need-same-length-4 (write-statement-claims t) (write-statement-at t) write-statement.Post
 write-statement-same-length-4 t c = search needs
@@ -584,7 +676,8 @@ write-statement-returns-4 t c =
     let v = w .before .before .before in
     let u = v .before .before .before .before in
     let q = u .before .before .before in
-    act-laid (q .pre .1) (u .record-at .ensures) (w .before .if3 .left) (v .before .before .if1 .left) (v .if2 .left) (w .step-ticks .ensures) (c .before .before .put-step .ensures)
+    act-laid (q .pre .1) (u .record-at .ensures) (w .before .if3 .left) (v .before .before .if1 .left) (v .if2 .left) (w .step-ticks .ensures)
+    (c .before .before .put-step .ensures)
 
 pub +write-block+write-branch+write-rounds+write-side+write-statement-spec :
     {M : Type 1} → statement M
