@@ -1,0 +1,2 @@
+-- From what a call answers to the number that C gets.
+pub mod Packing
