@@ -3,20 +3,16 @@ use Prim.Native.Nat.{ℕ}
 use mathlib.Core.Path.{_≡_, ap, _∙_}
 use mathlib.Core.List.{_++_, append-assoc, append-nil}
 use Rattle.model.specs.declared.Settings.{Settings}
-use Rattle.model.specs.Records.{Rec, bytes, IF}
-use Rattle.model.specs.Trees.{Test, Block, testRec, flatten}
+use Rattle.model.specs.Records.{Rec, bytes}
+use Rattle.model.specs.Trees.{Block, flatten}
 use Rattle.records.specs.Blocks.{blockBytes}
 use Rattle.records.proofs.Blocks.{bytes-++, bytes-⧺}
 use Rattle.reading.specs.Ranges.{testOf, afterFirst}
-use Rattle.equaliser.specs.Merged.{padded, branchOut, loopOut, firstOut, firstWaits}
-use Rattle.equaliser.specs.Written.{branchBytes, loopBytes}
+use Rattle.equaliser.specs.Merged.{padded, loopOut, firstOut, firstWaits}
+use Rattle.equaliser.specs.Written.{loopBytes}
 use Rattle.equaliser.proofs.Merged.{padded-first}
 
 module _ (σ : Settings) where
-  pub branch-bytes : (q : Test) (a d : Block) → blockBytes (branchOut σ q a d) ≡ branchBytes σ (testRec IF q 0) a d
-  unfolding blockBytes flatten bytes
-  branch-bytes q a d = simp (bytes-++, append-nil)
-
   pub loop-bytes : (r : Rec) (a : Block) → blockBytes (loopOut σ (testOf r) (r .count) a) ≡ loopBytes σ r a
   unfolding blockBytes flatten bytes
   loop-bytes r a = simp (bytes-++, append-nil, append-assoc)

@@ -19,7 +19,7 @@ use Rattle.records.specs.Records.{recordOf}
 use Rattle.records.specs.Blocks.{blockBytes, skipBytes, Wrote}
 use Rattle.records.proofs.Over.{Part, lent, back, part-first, part-room, part-fits-last}
 use Rattle.records.proofs.Laying.{record-wrote, wrote-room, wrote-last}
-use Rattle.records.proofs.Blocks.{waiting-bytes, act-bytes}
+use Rattle.records.proofs.Blocks.{waiting-bytes, act-bytes, branch-bytes}
 use Rattle.reading.specs.Closing.{opensBlock, closingIn}
 use Rattle.reading.specs.Ranges.{Fills, firstSize, firstPart, secondPart, afterFirst, testOf}
 use Rattle.reading.proofs.FirstKinds.{IsAct, skip-is, act-is, if-is, while-is}
@@ -29,7 +29,7 @@ use Rattle.equaliser.specs.declared.write.Written.{Written}
 use Rattle.equaliser.specs.Merged.{branchOut, loopOut, padded, firstOut, firstWaits}
 use Rattle.equaliser.specs.Written.{branchBytes, loopBytes, StepFits, IsWritten, StepWritten, BranchFits, BranchWritten, LoopFits, LoopWritten}
 use Rattle.equaliser.proofs.StepSizes.{inner}
-use Rattle.equaliser.proofs.WrittenBytes.{branch-bytes, loop-bytes}
+use Rattle.equaliser.proofs.WrittenBytes.{loop-bytes}
 
 module _ (σ : Settings) where
   -- a block takes at least as long as the blocks inside its first statement
@@ -194,10 +194,14 @@ module _ {s : List ℕ} {i to d : ℕ} {σ : Settings} {w : ℕ} {old : List ℕ
         if-record : recordOf r ≡ testRec IF (testOf (recordOf r)) 0
         if-record = B .same ∙ subst (Fills Task s i to d) is-if (F .task .fills) .stands .0 .is
 
+        -- a side, padded up to the other's time
+        abbrev side : Block → Block → Block
+        side a b = padded σ 0 a (time σ b - time σ a)
+
         branch-left : Part (blockBytes (firstOut σ w the-if)) (branchBytes σ (recordOf r) (firstPart block) (secondPart block)) old new at
         branch-left =
             subst (λ (y : Rec). Part (blockBytes (firstOut σ w the-if)) (branchBytes σ y (firstPart block) (secondPart block)) old new at) (sym if-record)
-            (rw (← branch-bytes σ (testOf (recordOf r)) (firstPart block) (secondPart block)) (left-of the-if is-if))
+            (rw (← branch-bytes (testOf (recordOf r)) (side (firstPart block) (secondPart block)) (side (secondPart block) (firstPart block))) (left-of the-if is-if))
 
         pub branch-fits : BranchFits s (recordOf r) (i + 1) m end (d - 1) σ (lent new at)
         unfolding inner

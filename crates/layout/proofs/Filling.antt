@@ -1,5 +1,5 @@
 -- Single ticks of SKIP, window by window: what one window takes, and how SKIPs and the filling of a side come to the same.
-use Prim.Native.Nat.{ℕ, zero, suc, _+_, _-_, _%_, _*_, _≤_, _<_}
+use Prim.Native.Nat.{ℕ, zero, suc, _+_, _-_, _≤_, _<_}
 use native.Mathlib.Omega.{arith}
 use native.Mathlib.Nat.{add-zero}
 use mathlib.Core.Path.{_≡_, refl, ap, ap₂, sym, _∙_}
@@ -16,6 +16,7 @@ use Rattle.layout.specs.declared.clock.State.{State}
 use Rattle.layout.specs.States.{Layable, Shows, Readied}
 use Rattle.layout.proofs.Settling.{Alike, alike-eq, alike-sym, alike-trans, alike-⧺, alike-skip, alike-skips}
 use Rattle.layout.proofs.Ticking.{before-none}
+use Rattle.layout.proofs.Moves.{on, shows-on}
 
 -- A SKIP that ends in time is laid as the filling up to a tick past P, and one that does not ends past P either way.
 module _ (σ : Settings) where
@@ -51,17 +52,7 @@ module _ (σ : Settings) where
 module _ {σ : Settings} where
   -- nothing stands before the ticks that are left in a window
   before-on : {s : State} → Layable σ → Shows σ s → (i : ℕ) → i < s .left → before σ (s .tick + i) 1 ≡ nil
-  before-on {s} L S i l =
-      let z : s .tick + i + (s .left - i) ≡ s .tick + s .left = omega arith in
-      let on : Shows σ (record { tick = s .tick + i; left = s .left - i; windows = s .windows; wait = s .wait; records = s .records }) = record {
-        below = omega (arith, S .below);
-        fewer = S .fewer;
-        bound = ap (λ (t : ℕ). t % σ .window) z ∙ S .bound;
-        round = ap (λ (t : ℕ). (t + σ .window * s .windows) % (σ .spacing * σ .window)) z ∙ S .round;
-        waited = omega (arith, S .waited);
-        few = S .few;
-      } in
-      before-none L on 1 (omega arith) (omega arith)
+  before-on {s} L S i l = before-none L (shows-on {r = on s i (s .wait) (s .records)} i S refl (omega arith) refl (omega (arith, S .waited)) (S .few)) 1 (omega arith) (omega arith)
 
   -- a longer SKIP
   skip-more : (i : ℕ) {a b : Block} → Alike σ (skip i a) b → Alike σ (skip (suc i) a) (skip 1 b)

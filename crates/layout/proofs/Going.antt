@@ -1,10 +1,9 @@
 -- How a state goes on while one piece is laid after another.
-use Prim.Native.Nat.{ℕ, _+_, _≤_}
+use Prim.Native.Nat.{ℕ, _+_}
 use native.Mathlib.Omega.{arith}
 use mathlib.Core.Path.{_≡_, refl, ap, sym, _∙_}
 use Rattle.model.specs.declared.Settings.{Settings}
 use Rattle.model.specs.Trees.{Block, nil, _⧺_, size}
-use Rattle.model.specs.Times.{time}
 use Rattle.theory.proofs.Times.{time-⧺}
 use Rattle.layout.specs.declared.clock.State.{State}
 use Rattle.layout.specs.Merging.{settled, waits}

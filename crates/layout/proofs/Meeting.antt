@@ -1,16 +1,13 @@
 -- Where the sides of an IF meet: the earlier is filled up to the end of the later, and their records are counted.
-use Prim.Native.Nat.{ℕ, _+_, _*_, _-_, _%_, _≤_, max}
+use Prim.Native.Nat.{ℕ, _+_, _-_, _≤_, max}
 use native.Mathlib.Omega.{arith}
 use mathlib.Core.Path.{_≡_, refl, ap, sym, _∙_}
-use mathlib.Core.Bool.{Bool, true, false}
-use lib.Dec.{ltb}
-use borrow.Author.Tests.{ltb-true, ltb-false}
 use Rattle.model.specs.declared.Settings.{Settings}
 use Rattle.model.specs.Trees.{Block, size}
 use Rattle.model.specs.Times.{time}
 use Rattle.model.specs.Equalising.{merge}
 use Rattle.model.specs.Layout.{fill, filled}
-use Rattle.theory.proofs.Windows.{Free, fill-ends}
+use Rattle.theory.proofs.Windows.{free-later, fill-ends}
 use Rattle.records.specs.Blocks.{skipRecords}
 use Rattle.records.proofs.Blocks.{one-skip}
 use Rattle.layout.specs.declared.clock.State.{State}
@@ -19,16 +16,9 @@ use Rattle.layout.specs.States.{cap, After, aside}
 use Rattle.layout.specs.Measured.{Meeting, Meets}
 use Rattle.layout.proofs.Settling.{size-merge, alike-eq}
 use Rattle.layout.proofs.Going.{after-⧺, after-alike}
+use Rattle.layout.proofs.Moves.{shows-on}
 
 module _ {σ : Settings} where
-  -- the later of two ends
-  free-later : (e t u : ℕ) → e ≡ max t u → Free σ 1 t → Free σ 1 u → Free σ 1 e
-  free-later e t u z f g = go (ltb t u) refl
-    where
-      go : (o : Bool) → ltb t u ≡ o → Free σ 1 e
-      go true x = let m : e ≡ u = omega (arith, ltb-true t u x) in rw m g
-      go false x = let m : e ≡ t = omega (arith, ltb-false t u x) in rw m f
-
   -- a count of records stops, and what waits is one more
   pub side-few : {c : Block} {x f : State} {p : ℕ} → After σ c x f → p ≡ skipRecords (f .wait) → f .records + p ≤ 5463
   side-few {f = f} F P = omega (arith, F .shows .few, P, one-skip (f .wait))
@@ -55,7 +45,7 @@ module _ {σ : Settings} where
       (P : p ≡ skipRecords (f .wait)) (Q : q ≡ skipRecords (g .wait)) (N : n ≡ cap (s .records + (2 + (f .records + p) + (g .records + q)))) where
     ends : f .tick ≡ e
     ends =
-        let g = free-later e (x .tick) (y .tick) z (M .free-one) (M .free-two) in
+        let g = free-later σ (M .test .settings .fits) e (x .tick) (y .tick) z (M .free-one) (M .free-two) in
         F .tick ∙ fill-ends σ (M .test .settings .fits) (x .tick) e (M .free-one) g (omega arith)
 
     pub meets : Meets σ s x y (record { tick = e; left = f .left; windows = f .windows; wait = 0; records = n })
@@ -64,14 +54,7 @@ module _ {σ : Settings} where
           let i = side-records s e F a A in
           let j = side-records s e G d D in
           record {
-            shows = record {
-              below = F .shows .below;
-              fewer = F .shows .fewer;
-              bound = ap (λ (t : ℕ). (t + f .left) % σ .window) (sym ends) ∙ F .shows .bound;
-              round = ap (λ (t : ℕ). (t + f .left + σ .window * f .windows) % (σ .spacing * σ .window)) (sym ends) ∙ F .shows .round;
-              waited = omega arith;
-              few = omega arith;
-            };
+            shows = shows-on 0 (F .shows) (omega (arith, ends)) (omega arith) refl (omega arith) (omega arith);
             tick = omega (arith, A .tick, D .tick);
             wait = refl;
             records = omega (arith, i .0, i .1, j .0, j .1, P, Q, N);

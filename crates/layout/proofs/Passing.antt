@@ -7,24 +7,23 @@ use mathlib.Core.List.{List}
 use lib.Dec.{ltb}
 use borrow.Author.Tests.{ltb-true, ltb-false}
 use Rattle.model.specs.declared.Settings.{Settings}
-use Rattle.model.specs.declared.Form.the-variants.{Equalised}
 use Rattle.model.specs.Records.{kindAt}
-use Rattle.model.specs.Trees.{Block, nil, skip, act, branch, while, times, _⧺_, size}
+use Rattle.model.specs.Trees.{Block, nil, _⧺_, size}
 use Rattle.model.specs.Times.{time}
 use Rattle.model.proofs.Trees.{⧺-nil, ⧺-assoc}
-use Rattle.model.proofs.Sound.{OfForm}
 use Rattle.theory.proofs.Times.{time-⧺}
 use Rattle.theory.proofs.Windows.{Free}
 use Rattle.reading.specs.Closing.{closesBlock}
 use Rattle.reading.specs.Ranges.{firstSize, afterFirst}
+use Rattle.reading.proofs.Filled.{size-first}
 use Rattle.layout.specs.declared.clock.State.{State}
 use Rattle.layout.specs.declared.measure.Passage.{Passage}
 use Rattle.layout.specs.States.{Laying, After}
-use Rattle.layout.specs.Ranges.{Stands, InFile, only}
+use Rattle.layout.specs.Ranges.{Stands, only}
 use Rattle.layout.specs.Measured.{laid, Passes, Entered, Statement, BlockPassed, StatementPassed}
 use Rattle.layout.proofs.Going.{after-nil, after-⧺}
 use Rattle.layout.proofs.Standing.{stands-once, stands-closed, stands-end, stands-some, stands-after}
-use Rattle.layout.proofs.Unrolled.{laid-first, laid-nil, laid-free}
+use Rattle.layout.proofs.Unrolled.{only-form, laid-first, laid-nil, laid-free}
 
 -- WHAT AN ANSWER SAYS
 
@@ -61,15 +60,6 @@ closing-told e f g = ap closesBlock (sym e) ∙ sym f ∙ g
 -- a state within P from which laying out goes on
 pub laying-on : {σ : Settings} {c : Block} {s r : State} → Laying σ s → After σ c s r → r .tick ≤ σ .period → Laying σ r
 laying-on L A h = record { settings = L .settings; shows = A .shows; within = h }
-
--- the first statement is of the form that the block is of
-pub only-form : (b : Block) → OfForm Equalised b → OfForm Equalised (only b)
-only-form nil p = tt
-only-form (skip n b) p = (p .0, tt)
-only-form (act q b) p = (p .0, tt)
-only-form (branch q a d b) p = (p .0, p .1, p .2, tt)
-only-form (while q n a b) p = (p .0, p .1, tt)
-only-form (times q n a b) p = (p .0, p .1, tt)
 
 -- THE TURNS OF THE LOOP
 
@@ -164,16 +154,8 @@ module _ {s : List ℕ} {from to : ℕ} {σ : Settings} {at state : State} {next
                 (laid-free σ (P .rest .laying .settings .fits) (only left) 0 (state .tick) (only-form left (P .rest .file .stands .fills .of-form)) (omega arith) (P .rest .free));
           };
           on = omega (arith, P .on, passing-on);
-          counts = omega (arith, P .counts, goes, sizes left);
+          counts = omega (arith, P .counts, goes, size-first left);
           done = P .done ⧺ one;
           same = split ∙ ap (λ (t : ℕ). (P .done ⧺ one) ⧺ laid σ (afterFirst left) t) (sym (stepped .tick));
           after = after-⧺ (P .done) one (P .after) stepped;
         }
-          where
-            sizes : (b : Block) → size b ≡ firstSize b + size (afterFirst b)
-            sizes nil = refl
-            sizes (skip n b) = refl
-            sizes (act p b) = refl
-            sizes (branch q a e b) = refl
-            sizes (while q n a b) = refl
-            sizes (times q n a b) = refl

@@ -13,25 +13,25 @@ use Rattle.model.specs.Layout.{before, fill, filled}
 use Rattle.model.specs.Placement.{Fits}
 use Rattle.model.proofs.Sound.{OfForm}
 use Rattle.theory.proofs.Times.{time-⧺}
-use Rattle.theory.proofs.Windows.{Free, later, free-tested, free-max}
-use Rattle.records.specs.Blocks.{skipRecords}
+use Rattle.theory.proofs.Windows.{Free, later, free-tested, free-later}
 use Rattle.records.proofs.Blocks.{size-waiting}
 use Rattle.reading.specs.Ranges.{firstPart, secondPart, afterFirst, testOf}
 use Rattle.layout.specs.declared.clock.State.{State}
 use Rattle.layout.specs.declared.measure.Passage.{Passage}
-use Rattle.layout.specs.Merging.{settled, waits}
+use Rattle.layout.specs.Merging.{waits}
 use Rattle.layout.specs.States.{cap, Shows, Laying, After, Stepped, aside}
 use Rattle.layout.specs.Ranges.{Stands, only}
 use Rattle.layout.specs.Measured.{laid, Passes, Met, Meeting, Meets, Entered, Statement, BlockPassed, StatementPassed}
 use Rattle.layout.proofs.Settling.{waits-⧺, size-settled}
+use Rattle.layout.proofs.Moves.{shows-on}
 use Rattle.layout.proofs.Standing.{if-at, first-side, second-side, sides-end}
 use Rattle.layout.proofs.Unrolled.{laid-branch, laid-free, filled-ends}
 use Rattle.layout.proofs.Passing.{in-time, too-late, passed, passed-late, laying-on}
 use Rattle.layout.proofs.PassingSteps.{block, stands, answered-of}
 
 -- a state of its own for a side shows what the state shows
-pub aside-shows : {σ : Settings} {s : State} → Shows σ s → Shows σ (aside s)
-aside-shows S = record { below = S .below; fewer = S .fewer; bound = S .bound; round = S .round; waited = omega arith; few = omega arith }
+aside-shows : {σ : Settings} {s : State} → Shows σ s → Shows σ (aside s)
+aside-shows S = shows-on 0 S (omega arith) (omega arith) refl (omega arith) (omega arith)
 
 pub passed-from : {s : List ℕ} {j to : ℕ} {σ : Settings} {x y : State} {r : Passage} → x ≡ y → BlockPassed s j to σ x r → BlockPassed s j to σ y r
 passed-from {s} {j} {to} {σ} {x} {y} {r} e B = subst (λ (z : State). BlockPassed s j to σ z r) e B
@@ -48,7 +48,15 @@ module _ {σ : Settings} {from test : State} (q : Test) (a d : Block) (fits : Fi
       → After σ (before σ (from .tick) 1 ⧺ branch q (side-of a) (side-of d) nil) from r
   branch-after {r} M f g = record {
     shows = M .shows;
-    tick = omega (arith, M .tick, A .tick, time-⧺ σ lead (act (check q) nil), time-⧺ σ lead (branch q (side-of a) (side-of d) nil), filled-ends σ fits a (test .tick) end-of f top (omega arith), filled-ends σ fits d (test .tick) end-of g top (omega arith));
+    tick = omega (
+      arith,
+      M .tick,
+      A .tick,
+      time-⧺ σ lead (act (check q) nil),
+      time-⧺ σ lead (branch q (side-of a) (side-of d) nil),
+      filled-ends σ fits a (test .tick) end-of f top (omega arith),
+      filled-ends σ fits d (test .tick) end-of g top (omega arith),
+    );
     wait = M .wait ∙ sym (waits-⧺ (from .wait) lead (branch q (side-of a) (side-of d) nil));
     records = omega (
       arith,
@@ -68,7 +76,7 @@ module _ {σ : Settings} {from test : State} (q : Test) (a d : Block) (fits : Fi
       w = waits (from .wait) lead
 
       top : Free σ 1 end-of
-      top = free-max σ fits (test .tick) (time σ a) (time σ d) f g
+      top = free-later σ fits end-of (test .tick + time σ a) (test .tick + time σ d) (omega arith) f g
 
       counts : r .records ≡ cap (test .records + (2 + size (merge 0 (side-of a)) + size (merge 0 (side-of d))))
       counts = M .records ∙ ap (λ (e : ℕ). cap (test .records + (2 + size (merge 0 (filled σ (test .tick) a e)) + size (merge 0 (filled σ (test .tick) d e))))) (M .tick)

@@ -9,12 +9,12 @@ use Rattle.model.specs.declared.Form.the-variants.{Equalised}
 use Rattle.model.specs.Records.{kindAt, recordAt, TIMES}
 use Rattle.model.specs.Trees.{Test, check, Block, nil, act, times, _⧺_, size}
 use Rattle.model.specs.Times.{time}
-use Rattle.model.specs.Layout.{copies, unroll, before, lay}
+use Rattle.model.specs.Layout.{before, lay}
 use Rattle.model.specs.Placement.{Fits}
 use Rattle.model.proofs.Sound.{OfForm}
 use Rattle.theory.proofs.Times.{time-⧺}
 use Rattle.theory.proofs.Windows.{Free}
-use Rattle.reading.specs.Ranges.{firstSize, firstPart, afterFirst, testOf}
+use Rattle.reading.specs.Ranges.{firstPart, afterFirst, testOf}
 use Rattle.layout.specs.declared.clock.State.{State}
 use Rattle.layout.specs.declared.measure.Passage.{Passage}
 use Rattle.layout.specs.States.{Laying, After, Stepped}
@@ -123,7 +123,9 @@ module _ {s : List ℕ} {i to : ℕ} {σ : Settings} {from : State} (S : Stateme
         passes = B .right body body-there
 
         more : rounds σ body (round + 1) (from .tick) ≡ rounds σ body round (from .tick) ⧺ one
-        more = rounds-more σ (S .entered .laying .settings .fits) body round (from .tick) body-form (S .entered .free) ∙ ap (λ (t : ℕ). rounds σ body round (from .tick) ⧺ laid σ body t) (sym (P .after .tick))
+        more =
+            rounds-more σ (S .entered .laying .settings .fits) body round (from .tick) body-form (S .entered .free)
+            ∙ ap (λ (t : ℕ). rounds σ body round (from .tick) ⧺ laid σ body t) (sym (P .after .tick))
 
         -- they end where this one does, or later
         not-before : state .tick + time σ one ≤ from .tick + time σ whole

@@ -1,8 +1,8 @@
 -- Measuring a statement that opens no block: a SKIP, or a step with its ticks.
-use Prim.Native.Nat.{ℕ, _+_, _≤_, _<_, _%_}
+use Prim.Native.Nat.{ℕ, _+_, _≤_, _%_}
 use native.Mathlib.Omega.{arith}
 use mathlib.Core.Path.{_≡_, refl, ap, sym, subst, _∙_}
-use mathlib.Core.Bool.{Bool, true, false, cond, false≢true}
+use mathlib.Core.Bool.{Bool, true, false, false≢true}
 use mathlib.Core.List.{List}
 use lib.Dec.{eqb, ltb}
 use borrow.Author.Tests.{ltb-true, ltb-false}
@@ -24,9 +24,9 @@ use Rattle.timing.specs.Times.{stepTicks}
 use Rattle.timing.proofs.Firsts.{act-ticks}
 use Rattle.layout.specs.declared.clock.State.{State}
 use Rattle.layout.specs.declared.measure.Passage.{Passage}
-use Rattle.layout.specs.States.{Layable, Laying, After, Stepped}
+use Rattle.layout.specs.States.{Layable, After, Stepped}
 use Rattle.layout.specs.Ranges.{Stands, only}
-use Rattle.layout.specs.Measured.{laid, Passes, Entered, Statement, StatementPassed}
+use Rattle.layout.specs.Measured.{laid, Passes, Statement, StatementPassed}
 use Rattle.layout.proofs.Filling.{skip-within, skip-late}
 use Rattle.layout.proofs.Standing.{stands-once, skip-at, act-at}
 use Rattle.layout.proofs.Unrolled.{laid-skip, laid-act}
@@ -74,7 +74,9 @@ module _ {s : List ℕ} {i to : ℕ} {σ : Settings} {from : State} (S : Stateme
 
     pub skip-passed : x .kind ≡ SKIP → {r : State} → After σ (fill σ (x .count) (from .tick) (σ .period + 1)) from r
         → StatementPassed s i to σ from (record { state = r; next = i + 1 })
-    skip-passed k {r} A = answered-of (skip n (afterFirst block)) is (subst (λ (c : Block). Passes σ c (i + 1) from (record { state = r; next = i + 1 })) (sym (laid-skip σ n (from .tick))) (go (ltb (σ .period) end) refl))
+    skip-passed k {r} A =
+        answered-of (skip n (afterFirst block)) is
+        (subst (λ (c : Block). Passes σ c (i + 1) from (record { state = r; next = i + 1 })) (sym (laid-skip σ n (from .tick))) (go (ltb (σ .period) end) refl))
       where
         n : ℕ
         n = recordAt s i .count

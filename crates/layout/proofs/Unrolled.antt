@@ -12,9 +12,9 @@ use Rattle.model.specs.Placement.{Fits, CommandFree, LoopFree}
 use Rattle.model.proofs.Sound.{OfForm}
 use Rattle.model.proofs.Trees.{⧺-nil, ⧺-assoc}
 use Rattle.theory.proofs.Times.{time-⧺}
-use Rattle.theory.proofs.Forms.{Formed, formed}
+use Rattle.theory.proofs.Forms.{formed}
 use Rattle.theory.proofs.Unrolling.{unrolled-loop-free, unrolled-command-free, rounds-loop-free, rounds-command-free}
-use Rattle.theory.proofs.Windows.{Free, free-max, free-behind, free-tested, fill-ends}
+use Rattle.theory.proofs.Windows.{Free, free-later, free-behind, free-tested, fill-ends}
 use Rattle.reading.specs.Ranges.{afterFirst}
 use Rattle.layout.specs.Ranges.{only}
 use Rattle.layout.specs.Measured.{laid}
@@ -29,13 +29,14 @@ unroll-first (branch q a d b) = refl
 unroll-first (while q n a b) = refl
 unroll-first (times q n a b) = sym (⧺-assoc (copies n (unroll a)) (act (check q) nil) (unroll b))
 
-formed-only : (b : Block) → OfForm Equalised b → Formed Equalised (only b)
-formed-only nil p = tt
-formed-only (skip n b) p = tt
-formed-only (act x b) p = (p .0, tt)
-formed-only (branch q a d b) p = (p .0, formed Equalised a (p .1), formed Equalised d (p .2), tt)
-formed-only (while q n a b) p = (p .0, formed Equalised a (p .1), tt)
-formed-only (times q n a b) p = (p .0, formed Equalised a (p .1), tt)
+-- the first statement is of the form that the block is of
+pub only-form : (b : Block) → OfForm Equalised b → OfForm Equalised (only b)
+only-form nil p = tt
+only-form (skip n b) p = (p .0, tt)
+only-form (act q b) p = (p .0, tt)
+only-form (branch q a d b) p = (p .0, p .1, p .2, tt)
+only-form (while q n a b) p = (p .0, p .1, tt)
+only-form (times q n a b) p = (p .0, p .1, tt)
 
 -- one more copy may as well come last
 copies-more : (n : ℕ) (b : Block) → copies (suc n) b ≡ copies n b ⧺ b
@@ -112,7 +113,7 @@ module _ (σ : Settings) where
         let g = free-tested σ fits 0 t f in
         let i = free-behind σ fits a 1 u (p .0) (c .0) (omega arith) g in
         let j = free-behind σ fits d 1 u (p .1) (c .1) (omega arith) g in
-        let k = free-max σ fits u (time σ x) (time σ y) i j in
+        let k = free-later σ fits e (u + time σ x) (u + time σ y) (omega arith) i j in
         let m = filled-ends x u e i k (omega arith) in
         let n = filled-ends y u e j k (omega arith) in
         headed h (branch q (filled σ u x e) (filled σ u y e) nil) b t e (omega arith)
@@ -143,7 +144,7 @@ module _ (σ : Settings) where
         → laid σ b t ≡ laid σ (only b) t ⧺ laid σ (afterFirst b) (t + time σ (laid σ (only b) t))
     unfolding laid
     laid-first b t p f =
-        let k = formed-only b p in
+        let k = formed Equalised (only b) (only-form b p) in
         ap (λ (c : Block). lay σ c t) (unroll-first b)
         ∙ lay-⧺ (unroll (only b)) (unroll (afterFirst b)) t (unrolled-loop-free (only b) k) (unrolled-command-free (only b) k) f
 

@@ -1,7 +1,7 @@
 -- Writing a block statement by statement: what is laid and what is left, turn by turn.
 use Prim.Native.Nat.{ℕ, _+_, _≤_, _<_}
 use native.Mathlib.Omega.{arith}
-use mathlib.Core.Path.{_≡_, refl, ap, sym, subst, _∙_}
+use mathlib.Core.Path.{_≡_, ap, sym, subst, _∙_}
 use mathlib.Core.Bool.{true, false}
 use mathlib.Core.List.{List}
 use Rattle.model.specs.declared.Settings.{Settings}
@@ -16,8 +16,8 @@ use Rattle.layout.specs.declared.clock.State.{State}
 use Rattle.layout.specs.declared.measure.Passage.{Passage}
 use Rattle.layout.specs.Ranges.{only}
 use Rattle.layout.specs.Measured.{laid}
-use Rattle.layout.specs.Written.{Lays, BlockFits, StatementFits, LaysTo, BlockLaid, StatementLaid}
-use Rattle.layout.proofs.Settling.{Alike, alike-eq}
+use Rattle.layout.specs.Written.{BlockFits, StatementFits, LaysTo, BlockLaid, StatementLaid}
+use Rattle.layout.proofs.Settling.{alike-eq}
 use Rattle.layout.proofs.Standing.{stands-once, stands-closed, stands-end}
 use Rattle.layout.proofs.Unrolled.{laid-first, laid-nil}
 use Rattle.layout.proofs.Writing.{laidBytes, Writing, writing-start, writing-same, writing-room, writing-next, writing-end}

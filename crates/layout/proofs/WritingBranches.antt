@@ -1,7 +1,7 @@
 -- Writing an IF: its test, and then both sides, which are measured from there on and filled up to the tick where they meet.
 use Prim.Native.Nat.{ℕ, _+_, _*_, _-_, _≤_, max}
 use native.Mathlib.Omega.{arith}
-use mathlib.Core.Path.{_≡_, refl, ap, ap₂, sym, subst, _∙_}
+use mathlib.Core.Path.{_≡_, refl, ap, sym, subst, _∙_}
 use mathlib.Core.List.{List, _++_, append-assoc}
 use lib.ListN.{length, length-append}
 use Rattle.model.specs.declared.Settings.{Settings}
@@ -21,13 +21,13 @@ use Rattle.layout.specs.declared.clock.State.{State}
 use Rattle.layout.specs.declared.measure.Passage.{Passage}
 use Rattle.layout.specs.Merging.{settled, waits}
 use Rattle.layout.specs.States.{aside}
-use Rattle.layout.specs.Ranges.{Stands, only}
+use Rattle.layout.specs.Ranges.{only}
 use Rattle.layout.specs.Measured.{laid, Meeting, Meets, Entered, Statement, BlockPassed}
 use Rattle.layout.specs.Written.{bytesOf, stepBytes, StepLaid, LaidFits, sideBytes, SideFits, SideLaid, StatementFits, StatementLaid}
 use Rattle.layout.proofs.Settling.{size-settled, bytes-settled}
 use Rattle.layout.proofs.Standing.{if-at}
 use Rattle.layout.proofs.Unrolled.{laid-branch}
-use Rattle.layout.proofs.PassingBranches.{one, two, is-if, one-there, first, second, end, whole, laid-whole, not-before, passed-from}
+use Rattle.layout.proofs.PassingBranches.{one, two, is-if, one-there, end, whole, laid-whole, not-before, passed-from}
 use Rattle.layout.proofs.PassingBranches.{one-entered, two-entered, two-at, one-goes, two-goes, meeting, branch-passed, one-after, two-after}
 use Rattle.layout.proofs.WritingSteps.{block, fits-as, passed-laid}
 

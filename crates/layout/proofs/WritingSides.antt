@@ -1,5 +1,5 @@
 -- Writing a side of an IF: its block, SKIPs up to the tick where the sides meet, and the record that closes it.
-use Prim.Native.Nat.{ℕ, _+_, _*_, _-_, _≤_}
+use Prim.Native.Nat.{ℕ, _+_, _-_, _≤_}
 use native.Mathlib.Omega.{arith}
 use mathlib.Core.Path.{_≡_, ap, ap₂, sym, subst, _∙_}
 use mathlib.Core.List.{List, _++_, append-assoc}
@@ -18,7 +18,6 @@ use Rattle.layout.specs.declared.clock.State.{State}
 use Rattle.layout.specs.declared.measure.Passage.{Passage}
 use Rattle.layout.specs.Merging.{settled, waits}
 use Rattle.layout.specs.States.{After}
-use Rattle.layout.specs.Ranges.{Stands}
 use Rattle.layout.specs.Measured.{laid}
 use Rattle.layout.specs.Written.{bytesOf, closingBytes, EndFits, BlockFits, BlockLaid, LaysTo, sideBytes, SideFits, SideLaid}
 use Rattle.layout.proofs.Settling.{waits-⧺, size-settled, size-merge, bytes-settled, bytes-merge}

@@ -1,25 +1,24 @@
 -- Writing a statement that opens no block: a SKIP, or a step with its record.
 use Prim.Native.Nat.{ℕ, _+_, _≤_}
-use native.Mathlib.Omega.{arith}
 use mathlib.Core.Path.{_≡_, refl, ap, sym, subst, _∙_}
 use mathlib.Core.List.{List, _++_}
 use lib.ListN.{length}
 use Rattle.model.specs.declared.Settings.{Settings}
-use Rattle.model.specs.Records.{Rec, kindAt, recordAt, SKIP, IF, TIMES, recordBytes}
+use Rattle.model.specs.Records.{Rec, recordAt, SKIP, IF, TIMES}
 use Rattle.model.specs.Trees.{Act, Block, nil, skip, act, _⧺_, actRec}
 use Rattle.model.specs.Times.{ticks, time}
 use Rattle.model.specs.Layout.{before, idles, fill}
-use Rattle.model.specs.Replies.{longest, over}
+use Rattle.model.specs.Replies.{over}
 use Rattle.records.specs.declared.Record.{Record}
 use Rattle.records.specs.Records.{recordOf}
-use Rattle.records.specs.Blocks.{blockBytes, skipBytes}
+use Rattle.records.specs.Blocks.{skipBytes}
 use Rattle.records.proofs.Blocks.{waiting-bytes, act-bytes}
 use Rattle.reading.specs.Ranges.{firstSize, afterFirst}
 use Rattle.reading.proofs.FirstKinds.{IsAct}
 use Rattle.timing.specs.Times.{stepTicks}
 use Rattle.layout.specs.declared.clock.State.{State}
 use Rattle.layout.specs.declared.measure.Passage.{Passage}
-use Rattle.layout.specs.Merging.{settled, waits}
+use Rattle.layout.specs.Merging.{waits}
 use Rattle.layout.specs.Ranges.{Stands, only}
 use Rattle.layout.specs.Measured.{laid, Passes, StatementPassed}
 use Rattle.layout.specs.Written.{bytesOf, Room, Lays, stepBytes, StepLaid, LaidFits, StatementFits, LaysTo, StatementLaid}
@@ -28,7 +27,7 @@ use Rattle.layout.proofs.Filling.{skip-within}
 use Rattle.layout.proofs.Standing.{stands-once, skip-at}
 use Rattle.layout.proofs.Unrolled.{laid-skip, laid-act}
 use Rattle.layout.proofs.Passing.{passed}
-use Rattle.layout.proofs.PassingSteps.{kind-there, count-there, is-act, act-lasts, step-short}
+use Rattle.layout.proofs.PassingSteps.{kind-there, count-there, is-act, act-lasts}
 
 -- A STEP
 

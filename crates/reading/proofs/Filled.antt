@@ -20,6 +20,15 @@ use Rattle.reading.proofs.BlockEnds.{passes, found}
 move : (s : List ℕ) (i j : ℕ) (b : Block) → i ≡ j → At s i b → At s j b
 move s i j b e at = subst (λ (k : ℕ). At s k b) e at
 
+-- the records of a block are those of its first statement and of what follows it
+pub size-first : (b : Block) → size b ≡ firstSize b + size (afterFirst b)
+size-first nil = refl
+size-first (skip n b) = refl
+size-first (act p b) = refl
+size-first (branch q a e b) = refl
+size-first (while q n a b) = refl
+size-first (times q n a b) = refl
+
 -- a block inside an open one, which starts at j and is closed at m, before to
 pub record Inside (f : Form) (s : List ℕ) (j to d m : ℕ) (a : Block) : Type 0 where
   pub deep : 1 ≤ d
@@ -30,16 +39,8 @@ pub record Inside (f : Form) (s : List ℕ) (j to d m : ℕ) (a : Block) : Type 
 module _ (f : Form) (s : List ℕ) (i to d : ℕ) where
   -- what follows the first statement fills what is left
   pub fills-after : (b : Block) → i < to → Fills f s i to d b → Fills f s (i + firstSize b) to d (afterFirst b)
-  fills-after b l F = record { stands = stands b F; ends = omega (arith, l, F .ends, sizes b); shallow = omega (arith, F .shallow, depths b); of-form = of-form b F }
+  fills-after b l F = record { stands = stands b F; ends = omega (arith, l, F .ends, size-first b); shallow = omega (arith, F .shallow, depths b); of-form = of-form b F }
     where
-      sizes : (b : Block) → size b ≡ firstSize b + size (afterFirst b)
-      sizes nil = refl
-      sizes (skip n b) = refl
-      sizes (act p b) = refl
-      sizes (branch q a e b) = refl
-      sizes (while q n a b) = refl
-      sizes (times q n a b) = refl
-
       depths : (b : Block) → depth (afterFirst b) ≤ depth b
       depths nil = omega arith
       depths (skip n b) = omega arith

@@ -302,12 +302,12 @@ module _ (σ : Settings) (fits : Fits σ) where
       leads-⧺ a (fill σ (e - u) u e) t (k .placed) (fill-meets (e - u) u e (k .there) g l (omega arith))
 
   -- the later of two ends
-  pub free-max : (t x y : ℕ) → Free σ 1 (t + x) → Free σ 1 (t + y) → Free σ 1 (t + max x y)
-  free-max t x y f g = go (ltb x y) refl
+  pub free-later : (e t u : ℕ) → e ≡ max t u → Free σ 1 t → Free σ 1 u → Free σ 1 e
+  free-later e t u z f g = go (ltb t u) refl
     where
-      go : (o : Bool) → ltb x y ≡ o → Free σ 1 (t + max x y)
-      go true e = let m : max x y ≡ y = omega (arith, ltb-true x y e) in rw m g
-      go false e = let m : max x y ≡ x = omega (arith, ltb-false x y e) in rw m f
+      go : (o : Bool) → ltb t u ≡ o → Free σ 1 e
+      go true x = let m : e ≡ u = omega (arith, ltb-true t u x) in rw m g
+      go false x = let m : e ≡ t = omega (arith, ltb-false t u x) in rw m f
 
   -- BLOCKS
 
@@ -343,7 +343,7 @@ module _ (σ : Settings) (fits : Fits σ) where
       let s = after-step 1 1 u (omega arith) (omega arith) (r .there) in
       let x = free-lay a 1 (u + 1) (p .0) (c .0) (omega arith) s in
       let y = free-lay d 1 (u + 1) (p .1) (c .1) (omega arith) s in
-      let m = free-max (u + 1) (time σ A) (time σ D) (x .there) (y .there) in
+      let m = free-later e (u + 1 + time σ A) (u + 1 + time σ D) (omega arith) (x .there) (y .there) in
       leads-⧺ (before σ t 1) (branch q (filled σ (u + 1) A e) (filled σ (u + 1) D e) (lay σ b e)) t (r .placed)
       (leads-branch q u e (filled σ (u + 1) A e) (filled σ (u + 1) D e) (lay σ b e) (in-place 1 u (r .there))
       (filled-meets (u + 1) e A x m (omega arith)) (filled-meets (u + 1) e D y m (omega arith)) (free-lay b ε e (p .2) (c .2) l (later ε e l m)))
