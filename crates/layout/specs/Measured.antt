@@ -57,6 +57,7 @@ pub record Statement (s : List ℕ) (i to : ℕ) (σ : Settings) (at : State) : 
   pub early : i < to
   pub goes-on : closesBlock (kindAt s i) ≡ false
 
+-- what measuring answers for a block and for a statement of the file
 pub record BlockPassed (s : List ℕ) (i to : ℕ) (σ : Settings) (at : State) (r : Passage) : Type 0 where
   pub right : (b : Block) → Stands s i to b → Passes σ (laid σ b (at .tick)) (i + size b) at r
 

@@ -81,11 +81,12 @@ pub record SideFits (s : List ℕ) (i to : ℕ) (σ : Settings) (at : State) (e 
 pub record SideLaid (s : List ℕ) (i to : ℕ) (σ : Settings) (at : State) (e : ℕ) (x : Rec) (old new : List ℕ) (n : ℕ) : Type 0 where
   pub right : (b : Block) → Stands s i to b → Wrote (sideBytes σ at b e x) old new n
 
--- and the index after it
+-- c is laid from s on, and the next record is j
 pub record LaysTo (σ : Settings) (c : Block) (j : ℕ) (s : State) (old new : List ℕ) (r : Passage) : Type 0 where
   pub lays : Lays σ c s old new (r .state)
   pub goes : r .next ≡ j
 
+-- what is written for a block or a statement of the file
 pub record BlockLaid (s : List ℕ) (i to : ℕ) (σ : Settings) (at : State) (old new : List ℕ) (r : Passage) : Type 0 where
   pub right : (b : Block) → Stands s i to b → LaysTo σ (laid σ b (at .tick)) (i + size b) at old new r
 
