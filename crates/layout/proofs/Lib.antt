@@ -1,17 +1,8 @@
--- How merging settles a block piece by piece, and how a state of laying out goes on; then the ticks before a step, filling,
--- the blocks of a file, and how each is laid.
-pub mod Settling
-pub mod Going
-pub mod Ticking
-pub mod Moves
-pub mod Filling
-pub mod Turns
+-- Where the sides of an IF meet; the blocks of a file, and how each is laid; then what measuring answers and what is written, turn by
+-- turn; the whole file, and the reply of the call.
 pub mod Meeting
 pub mod Standing
 pub mod Unrolled
-pub mod Writing
-pub mod PieceBytes
-pub mod WritingTurns
 pub mod Passing
 pub mod PassingSteps
 pub mod PassingRounds

@@ -10,13 +10,13 @@ use Rattle.model.specs.Layout.{fill, filled}
 use Rattle.theory.proofs.Windows.{free-later, fill-ends}
 use Rattle.records.specs.Blocks.{skipRecords}
 use Rattle.records.proofs.Blocks.{one-skip}
-use Rattle.layout.specs.declared.clock.State.{State}
-use Rattle.layout.specs.Merging.{settled}
-use Rattle.layout.specs.States.{cap, After, aside}
+use Rattle.placing.specs.declared.clock.State.{State}
+use Rattle.placing.specs.Merging.{settled}
+use Rattle.placing.specs.States.{cap, After, aside}
 use Rattle.layout.specs.Measured.{Meeting, Meets}
-use Rattle.layout.proofs.Settling.{size-merge, alike-eq}
-use Rattle.layout.proofs.Going.{after-⧺, after-alike}
-use Rattle.layout.proofs.Moves.{shows-on}
+use Rattle.placing.proofs.Settling.{size-merge, alike-eq}
+use Rattle.placing.proofs.Going.{after-⧺, after-alike}
+use Rattle.placing.proofs.Moves.{shows-on}
 
 module _ {σ : Settings} where
   -- a count of records stops, and what waits is one more

@@ -16,12 +16,12 @@ use Rattle.theory.proofs.Windows.{Free}
 use Rattle.reading.specs.Closing.{closesBlock}
 use Rattle.reading.specs.Ranges.{firstSize, afterFirst}
 use Rattle.reading.proofs.Filled.{size-first}
-use Rattle.layout.specs.declared.clock.State.{State}
+use Rattle.placing.specs.declared.clock.State.{State}
 use Rattle.layout.specs.declared.measure.Passage.{Passage}
-use Rattle.layout.specs.States.{Laying, After}
+use Rattle.placing.specs.States.{Laying, After}
 use Rattle.layout.specs.Ranges.{Stands, only}
 use Rattle.layout.specs.Measured.{laid, Passes, Entered, Statement, BlockPassed, StatementPassed}
-use Rattle.layout.proofs.Going.{after-nil, after-⧺}
+use Rattle.placing.proofs.Going.{after-nil, after-⧺}
 use Rattle.layout.proofs.Standing.{stands-once, stands-closed, stands-end, stands-some, stands-after}
 use Rattle.layout.proofs.Unrolled.{only-form, laid-first, laid-nil, laid-free}
 

@@ -16,14 +16,14 @@ use Rattle.theory.proofs.Times.{time-⧺}
 use Rattle.theory.proofs.Windows.{Free, later, free-tested, free-later}
 use Rattle.records.proofs.Blocks.{size-waiting}
 use Rattle.reading.specs.Ranges.{firstPart, secondPart, afterFirst, testOf}
-use Rattle.layout.specs.declared.clock.State.{State}
+use Rattle.placing.specs.declared.clock.State.{State}
 use Rattle.layout.specs.declared.measure.Passage.{Passage}
-use Rattle.layout.specs.Merging.{waits}
-use Rattle.layout.specs.States.{cap, Shows, Laying, After, Stepped, aside}
+use Rattle.placing.specs.Merging.{waits}
+use Rattle.placing.specs.States.{cap, Shows, Laying, After, Stepped, aside}
 use Rattle.layout.specs.Ranges.{Stands, only}
 use Rattle.layout.specs.Measured.{laid, Passes, Met, Meeting, Meets, Entered, Statement, BlockPassed, StatementPassed}
-use Rattle.layout.proofs.Settling.{waits-⧺, size-settled}
-use Rattle.layout.proofs.Moves.{shows-on}
+use Rattle.placing.proofs.Settling.{waits-⧺, size-settled}
+use Rattle.placing.proofs.Moves.{shows-on}
 use Rattle.layout.proofs.Standing.{if-at, first-side, second-side, sides-end}
 use Rattle.layout.proofs.Unrolled.{laid-branch, laid-free, filled-ends}
 use Rattle.layout.proofs.Passing.{in-time, too-late, passed, passed-late, laying-on}

@@ -15,12 +15,12 @@ use Rattle.model.proofs.Sound.{OfForm}
 use Rattle.theory.proofs.Times.{time-⧺}
 use Rattle.theory.proofs.Windows.{Free}
 use Rattle.reading.specs.Ranges.{firstPart, afterFirst, testOf}
-use Rattle.layout.specs.declared.clock.State.{State}
+use Rattle.placing.specs.declared.clock.State.{State}
 use Rattle.layout.specs.declared.measure.Passage.{Passage}
-use Rattle.layout.specs.States.{Laying, After, Stepped}
+use Rattle.placing.specs.States.{Laying, After, Stepped}
 use Rattle.layout.specs.Ranges.{Stands, only}
 use Rattle.layout.specs.Measured.{laid, Passes, Entered, Statement, BlockPassed, StatementPassed, Rounds}
-use Rattle.layout.proofs.Going.{after-nil, after-⧺}
+use Rattle.placing.proofs.Going.{after-nil, after-⧺}
 use Rattle.layout.proofs.Standing.{times-at, body-stands, body-ends, some-rounds}
 use Rattle.layout.proofs.Unrolled.{rounds, rounds-none, rounds-more, laid-times, laid-free}
 use Rattle.layout.proofs.Passing.{in-time, too-late, passed, passed-late, laying-on}

@@ -22,12 +22,12 @@ use Rattle.reading.specs.Ranges.{firstSize, afterFirst}
 use Rattle.reading.proofs.FirstKinds.{IsAct}
 use Rattle.timing.specs.Times.{stepTicks}
 use Rattle.timing.proofs.Firsts.{act-ticks}
-use Rattle.layout.specs.declared.clock.State.{State}
+use Rattle.placing.specs.declared.clock.State.{State}
 use Rattle.layout.specs.declared.measure.Passage.{Passage}
-use Rattle.layout.specs.States.{Layable, After, Stepped}
+use Rattle.placing.specs.States.{Layable, After, Stepped}
 use Rattle.layout.specs.Ranges.{Stands, only}
 use Rattle.layout.specs.Measured.{laid, Passes, Statement, StatementPassed}
-use Rattle.layout.proofs.Filling.{skip-within, skip-late}
+use Rattle.placing.proofs.Filling.{skip-within, skip-late}
 use Rattle.layout.proofs.Standing.{stands-once, skip-at, act-at}
 use Rattle.layout.proofs.Unrolled.{laid-skip, laid-act}
 use Rattle.layout.proofs.Passing.{passed}

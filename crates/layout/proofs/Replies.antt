@@ -26,8 +26,8 @@ use Rattle.records.specs.Blocks.{blockBytes, skipRecords}
 use Rattle.records.proofs.Blocks.{one-skip, length-block}
 use Rattle.reading.specs.Answers.{Reads}
 use Rattle.reading.proofs.Entry.{read-settings, read-sound, kept-refusal}
-use Rattle.layout.specs.declared.clock.State.{State}
-use Rattle.layout.specs.States.{Layable, After, started}
+use Rattle.placing.specs.declared.clock.State.{State}
+use Rattle.placing.specs.States.{Layable, After, started}
 use Rattle.layout.specs.Ranges.{SoundFile}
 use Rattle.layout.specs.Measured.{FilePassed}
 use Rattle.layout.specs.Written.{FileFits}

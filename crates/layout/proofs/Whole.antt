@@ -9,8 +9,8 @@ use lib.ListN.{length, length-append}
 use lib.Dec.{eqb}
 use borrow.Author.Tests.{eqb-true, eqb-false, eq-eqb, ne-eqb}
 use Rattle.model.specs.declared.Settings.{Settings}
-use Rattle.model.specs.Records.{rec, recordBytes, BEAT}
-use Rattle.model.specs.Trees.{beat, save, actRec, Block, nil, skip, act, _⧺_, size, fileTree}
+use Rattle.model.specs.Records.{BEAT}
+use Rattle.model.specs.Trees.{beat, save, Block, nil, skip, act, _⧺_, size, fileTree}
 use Rattle.model.specs.Times.{time}
 use Rattle.model.specs.Equalising.{waiting, merge}
 use Rattle.model.specs.Layout.{unroll, commands, left, lay, opened, body, lastValue, layout, total}
@@ -20,17 +20,18 @@ use Rattle.theory.proofs.Times.{time-⧺}
 use Rattle.theory.proofs.Windows.{Free, round, window-pos, commands-0, free-start}
 use Rattle.records.specs.Blocks.{blockBytes, skipRecords, skipBytes, Wrote}
 use Rattle.records.proofs.Blocks.{size-⧺, size-waiting, bytes-⧺, waiting-bytes, act-bytes, length-block}
-use Rattle.records.proofs.Over.{Part, lent, back, part-first, part-fits, part-lent, part-last}
-use Rattle.layout.specs.declared.clock.State.{State}
+use Rattle.records.proofs.Over.{Part, lent, back, part-first, part-fits, part-lent}
+use Rattle.placing.specs.declared.clock.State.{State}
 use Rattle.layout.specs.declared.measure.Passage.{Passage}
-use Rattle.layout.specs.Merging.{settled, waits}
-use Rattle.layout.specs.States.{Layable, Shows, Laying, After, started}
+use Rattle.placing.specs.Merging.{settled, waits}
+use Rattle.placing.specs.States.{Layable, Shows, Laying, After, started}
 use Rattle.layout.specs.Ranges.{SoundFile}
 use Rattle.layout.specs.Measured.{laid, Entered, BlockPassed, FilePassed}
-use Rattle.layout.specs.Written.{bytesOf, Lays, BlockFits, BlockLaid, tailBytes, FileFits}
-use Rattle.layout.proofs.Settling.{settled-⧺, waits-⧺, merge-settled, Alike, alike-eq, alike-sym, alike-trans, alike-skip}
-use Rattle.layout.proofs.Going.{after-⧺, after-alike}
-use Rattle.layout.proofs.Ticking.{left-is}
+use Rattle.placing.specs.Placed.{bytesOf, Lays, tailBytes}
+use Rattle.layout.specs.Written.{BlockFits, BlockLaid, FileFits}
+use Rattle.placing.proofs.Settling.{settled-⧺, waits-⧺, merge-settled, Alike, alike-eq, alike-sym, alike-trans, alike-skip}
+use Rattle.placing.proofs.Going.{after-⧺, after-alike}
+use Rattle.placing.proofs.Ticking.{left-is}
 use Rattle.layout.proofs.Standing.{stands-file}
 
 -- TICK 0
@@ -186,11 +187,6 @@ module _ {σ : Settings} (L : Layable σ) where
         ∙ ap (λ (x : List ℕ). skipBytes (r .wait + r .left) ++ x) (act-bytes (beat (lastValue σ (r .tick + r .left))))
 
 -- WRITING IT
-
--- the last BEAT is all that is left
-pub beat-laid : {w old new ys : List ℕ} {at v x : ℕ} → Part w (recordBytes (actRec (beat x))) old new at → v ≡ x
-    → ys ≡ over (recordBytes (rec BEAT 0 0 0 v 0)) (lent new at) → back new at ys ≡ over w old
-beat-laid {new = new} {at = at} P e y = part-last P (y ∙ ap (λ (u : ℕ). over (recordBytes (actRec (beat u))) (lent new at)) e)
 
 module _ {s : List ℕ} {σ : Settings} {out : List ℕ} (F : FileFits s σ out) where
   abbrev whole : List ℕ

@@ -12,15 +12,15 @@ use Rattle.theory.proofs.Times.{time-⧺}
 use Rattle.records.proofs.Over.{lent, back}
 use Rattle.reading.specs.Closing.{closesBlock}
 use Rattle.reading.specs.Ranges.{firstSize, afterFirst}
-use Rattle.layout.specs.declared.clock.State.{State}
+use Rattle.placing.specs.declared.clock.State.{State}
 use Rattle.layout.specs.declared.measure.Passage.{Passage}
 use Rattle.layout.specs.Ranges.{only}
 use Rattle.layout.specs.Measured.{laid}
 use Rattle.layout.specs.Written.{BlockFits, StatementFits, LaysTo, BlockLaid, StatementLaid}
-use Rattle.layout.proofs.Settling.{alike-eq}
+use Rattle.placing.proofs.Settling.{alike-eq}
 use Rattle.layout.proofs.Standing.{stands-once, stands-closed, stands-end}
 use Rattle.layout.proofs.Unrolled.{laid-first, laid-nil}
-use Rattle.layout.proofs.Writing.{laidBytes, Writing, writing-start, writing-same, writing-room, writing-next, writing-end}
+use Rattle.placing.proofs.Writing.{laidBytes, Writing, writing-start, writing-same, writing-room, writing-next, writing-end}
 use Rattle.layout.proofs.Passing.{Passing, passing-start, statement-next, passing-on, passing-next}
 use Rattle.layout.proofs.WritingSteps.{laid-passed}
 

@@ -17,14 +17,15 @@ use Rattle.records.proofs.Blocks.{waiting-bytes, branch-bytes, size-waiting, le
 use Rattle.records.proofs.Over.{Part, lent, back, part-first, part-fits, part-fits-last, part-last, part-at, part-length}
 use Rattle.records.proofs.Laying.{wrote-next}
 use Rattle.reading.specs.Ranges.{firstPart, secondPart, afterFirst, testOf}
-use Rattle.layout.specs.declared.clock.State.{State}
+use Rattle.placing.specs.declared.clock.State.{State}
 use Rattle.layout.specs.declared.measure.Passage.{Passage}
-use Rattle.layout.specs.Merging.{settled, waits}
-use Rattle.layout.specs.States.{aside}
+use Rattle.placing.specs.Merging.{settled, waits}
+use Rattle.placing.specs.States.{aside}
 use Rattle.layout.specs.Ranges.{only}
 use Rattle.layout.specs.Measured.{laid, Meeting, Meets, Entered, Statement, BlockPassed}
-use Rattle.layout.specs.Written.{bytesOf, stepBytes, StepLaid, LaidFits, sideBytes, SideFits, SideLaid, StatementFits, StatementLaid}
-use Rattle.layout.proofs.Settling.{size-settled, bytes-settled}
+use Rattle.placing.specs.Placed.{bytesOf, stepBytes, StepLaid}
+use Rattle.layout.specs.Written.{LaidFits, sideBytes, SideFits, SideLaid, StatementFits, StatementLaid}
+use Rattle.placing.proofs.Settling.{size-settled, bytes-settled}
 use Rattle.layout.proofs.Standing.{if-at}
 use Rattle.layout.proofs.Unrolled.{laid-branch}
 use Rattle.layout.proofs.PassingBranches.{one, two, is-if, one-there, end, whole, laid-whole, not-before, passed-from}

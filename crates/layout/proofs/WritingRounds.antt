@@ -14,13 +14,14 @@ use Rattle.model.proofs.Trees.{⧺-nil, ⧺-assoc}
 use Rattle.theory.proofs.Times.{time-⧺}
 use Rattle.records.proofs.Over.{lent, back}
 use Rattle.reading.specs.Ranges.{afterFirst}
-use Rattle.layout.specs.declared.clock.State.{State}
+use Rattle.placing.specs.declared.clock.State.{State}
 use Rattle.layout.specs.declared.measure.Passage.{Passage}
 use Rattle.layout.specs.Measured.{laid, Rounds, BlockPassed}
-use Rattle.layout.specs.Written.{stepBytes, StepLaid, LaidFits, StatementFits, BlockFits, BlockLaid, LaysTo, StatementLaid}
-use Rattle.layout.proofs.Settling.{alike-eq}
+use Rattle.placing.specs.Placed.{stepBytes, StepLaid}
+use Rattle.layout.specs.Written.{LaidFits, StatementFits, BlockFits, BlockLaid, LaysTo, StatementLaid}
+use Rattle.placing.proofs.Settling.{alike-eq}
 use Rattle.layout.proofs.Unrolled.{rounds, rounds-none, rounds-first}
-use Rattle.layout.proofs.Writing.{laidBytes, Writing, writing-start, writing-same, writing-room, writing-next, writing-end}
+use Rattle.placing.proofs.Writing.{laidBytes, Writing, writing-start, writing-same, writing-room, writing-next, writing-end}
 use Rattle.layout.proofs.Passing.{passed}
 use Rattle.layout.proofs.PassingRounds.{body, test, count, is-times, body-there, body-form, check-tick, whole, laid-whole}
 use Rattle.layout.proofs.PassingRounds.{Rounding, rounding-start, body-entered, rounding-next, at-end}

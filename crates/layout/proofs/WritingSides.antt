@@ -14,15 +14,16 @@ use Rattle.records.specs.Blocks.{blockBytes, skipRecords, skipBytes, Wrote}
 use Rattle.records.proofs.Blocks.{length-block}
 use Rattle.records.proofs.Over.{Part, lent, back, part-first, part-fits-last, part-at, part-length}
 use Rattle.records.proofs.Laying.{wrote-last, wrote-room}
-use Rattle.layout.specs.declared.clock.State.{State}
+use Rattle.placing.specs.declared.clock.State.{State}
 use Rattle.layout.specs.declared.measure.Passage.{Passage}
-use Rattle.layout.specs.Merging.{settled, waits}
-use Rattle.layout.specs.States.{After}
+use Rattle.placing.specs.Merging.{settled, waits}
+use Rattle.placing.specs.States.{After}
 use Rattle.layout.specs.Measured.{laid}
-use Rattle.layout.specs.Written.{bytesOf, closingBytes, EndFits, BlockFits, BlockLaid, LaysTo, sideBytes, SideFits, SideLaid}
-use Rattle.layout.proofs.Settling.{waits-⧺, size-settled, size-merge, bytes-settled, bytes-merge}
+use Rattle.placing.specs.Placed.{bytesOf, closingBytes, EndFits}
+use Rattle.layout.specs.Written.{BlockFits, BlockLaid, LaysTo, sideBytes, SideFits, SideLaid}
+use Rattle.placing.proofs.Settling.{waits-⧺, size-settled, size-merge, bytes-settled, bytes-merge}
 use Rattle.layout.proofs.Standing.{stands-once}
-use Rattle.layout.proofs.Writing.{laidBytes}
+use Rattle.placing.proofs.Writing.{laidBytes}
 use Rattle.layout.proofs.Passing.{laying-on}
 
 -- a side that is laid as b, after w ticks of SKIP, filled by c and closed by x: what is settled of b, and then its end

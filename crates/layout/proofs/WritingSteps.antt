@@ -16,14 +16,15 @@ use Rattle.records.proofs.Blocks.{waiting-bytes, act-bytes}
 use Rattle.reading.specs.Ranges.{firstSize, afterFirst}
 use Rattle.reading.proofs.FirstKinds.{IsAct}
 use Rattle.timing.specs.Times.{stepTicks}
-use Rattle.layout.specs.declared.clock.State.{State}
+use Rattle.placing.specs.declared.clock.State.{State}
 use Rattle.layout.specs.declared.measure.Passage.{Passage}
-use Rattle.layout.specs.Merging.{waits}
+use Rattle.placing.specs.Merging.{waits}
 use Rattle.layout.specs.Ranges.{Stands, only}
 use Rattle.layout.specs.Measured.{laid, Passes, StatementPassed}
-use Rattle.layout.specs.Written.{bytesOf, Room, Lays, stepBytes, StepLaid, LaidFits, StatementFits, LaysTo, StatementLaid}
-use Rattle.layout.proofs.Settling.{bytes-settled}
-use Rattle.layout.proofs.Filling.{skip-within}
+use Rattle.placing.specs.Placed.{bytesOf, Room, Lays, stepBytes, StepLaid}
+use Rattle.layout.specs.Written.{LaidFits, StatementFits, LaysTo, StatementLaid}
+use Rattle.placing.proofs.Settling.{bytes-settled}
+use Rattle.placing.proofs.Filling.{skip-within}
 use Rattle.layout.proofs.Standing.{stands-once, skip-at}
 use Rattle.layout.proofs.Unrolled.{laid-skip, laid-act}
 use Rattle.layout.proofs.Passing.{passed}

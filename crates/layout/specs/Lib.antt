@@ -1,6 +1,4 @@
 -- What the contracts of laying out cite beside the model's definitions.
-pub mod Merging
-pub mod States
 pub mod Ranges
 pub mod Measured
 pub mod Written

@@ -12,9 +12,9 @@ use Rattle.model.specs.Layout.{copies, unroll, filled, lay, opened}
 use Rattle.theory.proofs.Windows.{Free}
 use Rattle.reading.specs.Closing.{closesBlock}
 use Rattle.reading.specs.Ranges.{firstSize}
-use Rattle.layout.specs.declared.clock.State.{State}
+use Rattle.placing.specs.declared.clock.State.{State}
 use Rattle.layout.specs.declared.measure.Passage.{Passage}
-use Rattle.layout.specs.States.{cap, Shows, Laying, After, aside, started}
+use Rattle.placing.specs.States.{cap, Shows, Laying, After, aside, started}
 use Rattle.layout.specs.Ranges.{Stands, InFile, only}
 
 -- an equalised block laid from tick t on

@@ -1,7 +1,5 @@
 // The equalised file unrolled, with heartbeats and checkpoints at their ticks. One pass measures the result, and one writes it.
-mod clock;
 mod measure;
-mod pieces;
 mod write;
 
 ghost use mathlib.Core.Path.{_≡_};

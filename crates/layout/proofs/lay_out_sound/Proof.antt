@@ -2,7 +2,7 @@
 use native.Mathlib.Omega.{arith}
 use mathlib.Core.Path.{sym, _∙_}
 use borrow.Author.Needs.{needs}
-use Rattle.layout.specs.States.{Layable}
+use Rattle.placing.specs.States.{Layable}
 use Rattle.layout.proofs.Replies.{short-window, layable, over-period, InTime, few-counted, no-room, has-room, written}
 use Rattle.layout.proofs.lay_out_sound.Statement.{statement}
 use Rattle.layout.proofs.lay_out_sound.Tie as tie

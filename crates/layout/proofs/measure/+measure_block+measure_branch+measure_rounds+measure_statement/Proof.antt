@@ -22,8 +22,8 @@ use Rattle.layout.proofs.measure.+measure_block+measure_branch+measure_
 use Rattle.layout.proofs.measure.measure_statement.Reads as measure-statement
 use Rattle.layout.proofs.measure.measure_statement.Kinds as measure-statement-kinds
 use Rattle.layout.proofs.measure.+measure_block+measure_branch+measure_rounds+measure_statement.Lts-measure_statement as measure-statement-lts
-use Rattle.layout.proofs.clock.filled.Reads as filled-reads
-use Rattle.layout.proofs.clock.stepped.Reads as stepped-reads
+use Rattle.placing.proofs.clock.filled.Reads as filled-reads
+use Rattle.placing.proofs.clock.stepped.Reads as stepped-reads
 use Rattle.layout.proofs.measure.meet.Reads as meet-reads
 use Rattle.layout.proofs.measure.rounds.Reads as rounds-reads
 use Rattle.layout.proofs.measure.side.Reads as side-reads

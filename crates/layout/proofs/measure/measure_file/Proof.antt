@@ -1,14 +1,14 @@
 -- Tick 0 has its commands, and the file's block is measured behind them.
 use mathlib.Core.Path.{sym, subst}
 use borrow.Author.Needs.{needs}
-use Rattle.layout.specs.States.{Laying, After, started}
+use Rattle.placing.specs.States.{Laying, After, started}
 use Rattle.layout.proofs.Whole.{opening, laying-start, after-opening, file-entered, file-late, file-passed}
 use Rattle.layout.proofs.measure.measure_file.Statement.{statement}
 use Rattle.layout.proofs.measure.measure_file.Tie as tie
 use Rattle.layout.proofs.measure.measure_file.Reads as reads
 use Rattle.layout.proofs.measure.measure_file.Lts as lts
-use Rattle.layout.proofs.clock.commanded.Reads as commanded-reads
-use Rattle.layout.proofs.clock.start.Reads as start-reads
+use Rattle.placing.proofs.clock.commanded.Reads as commanded-reads
+use Rattle.placing.proofs.clock.start.Reads as start-reads
 use Rattle.layout.proofs.measure.measure_block.Reads as measure-block-reads
 
 abbrev claims : lts.Claims

@@ -7,7 +7,7 @@ use Rattle.model.specs.Records.{Rec, CHECK}
 use Rattle.model.specs.Trees.{testRec}
 use Rattle.records.proofs.Over.{part-length}
 use Rattle.reading.specs.Ranges.{testOf}
-use Rattle.layout.proofs.Writing.{writing-upto, writing-at}
+use Rattle.placing.proofs.Writing.{writing-upto, writing-at}
 use Rattle.layout.proofs.Passing.{closing-told}
 use Rattle.layout.proofs.PassingSteps.{kind-there, count-there, step-short}
 use Rattle.layout.proofs.PassingRounds.{rounds-there, body-inside, at-end}
@@ -39,10 +39,10 @@ use Rattle.layout.proofs.measure.measure_block.Reads as measure-block-r
 use Rattle.layout.proofs.measure.meet.Reads as meet-reads
 use Rattle.layout.proofs.measure.rounds.Reads as rounds-reads
 use Rattle.layout.proofs.measure.side.Reads as side-reads
-use Rattle.layout.proofs.pieces.close_side.Reads as close-side-reads
-use Rattle.layout.proofs.pieces.put_skips.Reads as put-skips-reads
-use Rattle.layout.proofs.pieces.put_step.Reads as put-step-reads
-use Rattle.layout.proofs.pieces.written.Reads as written-reads
+use Rattle.placing.proofs.pieces.close_side.Reads as close-side-reads
+use Rattle.placing.proofs.pieces.put_skips.Reads as put-skips-reads
+use Rattle.placing.proofs.pieces.put_step.Reads as put-step-reads
+use Rattle.placing.proofs.pieces.written.Reads as written-reads
 use Rattle.reading.proofs.blocks.closes.Reads as closes-reads
 use Rattle.records.proofs.kind_at.Reads as kind-at-reads
 use Rattle.records.proofs.record_at.Reads as record-at-reads

@@ -7,18 +7,18 @@ use Rattle.model.specs.Trees.{fileTree}
 use Rattle.model.specs.Layout.{layout}
 use Rattle.records.specs.Blocks.{blockBytes}
 use Rattle.records.proofs.Over.{Part, back, part-at, part-room, part-fits-last, part-last}
-use Rattle.layout.specs.States.{Laying, After, started}
-use Rattle.layout.specs.Written.{tailBytes}
+use Rattle.placing.specs.States.{Laying, After, started}
+use Rattle.placing.specs.Placed.{tailBytes}
 use Rattle.layout.proofs.Whole.{opening, laying-start, after-opening, behind, start-fits, start-part, block-fits, counted, tail-part, tail-laying}
 use Rattle.layout.proofs.write.write_file.Statement.{statement}
 use Rattle.layout.proofs.write.write_file.Tie as tie
 use Rattle.layout.proofs.write.write_file.Reads as reads
 use Rattle.layout.proofs.write.write_file.Lts as lts
-use Rattle.layout.proofs.clock.commanded.Reads as commanded-reads
-use Rattle.layout.proofs.clock.start.Reads as start-reads
-use Rattle.layout.proofs.pieces.put_commands.Reads as put-commands-reads
-use Rattle.layout.proofs.pieces.put_tail.Reads as put-tail-reads
-use Rattle.layout.proofs.pieces.written.Reads as written-reads
+use Rattle.placing.proofs.clock.commanded.Reads as commanded-reads
+use Rattle.placing.proofs.clock.start.Reads as start-reads
+use Rattle.placing.proofs.pieces.put_commands.Reads as put-commands-reads
+use Rattle.placing.proofs.pieces.put_tail.Reads as put-tail-reads
+use Rattle.placing.proofs.pieces.written.Reads as written-reads
 use Rattle.layout.proofs.write.write_block.Reads as write-block-reads
 
 abbrev claims : lts.Claims

@@ -1,0 +1,107 @@
+-- Two or three pieces: the buffer is lent whole to the first, and what is left of it to the others.
+use borrow.Author.Needs.{needs}
+use native.Mathlib.Omega.{arith}
+use Prim.Native.Nat.{_+_}
+use mathlib.Core.Path.{refl}
+use mathlib.Core.List.{_++_}
+use Rattle.model.specs.Records.{recordBytes}
+use Rattle.model.specs.Trees.{beat, save, actRec}
+use Rattle.records.proofs.Over.{Part, back, part-at, part-room, part-fits, part-fits-last, part-lent}
+use Rattle.records.proofs.Laying.{record-wrote, wrote-last}
+use Rattle.placing.proofs.PieceBytes.{saveBytes, dueBytes, due-fits, due-skipped, save-none, save-due}
+use Rattle.placing.proofs.pieces.put_commands.Statement.{statement}
+use Rattle.placing.proofs.pieces.put_commands.Tie as tie
+
+-- the SKIP is laid
+skipped : (c : tie.After-put-skip) →
+    let a = c .before .before .before .before .args in
+    Part (dueBytes (a .n) (a .s)) (recordBytes (actRec (beat 1)) ++ saveBytes (a .s .windows)) (a .out .now) (c .put-skip .last .0) (c .put-skip .result)
+skipped c =
+    let s = c .before .before .before .before in
+    due-skipped (s .pre .0) (s .args .out .now) (s .pre .1) (c .put-skip .ensures)
+
+-- and the BEAT
+beaten : (c : tie.After-put-bare) →
+    let k = c .before .before .before .before in
+    let a = k .before .before .before .before .args in
+    Part (dueBytes (a .n) (a .s)) (saveBytes (a .s .windows)) (a .out .now)
+    (back (k .put-skip .last .0) (k .put-skip .result) (c .put-bare .last .0)) (k .put-skip .result + 12)
+beaten c = part-lent (recordBytes (actRec (beat 1))) (skipped (c .before .before .before .before)) (c .put-bare .ensures) refl
+
+-- and a SAVE is due
+saving : (c : tie.Else1) →
+    let b = c .before .before .before .before in
+    let k = b .before .before .before .before in
+    let a = k .before .before .before .before .args in
+    Part (dueBytes (a .n) (a .s)) (recordBytes (actRec (save 0))) (a .out .now)
+    (back (k .put-skip .last .0) (k .put-skip .result) (b .put-bare .last .0)) (k .put-skip .result + 12)
+saving c = let b = c .before .before .before .before in save-due _ (beaten b) (c .if1 .left)
+
+add-put-skip : tie.Need-add-put-skip
+add-put-skip c = search needs
+
+put-skip-requires : tie.Need-put-skip-requires
+put-skip-requires c κs = let s = c .before .before .before in due-fits (s .pre .0) (s .args .out .now) (s .pre .1)
+
+sub-put-bare : tie.Need-sub-put-bare
+sub-put-bare c = part-at (skipped (c .before .before))
+
+part-put-bare-start : tie.Need-part-put-bare-start
+part-put-bare-start c = part-at (skipped (c .before .before))
+
+part-put-bare-end : tie.Need-part-put-bare-end
+part-put-bare-end c = search needs
+
+put-bare-requires : tie.Need-put-bare-requires
+put-bare-requires c κs = part-fits (recordBytes (actRec (beat 1))) _ (skipped (c .before .before .before))
+
+add-last : tie.Need-add-last
+add-last c = omega (arith, part-room (beaten (c .before .before)))
+
+same-length : tie.Need-same-length
+same-length c = search needs
+
+returns : tie.Need-returns
+returns c = save-none _ (beaten (c .before .before .before .before)) (c .if1 .taken)
+
+sub-put-bare-2 : tie.Need-sub-put-bare-2
+sub-put-bare-2 c = part-at (saving c)
+
+part-put-bare-start-2 : tie.Need-part-put-bare-start-2
+part-put-bare-start-2 c = part-at (saving c)
+
+part-put-bare-end-2 : tie.Need-part-put-bare-end-2
+part-put-bare-end-2 c = search needs
+
+put-bare-requires-2 : tie.Need-put-bare-requires-2
+put-bare-requires-2 c κs = part-fits-last (saving (c .before))
+
+add-result : tie.Need-add-result
+add-result c = omega (arith, part-room (saving (c .before .before .before .before)))
+
+same-length-2 : tie.Need-same-length-2
+same-length-2 c = search needs
+
+returns-2 : tie.Need-returns-2
+returns-2 c = wrote-last (saving (c .before .before .before .before)) (record-wrote (actRec (save 0)) (c .before .before .put-bare2 .ensures))
+
+pub put-commands-spec : {M : Type 1} → statement M
+put-commands-spec =
+    tie.close
+    (tie.spec
+    add-put-skip
+    put-skip-requires
+    sub-put-bare
+    part-put-bare-start
+    part-put-bare-end
+    put-bare-requires
+    add-last
+    same-length
+    returns
+    sub-put-bare-2
+    part-put-bare-start-2
+    part-put-bare-end-2
+    put-bare-requires-2
+    add-result
+    same-length-2
+    returns-2)

@@ -1,0 +1,78 @@
+-- Two pieces: the buffer is lent whole to the first, and what is left of it to the second.
+use native.Mathlib.Omega.{arith}
+use lib.ListN.{length-append}
+use borrow.Author.Needs.{needs}
+use Prim.Native.Nat.{_+_}
+use Rattle.model.specs.Records.{recordBytes}
+use Rattle.model.specs.Trees.{beat, actRec}
+use Rattle.model.specs.Layout.{lastValue}
+use Rattle.records.specs.Blocks.{skipBytes}
+use Rattle.records.proofs.Over.{Part, part-first, part-at, part-fits-last}
+use Rattle.placing.specs.Placed.{tailBytes}
+use Rattle.placing.proofs.PieceBytes.{beat-laid}
+use Rattle.placing.proofs.pieces.put_tail.Statement.{statement}
+use Rattle.placing.proofs.pieces.put_tail.Tie as tie
+use Rattle.placing.proofs.pieces.put_tail.Reads as reads
+use Rattle.placing.proofs.pieces.put_tail.Lts as lts
+use Rattle.placing.proofs.pieces.last_value.Reads as last-value-reads
+use Rattle.records.proofs.put_bare.Reads as put-bare-reads
+use Rattle.records.proofs.skips.put_skip.Reads as put-skip-reads
+
+abbrev claims : lts.Claims
+claims = (put-skip-reads.Asked, put-skip-reads.Learnt, last-value-reads.Asked, last-value-reads.Learnt, put-bare-reads.Asked, put-bare-reads.Learnt)
+
+-- the SKIP is laid
+skipped : (c : lts.After-put-skip claims reads.Pre reads.Post) →
+    let a = c .before .before .before .before .before .args in
+    Part (tailBytes (a .n) (a .s)) (recordBytes (actRec (beat (lastValue (a .n) (a .s .tick + a .s .left))))) (a .out .now) (c .put-skip .last .0) (c .put-skip .result)
+skipped c =
+    let s = c .before .before .before .before .before in
+    part-first (skipBytes (s .args .s .wait + s .args .s .left)) (s .pre .2) (c .put-skip .ensures .laid) (c .put-skip .ensures .count)
+
+add-bound : tie.Need-add-bound
+add-bound c = search needs
+
+add-put-skip : tie.Need-add-put-skip
+add-put-skip c = search needs
+
+put-skip-requires : tie.Need-put-skip-requires
+put-skip-requires c κs =
+    let s = c .before .before .before .before in
+    let a = s .args in
+    omega (arith, s .pre .2, length-append (skipBytes (a .s .wait + a .s .left)) (recordBytes (actRec (beat (lastValue (a .n) (a .s .tick + a .s .left))))))
+
+sub-put-bare : tie.Need-sub-put-bare
+sub-put-bare c = part-at (skipped (c .before .before))
+
+part-put-bare-start : tie.Need-part-put-bare-start
+part-put-bare-start c = part-at (skipped (c .before .before))
+
+part-put-bare-end : tie.Need-part-put-bare-end
+part-put-bare-end c = search needs
+
+last-value-requires : tie.Need-last-value-requires
+last-value-requires c κs = search needs
+
+put-bare-requires : tie.Need-put-bare-requires
+put-bare-requires c κs = part-fits-last (skipped (c .before .before .before .before))
+
+same-length : tie.Need-same-length
+same-length c = search needs
+
+returns : tie.Need-returns
+returns c = beat-laid (skipped (c .before .before .before .before .before .before .before)) (c .before .before .before .last-value .ensures) (c .before .before .put-bare .ensures)
+
+pub put-tail-spec : {M : Type 1} → statement M
+put-tail-spec =
+    tie.close
+    (tie.spec
+    add-bound
+    add-put-skip
+    put-skip-requires
+    sub-put-bare
+    part-put-bare-start
+    part-put-bare-end
+    last-value-requires
+    put-bare-requires
+    same-length
+    returns)

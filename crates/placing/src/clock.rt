@@ -1,0 +1,148 @@
+// Where laying out stands, and what each piece makes of it. Nothing here divides: the ticks and windows left are counted down.
+ghost use mathlib.Core.Path.{_≡_};
+ghost use Prim.Native.Nat.{_+_, _-_, _^_, _≤_, min};
+ghost use mathlib.Core.Bool.{cond};
+ghost use lib.Dec.{ltb};
+ghost use Rattle.model.specs.Trees.{skip};
+ghost use Rattle.model.specs.Layout.{commands, fill};
+ghost use Rattle.model.specs.Replies.{longest};
+ghost use Rattle.placing.specs.States.{cap, Laying, After, Readied, Stepped, Idled, started};
+use model::Settings;
+use records::skips::skip_records;
+
+pub struct State {
+    pub tick: u32,
+    // The ticks left to the next multiple of the window; 0 at one, before its commands.
+    pub left: u32,
+    // The windows left from there to the next one with a SAVE.
+    pub windows: u32,
+    // The ticks of SKIP that wait for the next record.
+    pub wait: u32,
+    // The records laid, or one more than a file can have.
+    pub records: usize,
+}
+
+// Tick 0, before its commands.
+pub fn start() -> State
+    ensures { λ r. ⌜ r ≡ started ⌝ }
+{
+    State {
+        tick: 0,
+        left: 0,
+        windows: 0,
+        wait: 0,
+        records: 0,
+    }
+}
+
+// A count of records, and more.
+pub fn counted(records: usize, more: usize) -> usize
+    requires { ⌜ (records ≤ 5462) × (more ≤ 2 ^ 20) ⌝ }
+    ensures { λ r. ⌜ r ≡ cap (records + more) ⌝ }
+{
+    let n = records + more;
+    if 5461 < n {
+        return 5462;
+    }
+    n
+}
+
+// SKIPs up to the next multiple of the window, and its commands.
+pub fn commanded(n: Settings, s: State) -> State
+    requires { ⌜ Laying n s ⌝ }
+    ensures { λ r. ⌜ (After n (skip (s .left) (commands n (s .tick + s .left))) s r) × (longest n ≤ r .left) ⌝ }
+{
+    let bound = s.tick + s.left;
+    let skips = skip_records((s.wait + s.left) as u64);
+    if s.windows == 0 {
+        return State {
+            tick: bound + n.beat + n.save,
+            left: n.window - n.beat - n.save,
+            windows: n.spacing - 1,
+            wait: 0,
+            records: counted(s.records, skips + 2),
+        };
+    }
+    State {
+        tick: bound + n.beat,
+        left: n.window - n.beat,
+        windows: s.windows - 1,
+        wait: 0,
+        records: counted(s.records, skips + 1),
+    }
+}
+
+// What stands before a step of d ticks: it waits for the next multiple of the window where fewer are left.
+pub fn readied(n: Settings, s: State, d: u32) -> State
+    requires { ⌜ (Laying n s) × (1 ≤ d) × (d ≤ longest n) ⌝ }
+    ensures { λ r. ⌜ Readied n s d r ⌝ }
+{
+    if s.left < d {
+        return commanded(n, s);
+    }
+    s
+}
+
+// A step of d ticks, and what stands before it.
+pub fn stepped(n: Settings, from: State, d: u32) -> State
+    requires { ⌜ (Laying n from) × (1 ≤ d) × (d ≤ longest n) ⌝ }
+    ensures { λ r. ⌜ Stepped n from d r ⌝ }
+{
+    let s = readied(n, from, d);
+    State {
+        tick: s.tick + d,
+        left: s.left - d,
+        windows: s.windows,
+        wait: 0,
+        records: counted(s.records, skip_records(s.wait as u64) + 1),
+    }
+}
+
+fn least(x: u32, y: u32) -> u32
+    ensures { λ r. ⌜ r ≡ min x y ⌝ }
+{
+    if x < y {
+        return x;
+    }
+    y
+}
+
+// The single ticks of SKIP that this window takes: at most k, up to the tick `end`, and one where the commands led past it.
+pub fn idle_ticks(s: State, k: u32, end: u32) -> u32
+    ensures { λ r. ⌜ r ≡ min k (min (s .left) (cond (ltb (s .tick) end) (end - s .tick) 1)) ⌝ }
+{
+    if s.tick < end {
+        return least(k, least(s.left, end - s.tick));
+    }
+    least(k, least(s.left, 1))
+}
+
+// k single ticks of SKIP, no more than are left.
+pub fn idled(s: State, k: u32) -> State
+    requires { ⌜ (k ≤ s .left) × (s .tick ≤ 2 ^ 30) × (s .wait ≤ 2 ^ 30) × (k ≤ 2 ^ 30) ⌝ }
+    ensures { λ r. ⌜ Idled s k r ⌝ }
+{
+    State {
+        tick: s.tick + k,
+        left: s.left - k,
+        windows: s.windows,
+        wait: s.wait + k,
+        records: s.records,
+    }
+}
+
+// At most so many single ticks of SKIP while the tick is below `end`, window by window.
+pub fn filled(n: Settings, from: State, most: u32, end: u32) -> State
+    requires { ⌜ (Laying n from) × (end ≤ n .period + 1) ⌝ }
+    ensures { λ r. ⌜ After n (fill n most (from .tick) end) from r ⌝ }
+{
+    let mut s = from;
+    let mut k = most;
+    while (0 < k) & (s.tick < end) {
+        s = readied(n, s, 1);
+        let j = idle_ticks(s, k, end);
+        s = idled(s, j);
+        k -= j;
+    }
+    s
+}
