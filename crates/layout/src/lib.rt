@@ -3,7 +3,6 @@ mod measure;
 mod write;
 
 ghost use mathlib.Core.Path.{_≡_};
-ghost use Prim.Native.Nat.{_+_};
 ghost use lib.ListN.{length};
 ghost use Rattle.model.specs.Answers.{laidOut};
 ghost use Rattle.model.specs.Replies.{longest, shortWindow, layOutReply, layOutOut};

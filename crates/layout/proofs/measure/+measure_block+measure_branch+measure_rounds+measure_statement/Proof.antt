@@ -252,7 +252,9 @@ measure-branch-measure-block-requires-2 t c κs =
         v .before .before .pre .0,
         v .before .before .pre .1 .0 .early,
       ),
-      subst (Entered _ _ _ _) (sym (c .side2 .ensures)) (two-entered (v .before .before .pre .1 .0) (v .before .before .pre .1 .1) (v .stepped .ensures) (w .before .before .if1 .left) (passed-from (w .before .side .ensures) (w .measure-block .ensures)) (c .before .before .if2 .left)),
+      subst (Entered _ _ _ _) (sym (c .side2 .ensures))
+          (two-entered (v .before .before .pre .1 .0) (v .before .before .pre .1 .1) (v .stepped .ensures) (w .before .before .if1 .left)
+          (passed-from (w .before .side .ensures) (w .measure-block .ensures)) (c .before .before .if2 .left)),
     )
 
 measure-branch-returns-3 : (t : ℕ) → measure-branch-lts.Need-returns-3 (measure-branch-claims t) (measure-branch-at t) measure-branch.Post
@@ -283,7 +285,8 @@ measure-branch-add-t12 t c =
     let q = u .before .before .before .before .before in
     omega (
       arith,
-      two-goes (q .before .before .pre .1 .0) (q .before .before .pre .1 .1) (q .stepped .ensures) (u .before .before .if1 .left) (passed-from (u .before .side .ensures) (u .measure-block .ensures)) (v .if2 .left)
+      two-goes (q .before .before .pre .1 .0) (q .before .before .pre .1 .1) (q .stepped .ensures) (u .before .before .if1 .left)
+          (passed-from (u .before .side .ensures) (u .measure-block .ensures)) (v .if2 .left)
           (passed-from (w .before .side2 .ensures) (w .measure-block2 .ensures)) (c .before .before .if3 .left),
       both-inside (q .before .before .pre .1 .0)
           (q .before .before .pre .1 .1) (q .stepped .ensures),
