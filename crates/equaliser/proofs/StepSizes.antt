@@ -16,7 +16,7 @@ use Rattle.records.specs.Blocks.{skipRecords}
 use Rattle.records.proofs.Blocks.{size-waiting}
 use Rattle.reading.specs.Closing.{opensBlock, closingIn}
 use Rattle.reading.specs.Ranges.{Fills, firstPart, secondPart, afterFirst, testOf}
-use Rattle.reading.proofs.FirstKinds.{skip-is, act-is, if-is, while-is}
+use Rattle.reading.proofs.FirstKinds.{skip-is, act-is, if-is, while-is, task-loop}
 use Rattle.reading.proofs.Filled.{Inside}
 use Rattle.timing.specs.declared.ticks.Time.{Time}
 use Rattle.timing.specs.Times.{Gives, stepTicks, loopTicks}
@@ -90,7 +90,7 @@ module _ {s : List ℕ} {i to d : ℕ} {σ : Settings} {r : Record} (H : Here s 
       pub loop-size : opensBlock (r .kind) ≡ true → (r .kind ≡ IF → ⊥) → StepSize s i to d σ w (record { size = o; next = m + 1 })
       loop-size h x = record {
         right = λ b F.
-            let is = while-is (H .early) b F (ap opensBlock (sym kind) ∙ h) (λ e. x (kind ∙ e)) in
+            let is = while-is (H .early) b F (task-loop (H .early) b F (ap opensBlock (sym kind) ∙ h) (λ e. x (kind ∙ e))) in
             subst (λ (z : Block). IsStep i σ w z (record { size = o; next = m + 1 })) (sym is)
             (while-size (testOf (recordAt s i)) (recordAt s i .count) (firstPart b) (afterFirst b) (subst (Fills Task s i to d) is F) (first-inside H m mid Task b h F));
       }

@@ -22,7 +22,7 @@ use Rattle.records.proofs.Laying.{record-wrote, wrote-room, wrote-last}
 use Rattle.records.proofs.Blocks.{waiting-bytes, act-bytes, branch-bytes}
 use Rattle.reading.specs.Closing.{opensBlock, closingIn}
 use Rattle.reading.specs.Ranges.{Fills, firstSize, firstPart, secondPart, afterFirst, testOf}
-use Rattle.reading.proofs.FirstKinds.{IsAct, skip-is, act-is, if-is, while-is}
+use Rattle.reading.proofs.FirstKinds.{IsAct, skip-is, act-is, if-is, while-is, task-loop}
 use Rattle.reading.proofs.Filled.{Inside, fills-once}
 use Rattle.timing.proofs.Firsts.{Here, loop-count, first-inside, second-inside}
 use Rattle.equaliser.specs.declared.write.Written.{Written}
@@ -157,7 +157,7 @@ module _ {s : List ℕ} {i to d : ℕ} {σ : Settings} {w : ℕ} {old : List ℕ
 
         is-while : block ≡ the-while
         is-while =
-            while-is (F .early) block (F .task .fills) (sym (ap opensBlock kind-is) ∙ o) (λ h. x (kind-is ∙ h))
+            while-is (F .early) block (F .task .fills) (task-loop (F .early) block (F .task .fills) (sym (ap opensBlock kind-is) ∙ o) (λ h. x (kind-is ∙ h)))
             ∙ ap (λ (y : Rec). while (testOf y) (y .count) (firstPart block) (afterFirst block)) (sym (B .same))
 
         loop-left : Part (blockBytes (firstOut σ w the-while)) (loopBytes σ (recordOf r) (firstPart block)) old new at

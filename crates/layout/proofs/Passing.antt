@@ -6,6 +6,7 @@ use mathlib.Core.Bool.{Bool, true, false}
 use mathlib.Core.List.{List}
 use lib.Dec.{ltb}
 use borrow.Author.Tests.{ltb-true, ltb-false}
+use Rattle.model.specs.declared.Form.the-variants.{Equalised}
 use Rattle.model.specs.declared.Settings.{Settings}
 use Rattle.model.specs.Records.{kindAt}
 use Rattle.model.specs.Trees.{Block, nil, _⧺_, size}
@@ -14,15 +15,15 @@ use Rattle.model.proofs.Trees.{⧺-nil, ⧺-assoc}
 use Rattle.theory.proofs.Times.{time-⧺}
 use Rattle.theory.proofs.Windows.{Free}
 use Rattle.reading.specs.Closing.{closesBlock}
-use Rattle.reading.specs.Ranges.{firstSize, afterFirst}
+use Rattle.reading.specs.Ranges.{Stands, firstSize, afterFirst}
 use Rattle.reading.proofs.Filled.{size-first}
 use Rattle.placing.specs.declared.clock.State.{State}
 use Rattle.layout.specs.declared.measure.Passage.{Passage}
 use Rattle.placing.specs.States.{Laying, After}
-use Rattle.layout.specs.Ranges.{Stands, only}
+use Rattle.layout.specs.Ranges.{only}
 use Rattle.layout.specs.Measured.{laid, Passes, Entered, Statement, BlockPassed, StatementPassed}
 use Rattle.placing.proofs.Going.{after-nil, after-⧺}
-use Rattle.layout.proofs.Standing.{stands-once, stands-closed, stands-end, stands-some, stands-after}
+use Rattle.reading.proofs.Standing.{stands-once, stands-closed, stands-end, stands-some, stands-after}
 use Rattle.layout.proofs.Unrolled.{only-form, laid-first, laid-nil, laid-free}
 
 -- WHAT AN ANSWER SAYS
@@ -141,8 +142,8 @@ module _ {s : List ℕ} {from to : ℕ} {σ : Settings} {at state : State} {next
         pub passing-on : next < r .next
         passing-on = omega (arith, goes, stands-some left (P .rest .file .stands) l k)
 
-        pub behind : Stands s (r .next) to (afterFirst left)
-        behind = subst (λ (j : ℕ). Stands s j to (afterFirst left)) (sym goes) (stands-after left (P .rest .file .stands) l k)
+        pub behind : Stands Equalised s (r .next) to (afterFirst left)
+        behind = subst (λ (j : ℕ). Stands Equalised s j to (afterFirst left)) (sym goes) (stands-after left (P .rest .file .stands) l k)
 
         unfoldable pub passing-next : Passing s from to σ at (r .state) (r .next)
         passing-next = record {

@@ -15,16 +15,16 @@ use Rattle.model.proofs.Sound.{OfForm}
 use Rattle.theory.proofs.Times.{time-⧺}
 use Rattle.theory.proofs.Windows.{Free, later, free-tested, free-later}
 use Rattle.records.proofs.Blocks.{size-waiting}
-use Rattle.reading.specs.Ranges.{firstPart, secondPart, afterFirst, testOf}
+use Rattle.reading.specs.Ranges.{Stands, firstPart, secondPart, afterFirst, testOf}
 use Rattle.placing.specs.declared.clock.State.{State}
 use Rattle.layout.specs.declared.measure.Passage.{Passage}
 use Rattle.placing.specs.Merging.{waits}
 use Rattle.placing.specs.States.{cap, Shows, Laying, After, Stepped, aside}
-use Rattle.layout.specs.Ranges.{Stands, only}
+use Rattle.layout.specs.Ranges.{only}
 use Rattle.layout.specs.Measured.{laid, Passes, Met, Meeting, Meets, Entered, Statement, BlockPassed, StatementPassed}
 use Rattle.placing.proofs.Settling.{waits-⧺, size-settled}
 use Rattle.placing.proofs.Moves.{shows-on}
-use Rattle.layout.proofs.Standing.{if-at, first-side, second-side, sides-end}
+use Rattle.reading.proofs.Standing.{if-at, first-side, second-side, sides-end}
 use Rattle.layout.proofs.Unrolled.{laid-branch, laid-free, filled-ends}
 use Rattle.layout.proofs.Passing.{in-time, too-late, passed, passed-late, laying-on}
 use Rattle.layout.proofs.PassingSteps.{block, stands, answered-of}
@@ -95,10 +95,10 @@ module _ {s : List ℕ} {i to : ℕ} {σ : Settings} {from : State} (S : Stateme
   pub is-if : block S ≡ branch q one two (afterFirst (block S))
   is-if = if-at (block S) (stands S) (S .early) (S .goes-on) k
 
-  pub one-there : Stands s (i + 1) to one
+  pub one-there : Stands Equalised s (i + 1) to one
   one-there = first-side (block S) (stands S) (S .early) (S .goes-on) k
 
-  pub two-there : Stands s (i + 1 + size one + 1) to two
+  pub two-there : Stands Equalised s (i + 1 + size one + 1) to two
   two-there = second-side (block S) (stands S) (S .early) (S .goes-on) k
 
   pub both-inside : i + 1 + size one + 1 + size two < to
@@ -191,8 +191,8 @@ module _ {s : List ℕ} {i to : ℕ} {σ : Settings} {from : State} (S : Stateme
 
         -- THE SECOND
 
-        pub two-at : Stands s (a .next + 1) to two
-        two-at = subst (λ (j : ℕ). Stands s j to two) (sym (ap (λ (j : ℕ). j + 1) one-goes)) two-there
+        pub two-at : Stands Equalised s (a .next + 1) to two
+        two-at = subst (λ (j : ℕ). Stands Equalised s j to two) (sym (ap (λ (j : ℕ). j + 1) one-goes)) two-there
 
         unfoldable pub two-entered : Entered s (a .next + 1) to σ (aside test)
         two-entered = record { file = record { block = two; stands = two-at; inside = S .entered .file .inside }; laying = side-laying; free = side-free }

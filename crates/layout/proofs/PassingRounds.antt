@@ -14,14 +14,16 @@ use Rattle.model.specs.Placement.{Fits}
 use Rattle.model.proofs.Sound.{OfForm}
 use Rattle.theory.proofs.Times.{time-⧺}
 use Rattle.theory.proofs.Windows.{Free}
-use Rattle.reading.specs.Ranges.{firstPart, afterFirst, testOf}
+use Rattle.reading.specs.Closing.{opensBlock}
+use Rattle.reading.specs.Ranges.{Stands, firstPart, afterFirst, testOf}
 use Rattle.placing.specs.declared.clock.State.{State}
 use Rattle.layout.specs.declared.measure.Passage.{Passage}
 use Rattle.placing.specs.States.{Laying, After, Stepped}
-use Rattle.layout.specs.Ranges.{Stands, only}
+use Rattle.layout.specs.Ranges.{only}
 use Rattle.layout.specs.Measured.{laid, Passes, Entered, Statement, BlockPassed, StatementPassed, Rounds}
 use Rattle.placing.proofs.Going.{after-nil, after-⧺}
-use Rattle.layout.proofs.Standing.{times-at, body-stands, body-ends, some-rounds}
+use Rattle.reading.proofs.Standing.{times-at, body-stands, body-ends}
+use Rattle.layout.proofs.Standing.{some-rounds}
 use Rattle.layout.proofs.Unrolled.{rounds, rounds-none, rounds-more, laid-times, laid-free}
 use Rattle.layout.proofs.Passing.{in-time, too-late, passed, passed-late, laying-on}
 use Rattle.layout.proofs.PassingSteps.{block, stands, answered-of}
@@ -54,14 +56,14 @@ module _ {s : List ℕ} {i to : ℕ} {σ : Settings} {from : State} (S : Stateme
   pub is-times : block S ≡ times test count body (afterFirst (block S))
   is-times = times-at (block S) (stands S) (S .early) (S .goes-on) k
 
-  pub body-there : Stands s (i + 1) to body
-  body-there = body-stands (block S) (stands S) (S .early) (S .goes-on) k
+  pub body-there : Stands Equalised s (i + 1) to body
+  body-there = body-stands (block S) (stands S) (S .early) (S .goes-on) (ap opensBlock k) (λ e. omega (arith, e, k))
 
   pub body-form : OfForm Equalised body
   body-form = body-there .fills .of-form
 
   pub body-inside : i + 1 + size body < to
-  body-inside = body-ends (block S) (stands S) (S .early) (S .goes-on) k
+  body-inside = body-ends (block S) (stands S) (S .early) (S .goes-on) (ap opensBlock k) (λ e. omega (arith, e, k))
 
   -- the rounds to walk, by a count that was read from its record
   pub rounds-there : {c n : ℕ} → c ≡ count → Rounds s (i + 1) to c n → Rounds s (i + 1) to count n

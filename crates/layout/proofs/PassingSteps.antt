@@ -18,17 +18,18 @@ use Rattle.model.proofs.Sound.{OfForm}
 use Rattle.theory.proofs.Sequences.{either}
 use Rattle.records.specs.declared.Record.{Record}
 use Rattle.records.specs.Records.{recordOf}
-use Rattle.reading.specs.Ranges.{firstSize, afterFirst}
+use Rattle.reading.specs.Ranges.{Stands, firstSize, afterFirst}
 use Rattle.reading.proofs.FirstKinds.{IsAct}
 use Rattle.timing.specs.Times.{stepTicks}
 use Rattle.timing.proofs.Firsts.{act-ticks}
 use Rattle.placing.specs.declared.clock.State.{State}
 use Rattle.layout.specs.declared.measure.Passage.{Passage}
 use Rattle.placing.specs.States.{Layable, After, Stepped}
-use Rattle.layout.specs.Ranges.{Stands, only}
+use Rattle.layout.specs.Ranges.{only}
 use Rattle.layout.specs.Measured.{laid, Passes, Statement, StatementPassed}
 use Rattle.placing.proofs.Filling.{skip-within, skip-late}
-use Rattle.layout.proofs.Standing.{stands-once, skip-at, act-at}
+use Rattle.reading.proofs.Standing.{stands-once, skip-at}
+use Rattle.layout.proofs.Standing.{act-at}
 use Rattle.layout.proofs.Unrolled.{laid-skip, laid-act}
 use Rattle.layout.proofs.Passing.{passed}
 
@@ -46,7 +47,7 @@ module _ {s : List ℕ} {i to : ℕ} {σ : Settings} {from : State} (S : Stateme
   abbrev pub block : Block
   block = S .entered .file .block
 
-  pub stands : Stands s i to block
+  pub stands : Stands Equalised s i to block
   stands = S .entered .file .stands
 
   -- what holds of the block that was asked about holds of every block at its place

@@ -28,11 +28,11 @@ use Rattle.reading.specs.Answers.{Reads}
 use Rattle.reading.proofs.Entry.{read-settings, read-sound, kept-refusal}
 use Rattle.placing.specs.declared.clock.State.{State}
 use Rattle.placing.specs.States.{Layable, After, started}
-use Rattle.layout.specs.Ranges.{SoundFile}
+use Rattle.reading.specs.Ranges.{SoundFile}
 use Rattle.layout.specs.Measured.{FilePassed}
 use Rattle.layout.specs.Written.{FileFits}
 use Rattle.layout.specs.Answers.{InRange, laidReply, LaysOut}
-use Rattle.layout.proofs.Standing.{stands-file}
+use Rattle.reading.proofs.Standing.{stands-file}
 use Rattle.layout.proofs.Whole.{opened-total, total-is, size-is}
 
 -- ROWS
@@ -86,7 +86,7 @@ module _ {file : List ℕ} {σ : Settings} (L : Layable σ) {r : State} (F : Fil
 
 -- they are not: the file is laid up to r, and m records of SKIP follow
 pub record InTime (file : List ℕ) (σ : Settings) (r : State) (m : ℕ) : Type 0 where
-  pub sound : SoundFile file
+  pub sound : SoundFile Equalised file
   pub settings : Layable σ
   pub passed : FilePassed file σ r
   pub short : r .tick + r .left + σ .beat ≤ σ .period
@@ -115,7 +115,7 @@ module _ {file : List ℕ} {σ : Settings} {r : State} {m : ℕ} (T : InTime fil
   -- row 9 decides
   timed : (room : ℕ) → laidReply σ tree room ≡ turnDown 9 (noRoom room (size result)) (finished (12 * size result ∷ total σ tree ∷ []))
   timed room =
-      let l = total-longer σ tree (stands-file file (T .sound) .fills .of-form) in
+      let l = total-longer σ tree (stands-file Equalised file (T .sound) .fills .of-form) in
       let h : total σ tree ≤ σ .period = omega (arith, totals, T .short) in
       rw (wide-window (T .settings), le-ltb (σ .period) (time σ tree) (omega arith), le-ltb (σ .period) (total σ tree) h)
 
@@ -164,7 +164,7 @@ module _ {file : List ℕ} {σ : Settings} {r : State} {m : ℕ} (T : InTime fil
 -- THE CALL
 
 module _ (s file : List ℕ) (σ : Settings) (R : Reads s Equalised file (Valid σ)) where
-  pub sound-file : SoundFile file
+  pub sound-file : SoundFile Equalised file
   sound-file = record { sound = read-sound s Equalised file σ R }
 
   pub settings-in-range : InRange σ

@@ -8,6 +8,7 @@ use mathlib.Core.List.{List, _++_, append-assoc}
 use lib.ListN.{length, length-append}
 use lib.Dec.{eqb}
 use borrow.Author.Tests.{eqb-true, eqb-false, eq-eqb, ne-eqb}
+use Rattle.model.specs.declared.Form.the-variants.{Equalised}
 use Rattle.model.specs.declared.Settings.{Settings}
 use Rattle.model.specs.Records.{BEAT}
 use Rattle.model.specs.Trees.{beat, save, Block, nil, skip, act, _⧺_, size, fileTree}
@@ -25,14 +26,14 @@ use Rattle.placing.specs.declared.clock.State.{State}
 use Rattle.layout.specs.declared.measure.Passage.{Passage}
 use Rattle.placing.specs.Merging.{settled, waits}
 use Rattle.placing.specs.States.{Layable, Shows, Laying, After, started}
-use Rattle.layout.specs.Ranges.{SoundFile}
+use Rattle.reading.specs.Ranges.{SoundFile}
 use Rattle.layout.specs.Measured.{laid, Entered, BlockPassed, FilePassed}
 use Rattle.placing.specs.Placed.{bytesOf, Lays, tailBytes}
 use Rattle.layout.specs.Written.{BlockFits, BlockLaid, FileFits}
 use Rattle.placing.proofs.Settling.{settled-⧺, waits-⧺, merge-settled, Alike, alike-eq, alike-sym, alike-trans, alike-skip}
 use Rattle.placing.proofs.Going.{after-⧺, after-alike}
 use Rattle.placing.proofs.Ticking.{left-is}
-use Rattle.layout.proofs.Standing.{stands-file}
+use Rattle.reading.proofs.Standing.{stands-file}
 
 -- TICK 0
 
@@ -72,9 +73,9 @@ module _ {σ : Settings} (L : Layable σ) {o : State} (A : After σ opening star
   start-tick : o .tick ≡ σ .beat + σ .save
   start-tick = omega (arith, A .tick)
 
-  pub file-entered : {s : List ℕ} → SoundFile s → o .tick ≤ σ .period → Entered s 0 (length s / 12) σ o
+  pub file-entered : {s : List ℕ} → SoundFile Equalised s → o .tick ≤ σ .period → Entered s 0 (length s / 12) σ o
   file-entered {s} S h = record {
-    file = record { block = fileTree s; stands = stands-file s S; inside = omega arith };
+    file = record { block = fileTree s; stands = stands-file Equalised s S; inside = omega arith };
     laying = record { settings = L; shows = A .shows; within = h };
     free = subst (Free σ 0) (sym start-tick) (free-start σ (L .fits));
   }
@@ -93,9 +94,9 @@ module _ {σ : Settings} (L : Layable σ) {o : State} (A : After σ opening star
   pub file-late : {s : List ℕ} → σ .period < o .tick → FilePassed s σ o
   file-late {s} h = record { late = λ l. h; after = λ l. absurd (omega (arith, opened-lasts (fileTree s))) }
 
-  pub file-passed : {s : List ℕ} {r : Passage} → SoundFile s → BlockPassed s 0 (length s / 12) σ o r → FilePassed s σ (r .state)
+  pub file-passed : {s : List ℕ} {r : Passage} → SoundFile Equalised s → BlockPassed s 0 (length s / 12) σ o r → FilePassed s σ (r .state)
   file-passed {s} S B =
-      let P = B .right (fileTree s) (stands-file s S) in
+      let P = B .right (fileTree s) (stands-file Equalised s S) in
       let e = opened-lasts (fileTree s) in
       record { late = λ l. P .late (omega arith); after = λ l. after-opened (fileTree s) (P .after (omega arith)) }
 
@@ -249,7 +250,7 @@ module _ {s : List ℕ} {σ : Settings} {out : List ℕ} (F : FileFits s σ out)
 
     module _ {ys : List ℕ} {r : Passage} (B : BlockLaid s 0 (length s / 12) σ o (lent new at) ys r) where
       lays : Lays σ (laid σ (fileTree s) (o .tick)) o (lent new at) ys (r .state)
-      lays = B .right (fileTree s) (stands-file s (F .sound)) .lays
+      lays = B .right (fileTree s) (stands-file Equalised s (F .sound)) .lays
 
       counts : r .state .records ≡ o .records + size middle
       counts = omega (arith, lays .after .records, A .records, ap size middle-is, few-middle)

@@ -18,7 +18,7 @@ use Rattle.layout.specs.Ranges.{only}
 use Rattle.layout.specs.Measured.{laid}
 use Rattle.layout.specs.Written.{BlockFits, StatementFits, LaysTo, BlockLaid, StatementLaid}
 use Rattle.placing.proofs.Settling.{alike-eq}
-use Rattle.layout.proofs.Standing.{stands-once, stands-closed, stands-end}
+use Rattle.reading.proofs.Standing.{stands-once, stands-closed, stands-end}
 use Rattle.layout.proofs.Unrolled.{laid-first, laid-nil}
 use Rattle.placing.proofs.Writing.{laidBytes, Writing, writing-start, writing-same, writing-room, writing-next, writing-end}
 use Rattle.layout.proofs.Passing.{Passing, passing-start, statement-next, passing-on, passing-next}

@@ -26,7 +26,7 @@ use Rattle.layout.specs.Measured.{laid, Meeting, Meets, Entered, Stateme
 use Rattle.placing.specs.Placed.{bytesOf, stepBytes, StepLaid}
 use Rattle.layout.specs.Written.{LaidFits, sideBytes, SideFits, SideLaid, StatementFits, StatementLaid}
 use Rattle.placing.proofs.Settling.{size-settled, bytes-settled}
-use Rattle.layout.proofs.Standing.{if-at}
+use Rattle.reading.proofs.Standing.{if-at}
 use Rattle.layout.proofs.Unrolled.{laid-branch}
 use Rattle.layout.proofs.PassingBranches.{one, two, is-if, one-there, end, whole, laid-whole, not-before, passed-from}
 use Rattle.layout.proofs.PassingBranches.{one-entered, two-entered, two-at, one-goes, two-goes, meeting, branch-passed, one-after, two-after}

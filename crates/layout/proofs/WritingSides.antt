@@ -22,7 +22,7 @@ use Rattle.layout.specs.Measured.{laid}
 use Rattle.placing.specs.Placed.{bytesOf, closingBytes, EndFits}
 use Rattle.layout.specs.Written.{BlockFits, BlockLaid, LaysTo, sideBytes, SideFits, SideLaid}
 use Rattle.placing.proofs.Settling.{waits-⧺, size-settled, size-merge, bytes-settled, bytes-merge}
-use Rattle.layout.proofs.Standing.{stands-once}
+use Rattle.reading.proofs.Standing.{stands-once}
 use Rattle.placing.proofs.Writing.{laidBytes}
 use Rattle.layout.proofs.Passing.{laying-on}
 

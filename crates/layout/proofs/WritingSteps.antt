@@ -3,6 +3,7 @@ use Prim.Native.Nat.{ℕ, _+_, _≤_}
 use mathlib.Core.Path.{_≡_, refl, ap, sym, subst, _∙_}
 use mathlib.Core.List.{List, _++_}
 use lib.ListN.{length}
+use Rattle.model.specs.declared.Form.the-variants.{Equalised}
 use Rattle.model.specs.declared.Settings.{Settings}
 use Rattle.model.specs.Records.{Rec, recordAt, SKIP, IF, TIMES}
 use Rattle.model.specs.Trees.{Act, Block, nil, skip, act, _⧺_, actRec}
@@ -13,19 +14,19 @@ use Rattle.records.specs.declared.Record.{Record}
 use Rattle.records.specs.Records.{recordOf}
 use Rattle.records.specs.Blocks.{skipBytes}
 use Rattle.records.proofs.Blocks.{waiting-bytes, act-bytes}
-use Rattle.reading.specs.Ranges.{firstSize, afterFirst}
+use Rattle.reading.specs.Ranges.{Stands, firstSize, afterFirst}
 use Rattle.reading.proofs.FirstKinds.{IsAct}
 use Rattle.timing.specs.Times.{stepTicks}
 use Rattle.placing.specs.declared.clock.State.{State}
 use Rattle.layout.specs.declared.measure.Passage.{Passage}
 use Rattle.placing.specs.Merging.{waits}
-use Rattle.layout.specs.Ranges.{Stands, only}
+use Rattle.layout.specs.Ranges.{only}
 use Rattle.layout.specs.Measured.{laid, Passes, StatementPassed}
 use Rattle.placing.specs.Placed.{bytesOf, Room, Lays, stepBytes, StepLaid}
 use Rattle.layout.specs.Written.{LaidFits, StatementFits, LaysTo, StatementLaid}
 use Rattle.placing.proofs.Settling.{bytes-settled}
 use Rattle.placing.proofs.Filling.{skip-within}
-use Rattle.layout.proofs.Standing.{stands-once, skip-at}
+use Rattle.reading.proofs.Standing.{stands-once, skip-at}
 use Rattle.layout.proofs.Unrolled.{laid-skip, laid-act}
 use Rattle.layout.proofs.Passing.{passed}
 use Rattle.layout.proofs.PassingSteps.{kind-there, count-there, is-act, act-lasts}
@@ -59,7 +60,7 @@ module _ {s : List ℕ} {i to : ℕ} {σ : Settings} {from : State} {old : List 
   abbrev pub block : Block
   block = F .statement .entered .file .block
 
-  pub stands : Stands s i to block
+  pub stands : Stands Equalised s i to block
   stands = F .statement .entered .file .stands
 
   -- where the block is known to be b, and its first statement is laid as c

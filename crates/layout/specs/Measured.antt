@@ -3,6 +3,7 @@ use Prim.Native.Nat.{ℕ, _+_, _≤_, _<_, max}
 use mathlib.Core.Path.{_≡_}
 use mathlib.Core.Bool.{false}
 use mathlib.Core.List.{List}
+use Rattle.model.specs.declared.Form.the-variants.{Equalised}
 use Rattle.model.specs.declared.Settings.{Settings}
 use Rattle.model.specs.Records.{kindAt}
 use Rattle.model.specs.Trees.{Block, size, fileTree}
@@ -11,11 +12,11 @@ use Rattle.model.specs.Equalising.{merge}
 use Rattle.model.specs.Layout.{copies, unroll, filled, lay, opened}
 use Rattle.theory.proofs.Windows.{Free}
 use Rattle.reading.specs.Closing.{closesBlock}
-use Rattle.reading.specs.Ranges.{firstSize}
+use Rattle.reading.specs.Ranges.{Stands, InFile, firstSize}
 use Rattle.placing.specs.declared.clock.State.{State}
 use Rattle.layout.specs.declared.measure.Passage.{Passage}
 use Rattle.placing.specs.States.{cap, Shows, Laying, After, aside, started}
-use Rattle.layout.specs.Ranges.{Stands, InFile, only}
+use Rattle.layout.specs.Ranges.{only}
 
 -- an equalised block laid from tick t on
 unfoldable pub laid : Settings → Block → ℕ → Block
@@ -47,7 +48,7 @@ pub record Meets (σ : Settings) (s x y r : State) : Type 0 where
 
 -- a block of the file is laid from s on
 pub record Entered (s : List ℕ) (i to : ℕ) (σ : Settings) (at : State) : Type 0 where
-  pub file : InFile s i to
+  pub file : InFile Equalised s i to
   pub laying : Laying σ at
   pub free : Free σ 0 (at .tick)
 
@@ -59,15 +60,15 @@ pub record Statement (s : List ℕ) (i to : ℕ) (σ : Settings) (at : State) : 
 
 -- what measuring answers for a block and for a statement of the file
 pub record BlockPassed (s : List ℕ) (i to : ℕ) (σ : Settings) (at : State) (r : Passage) : Type 0 where
-  pub right : (b : Block) → Stands s i to b → Passes σ (laid σ b (at .tick)) (i + size b) at r
+  pub right : (b : Block) → Stands Equalised s i to b → Passes σ (laid σ b (at .tick)) (i + size b) at r
 
 pub record StatementPassed (s : List ℕ) (i to : ℕ) (σ : Settings) (at : State) (r : Passage) : Type 0 where
-  pub right : (b : Block) → Stands s i to b → Passes σ (laid σ (only b) (at .tick)) (i + firstSize b) at r
+  pub right : (b : Block) → Stands Equalised s i to b → Passes σ (laid σ (only b) (at .tick)) (i + firstSize b) at r
 
 -- n rounds of the body at i are as many as c: none are walked of an empty one
 pub record Rounds (s : List ℕ) (i to c n : ℕ) : Type 0 where
-  pub same : (a : Block) → Stands s i to a → copies n (unroll a) ≡ copies c (unroll a)
-  pub none : (a : Block) → Stands s i to a → n ≡ 0 → (c ≡ 0 → ⊥) → size a ≡ 0
+  pub same : (a : Block) → Stands Equalised s i to a → copies n (unroll a) ≡ copies c (unroll a)
+  pub none : (a : Block) → Stands Equalised s i to a → n ≡ 0 → (c ≡ 0 → ⊥) → size a ≡ 0
 
 -- the whole file from tick 0 on, up to its last step
 pub record FilePassed (s : List ℕ) (σ : Settings) (r : State) : Type 0 where

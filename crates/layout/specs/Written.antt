@@ -3,6 +3,7 @@ use Prim.Native.Nat.{ℕ, _+_, _≤_}
 use mathlib.Core.Path.{_≡_}
 use mathlib.Core.List.{List, _++_}
 use lib.ListN.{length}
+use Rattle.model.specs.declared.Form.the-variants.{Equalised}
 use Rattle.model.specs.declared.Settings.{Settings}
 use Rattle.model.specs.Records.{Rec, recordBytes}
 use Rattle.model.specs.Trees.{Block, size, fileTree}
@@ -10,12 +11,12 @@ use Rattle.model.specs.Times.{time}
 use Rattle.model.specs.Equalising.{merge}
 use Rattle.model.specs.Layout.{filled, layout, total}
 use Rattle.records.specs.Blocks.{blockBytes, Wrote}
-use Rattle.reading.specs.Ranges.{firstSize}
+use Rattle.reading.specs.Ranges.{SoundFile, Stands, firstSize}
 use Rattle.placing.specs.declared.clock.State.{State}
 use Rattle.layout.specs.declared.measure.Passage.{Passage}
 use Rattle.placing.specs.States.{Layable}
 use Rattle.placing.specs.Placed.{Room, Lays}
-use Rattle.layout.specs.Ranges.{SoundFile, Stands, only}
+use Rattle.layout.specs.Ranges.{only}
 use Rattle.layout.specs.Measured.{laid, Entered, Statement}
 
 -- the block or statement that is laid as c next, and that ends in time
@@ -43,7 +44,7 @@ pub record SideFits (s : List ℕ) (i to : ℕ) (σ : Settings) (at : State) (e 
   pub room : length (sideBytes σ at (entered .file .block) e x) ≤ length out
 
 pub record SideLaid (s : List ℕ) (i to : ℕ) (σ : Settings) (at : State) (e : ℕ) (x : Rec) (old new : List ℕ) (n : ℕ) : Type 0 where
-  pub right : (b : Block) → Stands s i to b → Wrote (sideBytes σ at b e x) old new n
+  pub right : (b : Block) → Stands Equalised s i to b → Wrote (sideBytes σ at b e x) old new n
 
 -- c is laid from s on, and the next record is j
 pub record LaysTo (σ : Settings) (c : Block) (j : ℕ) (s : State) (old new : List ℕ) (r : Passage) : Type 0 where
@@ -52,14 +53,14 @@ pub record LaysTo (σ : Settings) (c : Block) (j : ℕ) (s : State) (old new : L
 
 -- what is written for a block or a statement of the file
 pub record BlockLaid (s : List ℕ) (i to : ℕ) (σ : Settings) (at : State) (old new : List ℕ) (r : Passage) : Type 0 where
-  pub right : (b : Block) → Stands s i to b → LaysTo σ (laid σ b (at .tick)) (i + size b) at old new r
+  pub right : (b : Block) → Stands Equalised s i to b → LaysTo σ (laid σ b (at .tick)) (i + size b) at old new r
 
 pub record StatementLaid (s : List ℕ) (i to : ℕ) (σ : Settings) (at : State) (old new : List ℕ) (r : Passage) : Type 0 where
-  pub right : (b : Block) → Stands s i to b → LaysTo σ (laid σ (only b) (at .tick)) (i + firstSize b) at old new r
+  pub right : (b : Block) → Stands Equalised s i to b → LaysTo σ (laid σ (only b) (at .tick)) (i + firstSize b) at old new r
 
 -- the whole file, up to its last step and then the tail
 pub record FileFits (s : List ℕ) (σ : Settings) (out : List ℕ) : Type 0 where
-  pub sound : SoundFile s
+  pub sound : SoundFile Equalised s
   pub settings : Layable σ
   pub in-time : total σ (fileTree s) ≤ σ .period
   pub few : size (layout σ (fileTree s)) ≤ 5461

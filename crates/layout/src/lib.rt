@@ -4,9 +4,10 @@ mod write;
 
 ghost use mathlib.Core.Path.{_≡_};
 ghost use lib.ListN.{length};
+ghost use Rattle.model.specs.declared.Form.the-variants.{Equalised};
 ghost use Rattle.model.specs.Answers.{laidOut};
 ghost use Rattle.model.specs.Replies.{longest, shortWindow, layOutReply, layOutOut};
-ghost use Rattle.layout.specs.Ranges.{SoundFile};
+ghost use Rattle.reading.specs.Ranges.{SoundFile};
 ghost use Rattle.layout.specs.Answers.{InRange, LaysOut};
 use measure::measure_file;
 use model::Form;
@@ -37,7 +38,7 @@ fn short_window(n: Settings) -> bool
 
 // A file that was read: refusals 7, 8 and 9, or the laid file over the front of out.
 fn lay_out_sound(file: &[u8], n: Settings, out: &mut [u8]) -> LaidOut
-    requires { ⌜ (SoundFile (now file)) × (InRange n) ⌝ }
+    requires { ⌜ (SoundFile Equalised (now file)) × (InRange n) ⌝ }
     ensures { λ r. ⌜ LaysOut (now (file .entry)) n (now (out .entry)) (now (out .exit)) r ⌝ }
 {
     if short_window(n) {

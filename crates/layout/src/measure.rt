@@ -2,9 +2,10 @@
 ghost use mathlib.Core.Path.{_≡_};
 ghost use Prim.Native.Nat.{_*_, _+_, _≤_, _<_, max};
 ghost use lib.ListN.{length};
+ghost use Rattle.model.specs.declared.Form.the-variants.{Equalised};
 ghost use Rattle.model.specs.Records.{kindAt, recordAt, IF, TIMES};
 ghost use Rattle.placing.specs.States.{Layable, aside};
-ghost use Rattle.layout.specs.Ranges.{SoundFile};
+ghost use Rattle.reading.specs.Ranges.{SoundFile};
 ghost use Rattle.layout.specs.Measured.{Meeting, Meets, Entered, Statement, BlockPassed, StatementPassed, Rounds, FilePassed};
 use model::Settings;
 use placing::clock::State;
@@ -175,7 +176,7 @@ pub fn measure_block(s: &[u8], from: usize, to: usize, n: Settings, at: State) -
 
 // The whole file, from tick 0 up to its last step.
 pub fn measure_file(s: &[u8], n: Settings) -> State
-    requires { ⌜ (SoundFile (now s)) × (Layable n) ⌝ }
+    requires { ⌜ (SoundFile Equalised (now s)) × (Layable n) ⌝ }
     ensures { λ r. ⌜ FilePassed (now (s .entry)) n r ⌝ }
 {
     let opened = commanded(n, start());

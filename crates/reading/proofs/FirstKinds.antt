@@ -6,7 +6,7 @@ use mathlib.Core.Bool.{true, false}
 use mathlib.Core.List.{List}
 use Rattle.model.specs.declared.Form.{Form}
 use Rattle.model.specs.declared.Form.the-variants.{Task}
-use Rattle.model.specs.Records.{Rec, kindAt, recordAt, SKIP, IF, TIMES}
+use Rattle.model.specs.Records.{Rec, kindAt, recordAt, SKIP, IF, WHILE, TIMES}
 use Rattle.model.specs.Trees.{Act, Block, nil, skip, act, branch, while, times, actRec}
 use Rattle.model.proofs.Shapes.{by-act}
 use Rattle.reading.specs.Closing.{opensBlock}
@@ -67,12 +67,19 @@ module _ {s : List ℕ} {i to d : ℕ} (l : i < to) where
   times-is (while q n a b) F k = absurd (omega (arith, k, kind-is s i (F .stands .0 .is)))
   times-is (times q n a b) F k = ap (λ (r : Rec). times (testOf r) (r .count) a b) (sym (F .stands .0 .is))
 
+  pub while-is : {f : Form} (b : Block) → Fills f s i to d b → kindAt s i ≡ WHILE → b ≡ while (testOf (recordAt s i)) (recordAt s i .count) (firstPart b) (afterFirst b)
+  while-is nil F k = absurd (omega (arith, F .ends))
+  while-is (skip n b) F k = absurd (omega (arith, k, kind-is s i (F .stands .0)))
+  while-is (act p b) F k = absurd (shut s i (F .stands .0) (act-opens p) (ap opensBlock k))
+  while-is (branch q a e b) F k = absurd (omega (arith, k, kind-is s i (F .stands .0 .is)))
+  while-is (while q n a b) F k = ap (λ (r : Rec). while (testOf r) (r .count) a b) (sym (F .stands .0 .is))
+  while-is (times q n a b) F k = absurd (omega (arith, k, kind-is s i (F .stands .0 .is)))
+
   -- a task has no other loop
-  pub while-is : (b : Block) → Fills Task s i to d b → opensBlock (kindAt s i) ≡ true → (kindAt s i ≡ IF → ⊥)
-      → b ≡ while (testOf (recordAt s i)) (recordAt s i .count) (firstPart b) (afterFirst b)
-  while-is nil F o k = absurd (omega (arith, F .ends))
-  while-is (skip n b) F o k = absurd (shut s i (F .stands .0) refl o)
-  while-is (act p b) F o k = absurd (shut s i (F .stands .0) (act-opens p) o)
-  while-is (branch q a e b) F o k = absurd (k (kind-is s i (F .stands .0 .is)))
-  while-is (while q n a b) F o k = ap (λ (r : Rec). while (testOf r) (r .count) a b) (sym (F .stands .0 .is))
-  while-is (times q n a b) F o k = let z : _≡_ {A = ℕ} 0 1 = cc (F .of-form .0 .kind) in absurd (omega arith)
+  pub task-loop : (b : Block) → Fills Task s i to d b → opensBlock (kindAt s i) ≡ true → (kindAt s i ≡ IF → ⊥) → kindAt s i ≡ WHILE
+  task-loop nil F o k = absurd (omega (arith, F .ends))
+  task-loop (skip n b) F o k = absurd (shut s i (F .stands .0) refl o)
+  task-loop (act p b) F o k = absurd (shut s i (F .stands .0) (act-opens p) o)
+  task-loop (branch q a e b) F o k = absurd (k (kind-is s i (F .stands .0 .is)))
+  task-loop (while q n a b) F o k = kind-is s i (F .stands .0 .is)
+  task-loop (times q n a b) F o k = let z : _≡_ {A = ℕ} 0 1 = cc (F .of-form .0 .kind) in absurd (omega arith)

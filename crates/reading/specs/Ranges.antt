@@ -1,13 +1,16 @@
 -- A block that fills a range of a file's records: what the contracts over ranges speak of.
 use mathlib.Core.Path.{_≡_}
 use mathlib.Core.List.{List}
-use Prim.Native.Nat.{ℕ, _+_, _*_, _≤_}
+use mathlib.Core.Bool.{true}
+use Prim.Native.Nat.{ℕ, _+_, _*_, _≤_, _<_}
 use lib.ListN.{length}
 use Rattle.model.specs.declared.Form.{Form}
-use Rattle.model.specs.Records.{Rec}
+use Rattle.model.specs.Records.{Rec, kindAt}
 use Rattle.model.specs.Trees.{Test, Block, nil, skip, act, branch, while, times, size, depth}
+use Rattle.model.specs.Refusals.{sound, fault}
 use Rattle.model.proofs.Stands.{At}
 use Rattle.model.proofs.Sound.{OfForm}
+use Rattle.reading.specs.Closing.{closesBlock}
 
 -- the records from i up to, not including, to are those of b, a block of form f that nests at most d deep
 pub record Fills (f : Form) (s : List ℕ) (i to d : ℕ) (b : Block) : Type 0 where
@@ -15,6 +18,22 @@ pub record Fills (f : Form) (s : List ℕ) (i to d : ℕ) (b : Block) : Type 0 w
   pub ends : i + size b ≡ to
   pub shallow : depth b ≤ d
   pub of-form : OfForm f b
+
+-- a file that passed the scan
+pub record SoundFile (f : Form) (file : List ℕ) : Type 0 where
+  pub sound : fault f file ≡ sound
+
+-- b stands at i of the records up to `to`: it ends at the ELSE or END that closes it, or with them
+pub record Stands (f : Form) (s : List ℕ) (i to : ℕ) (b : Block) : Type 0 where
+  pub fills : Fills f s i (i + size b) (depth b) b
+  pub ends : i + size b ≤ to
+  pub stops : i + size b < to → closesBlock (kindAt s (i + size b)) ≡ true
+
+-- a block stands at i
+pub record InFile (f : Form) (s : List ℕ) (i to : ℕ) : Type 0 where
+  pub block : Block
+  pub stands : Stands f s i to block
+  pub inside : 12 * to ≤ length s
 
 -- a range of the records of s
 pub record Ranged (s : List ℕ) (i to : ℕ) : Type 0 where

@@ -8,7 +8,7 @@ use Rattle.model.specs.Trees.{Block, nil, size}
 use Rattle.model.specs.Layout.{copies, unroll}
 use Rattle.reading.specs.Closing.{closesBlock}
 use Rattle.layout.specs.Measured.{Rounds}
-use Rattle.layout.proofs.Standing.{stands-closed}
+use Rattle.reading.proofs.Standing.{stands-closed}
 use Rattle.layout.proofs.measure.rounds.Statement.{statement}
 use Rattle.layout.proofs.measure.rounds.Tie as tie
 

@@ -1,0 +1,143 @@
+-- The blocks of a file by where they start: there is one at each place, and its first statement shows by its kind.
+use Prim.Native.Nat.{ℕ, _+_, _-_, _/_, _≤_, _<_}
+use native.Mathlib.Omega.{arith}
+use native.Mathlib.Nat.{lt-of-not-le}
+use mathlib.Core.Path.{_≡_, refl, ap, sym, subst, _∙_}
+use mathlib.Core.Bool.{Bool, true, false, true≢false}
+use mathlib.Core.List.{List}
+use lib.Dec.{ltb}
+use lib.ListN.{length}
+use borrow.Author.Tests.{ltb-true, ltb-false}
+use Rattle.model.specs.declared.Form.{Form}
+use Rattle.model.specs.Records.{Rec, kindAt, recordAt, SKIP, IF, WHILE, TIMES}
+use Rattle.model.specs.Trees.{Test, Block, nil, skip, act, branch, while, times, size, depth, fileTree}
+use Rattle.model.proofs.Stands.{At, LoopAt, stands-once as one-stands}
+use Rattle.model.proofs.Sound.{OfForm, sound-file}
+use Rattle.reading.specs.Closing.{opensBlock, closesBlock, closingIn}
+use Rattle.reading.specs.Ranges.{SoundFile, Stands, firstSize, firstPart, secondPart, afterFirst, testOf}
+use Rattle.reading.proofs.BlockEnds.{found, ends-block, ran-out}
+use Rattle.reading.proofs.FirstKinds.{act-opens, shut, IsAct, skip-is, act-is, if-is, while-is, times-is}
+use Rattle.reading.proofs.Filled.{fills-after, fills-none, first-some}
+
+-- the tree of a sound file
+pub stands-file : (f : Form) (s : List ℕ) → SoundFile f s → Stands f s 0 (length s / 12) (fileTree s)
+stands-file f s S =
+    let k = sound-file f s (S .sound) in
+    record {
+      fills = record { stands = k .stands; ends = refl; shallow = omega arith; of-form = k .of-form };
+      ends = omega (arith, k .whole-records);
+      stops = λ h. absurd (omega (arith, k .whole-records));
+    }
+
+-- a record that closes a block shows by its kind
+closes : (s : List ℕ) (i : ℕ) {r : Rec} → recordAt s i ≡ r → closesBlock (r .kind) ≡ true → closesBlock (kindAt s i) ≡ true
+closes s i e h = ap (λ (r : Rec). closesBlock (r .kind)) e ∙ h
+
+closes-at : (s : List ℕ) (i j : ℕ) → i ≡ j → closesBlock (kindAt s i) ≡ true → closesBlock (kindAt s j) ≡ true
+closes-at s i j e h = subst (λ (k : ℕ). closesBlock (kindAt s k) ≡ true) e h
+
+-- a block that is at i, and ends where one is closed or with the records
+standing-at : {f : Form} {s : List ℕ} {i to : ℕ} (b : Block) → At s i b → OfForm f b → i + size b ≤ to
+    → (i + size b < to → closesBlock (kindAt s (i + size b)) ≡ true) → Stands f s i to b
+standing-at b at f l h = record { fills = record { stands = at; ends = refl; shallow = omega arith; of-form = f }; ends = l; stops = h }
+
+module _ {f : Form} {s : List ℕ} {i to : ℕ} where
+  -- where it ends is what the scan for the end of a block finds
+  pub ending : (b : Block) → Stands f s i to b → closingIn s (to - i) i 0 ≡ i + size b
+  ending b B = go (ltb (i + size b) to) refl
+    where
+      go : (o : Bool) → ltb (i + size b) to ≡ o → closingIn s (to - i) i 0 ≡ i + size b
+      go true e =
+          let h = ltb-true (i + size b) to e in
+          found s b (to - i) i (B .fills .stands) (omega arith) (ends-block (kindAt s (i + size b)) (B .stops h))
+      go false e = ran-out s b (to - i) i (B .fills .stands) (omega (arith, ltb-false (i + size b) to e))
+
+-- there is only one, whatever the form
+pub stands-once : {f g : Form} {s : List ℕ} {i to : ℕ} (a b : Block) → Stands f s i to a → Stands g s i to b → a ≡ b
+stands-once {f} {g} {s} {i} a b A B = one-stands s i a b (A .fills .stands) (B .fills .stands) (omega (arith, ending a A, ending b B))
+
+module _ {f : Form} {s : List ℕ} {i to : ℕ} where
+  -- nothing stands where a block is closed, or at the end
+  pub stands-closed : (b : Block) → Stands f s i to b → closesBlock (kindAt s i) ≡ true → b ≡ nil
+  stands-closed b B k = stands-once b nil B (standing-at {f = f} nil tt tt (omega arith) (λ h. closes-at s i (i + 0) (omega arith) k))
+
+  pub stands-end : (b : Block) → Stands f s i to b → to ≤ i → b ≡ nil
+  stands-end b B l = fills-none b (B .fills) (omega arith)
+
+  body-at : {k : ℕ} {q : Test} {n : ℕ} (a : Block) → LoopAt s i k q n (size a) → At s (i + 1) a → OfForm f a → i + (2 + size a) ≤ to
+      → Stands f s (i + 1) to a × (i + 1 + size a < to)
+  body-at a L at o h = (standing-at a at o (omega arith) (λ l. closes s (i + 1 + size a) (L .last) refl), omega arith)
+
+  loop-body : (b : Block) → Stands f s i to b → i < i + size b → opensBlock (kindAt s i) ≡ true → (kindAt s i ≡ IF → ⊥)
+      → Stands f s (i + 1) to (firstPart b) × (i + 1 + size (firstPart b) < to)
+  loop-body nil B h o x = absurd (omega arith)
+  loop-body (skip n b) B h o x = absurd (shut s i (B .fills .stands .0) refl o)
+  loop-body (act p b) B h o x = absurd (shut s i (B .fills .stands .0) (act-opens p) o)
+  loop-body (branch q a d b) B h o x = absurd (x (ap (λ (r : Rec). r .kind) (B .fills .stands .0 .is)))
+  loop-body (while q n a b) B h o x = body-at a (B .fills .stands .0) (B .fills .stands .1) (B .fills .of-form .1) (omega (arith, B .ends))
+  loop-body (times q n a b) B h o x = body-at a (B .fills .stands .0) (B .fills .stands .1) (B .fills .of-form .1) (omega (arith, B .ends))
+
+  module _ (b : Block) (B : Stands f s i to b) (l : i < to) (k : closesBlock (kindAt s i) ≡ false) where
+    not-empty : size b ≤ 0 → ⊥
+    not-empty h =
+        let e : i + size b ≡ i = omega arith in
+        true≢false (sym (closes-at s (i + size b) i e (B .stops (omega arith))) ∙ k)
+
+    begun : i < i + size b
+    begun = omega (arith, lt-of-not-le not-empty)
+
+    -- a statement has a record, and the block after it stands behind
+    pub stands-some : 1 ≤ firstSize b
+    stands-some = first-some b (B .fills) begun
+
+    pub stands-after : Stands f s (i + firstSize b) to (afterFirst b)
+    stands-after =
+        let F = fills-after f s i (i + size b) (depth b) b begun (B .fills) in
+        standing-at (afterFirst b) (F .stands) (F .of-form) (omega (arith, F .ends))
+        (λ h. closes-at s (i + size b) (i + firstSize b + size (afterFirst b)) (sym (F .ends)) (B .stops (omega (arith, F .ends))))
+
+    -- BY THE KIND OF ITS RECORD
+
+    pub skip-at : kindAt s i ≡ SKIP → b ≡ skip (recordAt s i .count) (afterFirst b)
+    skip-at e = skip-is begun b (B .fills) e
+
+    pub act-at : opensBlock (kindAt s i) ≡ false → (kindAt s i ≡ SKIP → ⊥) → IsAct (recordAt s i) b
+    act-at o x = act-is begun b (B .fills) o x
+
+    module _ (e : kindAt s i ≡ IF) where
+      pub if-at : b ≡ branch (testOf (recordAt s i)) (firstPart b) (secondPart b) (afterFirst b)
+      if-at = if-is begun b (B .fills) e
+
+      the-if : Stands f s i to (branch (testOf (recordAt s i)) (firstPart b) (secondPart b) (afterFirst b))
+      the-if = subst (Stands f s i to) if-at B
+
+      pub first-side : Stands f s (i + 1) to (firstPart b)
+      first-side =
+          let F = the-if .fills in
+          standing-at (firstPart b) (F .stands .1) (F .of-form .1) (omega (arith, the-if .ends)) (λ h. closes s (i + 1 + size (firstPart b)) (F .stands .0 .middle) refl)
+
+      pub second-side : Stands f s (i + 1 + size (firstPart b) + 1) to (secondPart b)
+      second-side =
+          let F = the-if .fills in
+          let n = size (firstPart b) in
+          let e : i + 2 + n ≡ i + 1 + n + 1 = omega arith in
+          subst (λ (j : ℕ). Stands f s j to (secondPart b)) e
+          (standing-at (secondPart b) (F .stands .2) (F .of-form .2) (omega (arith, the-if .ends)) (λ h. closes s (i + 2 + n + size (secondPart b)) (F .stands .0 .last) refl))
+
+      -- both closings are in the file
+      pub sides-end : i + 1 + size (firstPart b) + 1 + size (secondPart b) < to
+      sides-end = omega (arith, the-if .ends)
+
+    pub times-at : kindAt s i ≡ TIMES → b ≡ times (testOf (recordAt s i)) (recordAt s i .count) (firstPart b) (afterFirst b)
+    times-at e = times-is begun b (B .fills) e
+
+    pub while-at : kindAt s i ≡ WHILE → b ≡ while (testOf (recordAt s i)) (recordAt s i .count) (firstPart b) (afterFirst b)
+    while-at e = while-is begun b (B .fills) e
+
+    -- a loop's body stands behind its record, and its END is in the file
+    module _ (o : opensBlock (kindAt s i) ≡ true) (x : kindAt s i ≡ IF → ⊥) where
+      pub body-stands : Stands f s (i + 1) to (firstPart b)
+      body-stands = loop-body b B begun o x .0
+
+      pub body-ends : i + 1 + size (firstPart b) < to
+      body-ends = loop-body b B begun o x .1
