@@ -1,0 +1,127 @@
+-- The statement at a record: its fields are in range, and one that opens no block is a single step.
+use Prim.Native.Nat.{ℕ, _+_, _≤_, _<_}
+use native.Mathlib.Omega.{arith}
+use mathlib.Core.Path.{_≡_, refl, ap, ap₂, sym, subst, _∙_}
+use mathlib.Core.Bool.{Bool, true, false, _||_, _&&_}
+use mathlib.Core.Logic.{⊎-elim}
+use mathlib.Core.List.{List, [], _∷_}
+use lib.Dec.{eqb}
+use borrow.Author.Tests.{eqb-true, eqb-false, ne-eqb}
+use Rattle.model.specs.declared.Form.{Form}
+use Rattle.model.specs.declared.Settings.{Settings}
+use Rattle.model.specs.Records.{Rec, kindAt, recordAt, SKIP, IF, WHILE, TIMES}
+use Rattle.model.specs.Trees.{Act, set, read, write, check, beat, save, Block, nil, skip, act, branch, while, times, skipRec, actRec}
+use Rattle.model.specs.Times.{ticks}
+use Rattle.model.specs.Refusals.{between, unused, testFits, fieldsFit}
+use Rattle.model.specs.Runs.{Effect, nothing, effect, Run, single, step}
+use Rattle.model.proofs.Shapes.{and-left, or-cases, Fit}
+use Rattle.reading.specs.Closing.{opensBlock, closesBlock}
+use Rattle.reading.specs.Ranges.{Stands, firstSize, afterFirst}
+use Rattle.reading.proofs.FirstKinds.{IsAct}
+use Rattle.reading.proofs.Standing.{stands-once, stands-some, skip-at, act-at}
+use Rattle.timing.specs.Times.{stepTicks}
+use Rattle.timing.proofs.Firsts.{act-ticks}
+use Rattle.machine.specs.declared.blocks.Progress.{Progress}
+use Rattle.machine.specs.Machines.{runs, recordEffect}
+use Rattle.machine.specs.Contracts.{Lent, going, halted, Ran, firstRun, Statement, StatementRan}
+use Rattle.machine.proofs.Running.{runs-same, ran-from}
+
+-- FIELDS
+
+-- a record that opens a block has a test
+pub test-fits : (r : Rec) → fieldsFit r ≡ true → opensBlock (r .kind) ≡ true → testFits r ≡ true
+unfolding fieldsFit
+test-fits r h o =
+    ⊎-elim (λ e. let k = eqb-true (r .kind) IF e in and-left (testFits r) (unused (r .count ∷ [])) (rw k at h))
+    (λ l. ⊎-elim
+    (λ e. let k = eqb-true (r .kind) WHILE e in and-left (testFits r) (between 1 65535 (r .count)) (rw k at h))
+    (λ e. let k = eqb-true (r .kind) TIMES e in and-left (testFits r) (between 1 65535 (r .count)) (rw k at h))
+    (or-cases (eqb (r .kind) WHILE) (eqb (r .kind) TIMES) l))
+    (or-cases (eqb (r .kind) IF) (eqb (r .kind) WHILE || eqb (r .kind) TIMES) o)
+
+fits-at : {f : Form} (s : List ℕ) (i : ℕ) {r : Rec} → recordAt s i ≡ r → Fit f r → fieldsFit (recordAt s i) ≡ true
+fits-at s i e F = ap fieldsFit e ∙ F .fields
+
+first-fits : {f : Form} (s : List ℕ) (i : ℕ) {to : ℕ} (b : Block) → Stands f s i to b → 1 ≤ firstSize b → fieldsFit (recordAt s i) ≡ true
+first-fits s i nil B h = absurd (omega arith)
+first-fits s i (skip n b) B h = fits-at s i (B .fills .stands .0) (B .fills .of-form .0)
+first-fits s i (act p b) B h = fits-at s i (B .fills .stands .0) (B .fills .of-form .0)
+first-fits s i (branch q a d b) B h = fits-at s i (B .fills .stands .0 .is) (B .fills .of-form .0)
+first-fits s i (while q n a b) B h = fits-at s i (B .fills .stands .0 .is) (B .fills .of-form .0)
+first-fits s i (times q n a b) B h = fits-at s i (B .fills .stands .0 .is) (B .fills .of-form .0)
+
+-- the kind of the record at an index
+pub kind-there : {r x : Rec} {k : ℕ} → r ≡ x → r .kind ≡ k → x .kind ≡ k
+kind-there e h = ap (λ (y : Rec). y .kind) (sym e) ∙ h
+
+-- EFFECTS
+
+act-effect : (ins : List ℕ) (p : Act) (v : List ℕ) → recordEffect ins (actRec p) v ≡ effect ins p v
+unfolding effect
+act-effect ins (set o t l x) v = refl
+act-effect ins (read a p) v = refl
+act-effect ins (write a p) v = refl
+act-effect ins (check q) v = refl
+act-effect ins (beat x) v = refl
+act-effect ins (save m) v = refl
+
+-- THE STATEMENT
+
+module _ {s : List ℕ} {i to : ℕ} {ins w : List ℕ} {limit t : ℕ} (S : Statement s i to ins w limit t) where
+  abbrev pub block : Block
+  block = S .entered .file .block
+
+  abbrev pub form : Form
+  form = S .entered .form
+
+  pub stands : Stands form s i to block
+  stands = S .entered .file .stands
+
+  -- what holds of it holds of every block at its place
+  pub told : {σ : Settings} (b : Block) → block ≡ b → {new : List ℕ} {r : Progress} → Ran limit (firstRun σ ins b i) (i + firstSize b) t w new r
+      → StatementRan s i to σ ins limit t w new r
+  told {σ} b e {new} {r} A = record {
+    right = λ f x X. subst (λ (y : Block). Ran limit (firstRun σ ins y i) (i + firstSize y) t w new r) (sym e ∙ stands-once block x stands X) A;
+  }
+
+  module _ {r : Rec} (h : r ≡ recordAt s i) where
+    pub fields-fit : fieldsFit r ≡ true
+    fields-fit = ap fieldsFit h ∙ first-fits s i block stands (stands-some block stands (S .inside) (S .goes-on))
+
+    pub test-there : opensBlock (kindAt s i) ≡ true → testFits r ≡ true
+    test-there o = test-fits r fields-fit (ap (λ (x : Rec). opensBlock (x .kind)) h ∙ o)
+
+    -- a record that opens no block
+    module _ (x : r .kind ≡ IF → ⊥) (y : r .kind ≡ WHILE → ⊥) (z : r .kind ≡ TIMES → ⊥) where
+      shut : opensBlock (kindAt s i) ≡ false
+      shut = ap (λ (q : Rec). opensBlock (q .kind)) (sym h) ∙ simp (ne-eqb (r .kind) IF x, ne-eqb (r .kind) WHILE y, ne-eqb (r .kind) TIMES z)
+
+      module _ {σ : Settings} {lasts : ℕ} (l : lasts ≡ stepTicks σ r) {new : List ℕ} {p : Progress} (R : Ran limit (single lasts i (recordEffect ins r)) (i + 1) t w new p) where
+        one-step : (b : Block) → block ≡ b → (d : ℕ) (e : List ℕ → Effect) → firstRun σ ins b i ≡ single d i e
+            → firstSize b ≡ 1 → lasts ≡ d → ((v : List ℕ) → recordEffect ins r v ≡ e v) → StatementRan s i to σ ins limit t w new p
+        one-step b is d e f n k u =
+            told b is
+            (ran-from
+            (ap (λ (g : Run). runs limit g (going t w)) f ∙ runs-same limit (going t w) (λ v. ap₂ (λ (m : ℕ) (c : Effect). step m i c ∷ []) (sym k) (sym (u v))))
+            (λ o. omega (arith, n)) R)
+
+        skipped : kindAt s i ≡ SKIP → StatementRan s i to σ ins limit t w new p
+        skipped e =
+            let b = afterFirst block in
+            let is = skip-at block stands (S .inside) (S .goes-on) e in
+            let a = subst (Stands form s i to) is stands .fills .stands .0 in
+            one-step (skip (recordAt s i .count) b) is (recordAt s i .count) (λ v. nothing) refl refl (l ∙ ap (stepTicks σ) (h ∙ a)) (λ v. ap (λ (q : Rec). recordEffect ins q v) (h ∙ a))
+
+        acted : (kindAt s i ≡ SKIP → ⊥) → StatementRan s i to σ ins limit t w new p
+        acted e =
+            let A = act-at block stands (S .inside) (S .goes-on) shut e in
+            let q = A .act-of in
+            one-step (act q (afterFirst block)) (A .is) (ticks σ q) (effect ins q) refl refl (l ∙ ap (stepTicks σ) (h ∙ A .same) ∙ act-ticks σ q)
+            (λ v. ap (λ (c : Rec). recordEffect ins c v) (h ∙ A .same) ∙ act-effect ins q v)
+
+        pub step-ran : StatementRan s i to σ ins limit t w new p
+        step-ran = go (eqb (kindAt s i) SKIP) refl
+          where
+            go : (o : Bool) → eqb (kindAt s i) SKIP ≡ o → StatementRan s i to σ ins limit t w new p
+            go true e = skipped (eqb-true (kindAt s i) SKIP e)
+            go false e = acted (eqb-false (kindAt s i) SKIP e)

@@ -1,0 +1,25 @@
+-- The lent buffers beside what the cells hold.
+use Prim.Native.Nat.{ℕ}
+use mathlib.Core.Path.{_≡_}
+use mathlib.Core.List.{List}
+use lib.ListN.{length}
+use Rattle.machine.specs.Machines.{Held}
+
+abbrev pub withVariables : List ℕ → Held → Held
+withVariables v h = record { variables = v; levels = h .levels; marks = h .marks; image = h .image }
+
+abbrev pub withOutputs : List ℕ → List ℕ → Held → Held
+withOutputs l m h = record { variables = h .variables; levels = l; marks = m; image = h .image }
+
+-- the table's lengths
+pub record Sized (w v l m : List ℕ) : Type 0 where
+  pub cells : length w ≡ 50
+  pub variables : length v ≡ 16
+  pub levels : length l ≡ 8
+  pub marks : length m ≡ 8
+
+-- the buffers show what is held
+pub record Stored (h : Held) (v l m : List ℕ) : Type 0 where
+  pub variables : v ≡ h .variables
+  pub levels : l ≡ h .levels
+  pub marks : m ≡ h .marks

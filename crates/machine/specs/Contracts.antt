@@ -1,0 +1,93 @@
+-- What the functions that run a file's records answer, for every block that stands where they start.
+use Prim.Native.Nat.{ℕ, _+_, _*_, _-_, _≤_, _<_}
+use mathlib.Core.Path.{_≡_}
+use mathlib.Core.Bool.{Bool, true, false, cond, _||_}
+use mathlib.Core.List.{List, []}
+use mathlib.Core.Logic.{_⊎_}
+use lib.Dec.{eqb}
+use lib.ListN.{length}
+use Rattle.model.specs.declared.Form.{Form}
+use Rattle.model.specs.declared.Settings.{Settings}
+use Rattle.model.specs.Records.{Rec, kindAt, ELSE}
+use Rattle.model.specs.Trees.{Block, nil, skip, act, branch, while, times, size}
+use Rattle.model.specs.Times.{ticks}
+use Rattle.model.specs.Runs.{nothing, isOverrun, effect, lastTest, Run, _⊳_, single, choose, spin, rounds, run}
+use Rattle.reading.specs.Closing.{closesBlock, closingIn}
+use Rattle.reading.specs.Ranges.{Stands, InFile, firstSize}
+use Rattle.machine.specs.declared.blocks.Progress.{Progress}
+use Rattle.machine.specs.Machines.{held, affect, Machine, machine, runs, recordEffect}
+
+-- what a run is lent: inputs and cells
+pub record Lent (ins w : List ℕ) : Type 0 where
+  pub inputs : length ins ≡ 8
+  pub cells : length w ≡ 50
+
+-- the machine at tick t, and where a function left it
+abbrev pub going : ℕ → List ℕ → Machine
+going t w = machine t false false (held w)
+
+abbrev pub reached : Progress → List ℕ → Machine
+reached r w = machine (r .tick) (r .cut) (r .overran) (held w)
+
+abbrev pub halted : Progress → Bool
+halted r = r .cut || r .overran
+
+-- one record's effect, and whether the run overran
+pub record Acts (ins : List ℕ) (r : Rec) (next t : ℕ) (old new : List ℕ) (o : Bool) : Type 0 where
+  pub holds : held new ≡ affect next t (recordEffect ins r (held old .variables)) (held old)
+  pub overran : o ≡ isOverrun (recordEffect ins r (held old .variables))
+
+-- a run f of the records up to j
+pub record Ran (limit : ℕ) (f : Run) (j t : ℕ) (old new : List ℕ) (r : Progress) : Type 0 where
+  pub reaches : reached r new ≡ runs limit f (going t old)
+  pub goes : halted r ≡ false → r .next ≡ j
+
+-- the run of a block's first statement
+abbrev pub firstRun : Settings → List ℕ → Block → ℕ → Run
+firstRun σ ins nil i = λ v. []
+firstRun σ ins (skip n b) i = single n i (λ v. nothing)
+firstRun σ ins (act p b) i = single (ticks σ p) i (effect ins p)
+firstRun σ ins (branch q a d b) i = choose i q (run σ ins a (i + 1)) (run σ ins d (i + 2 + size a))
+firstRun σ ins (while q n a b) i = spin i n q (run σ ins a (i + 1))
+firstRun σ ins (times q n a b) i = rounds n (run σ ins a (i + 1)) ⊳ single 1 i (lastTest q)
+
+-- a block of the file is run from tick t on
+pub record Entered (s : List ℕ) (i to : ℕ) (ins w : List ℕ) (limit t : ℕ) : Type 0 where
+  pub form : Form
+  pub file : InFile form s i to
+  pub few : to ≤ 5461
+  pub lent : Lent ins w
+  pub early : t ≤ limit
+
+-- and it is not empty
+pub record Statement (s : List ℕ) (i to : ℕ) (ins w : List ℕ) (limit t : ℕ) : Type 0 where
+  pub entered : Entered s i to ins w limit t
+  pub inside : i < to
+  pub goes-on : closesBlock (kindAt s i) ≡ false
+
+pub record BlockRan (s : List ℕ) (i to : ℕ) (σ : Settings) (ins : List ℕ) (limit t : ℕ) (old new : List ℕ) (r : Progress) : Type 0 where
+  pub right : (f : Form) (b : Block) → Stands f s i to b → Ran limit (run σ ins b i) (i + size b) t old new r
+
+pub record StatementRan (s : List ℕ) (i to : ℕ) (σ : Settings) (ins : List ℕ) (limit t : ℕ) (old new : List ℕ) (r : Progress) : Type 0 where
+  pub right : (f : Form) (b : Block) → Stands f s i to b → Ran limit (firstRun σ ins b i) (i + firstSize b) t old new r
+
+-- n rounds of the body at i are as many as c: none are walked of an empty one
+pub record Rounds (s : List ℕ) (i to c n : ℕ) : Type 0 where
+  pub same : (f : Form) (a : Block) → Stands f s i to a → (n ≡ c) ⊎ ((a ≡ nil) × (n ≡ 0))
+
+-- the record k is one of those up to `to`
+pub record Inner (s : List ℕ) (k to : ℕ) : Type 0 where
+  pub before : k < to
+  pub inside : 12 * to ≤ length s
+
+-- the record behind the ELSE or END that closes the block behind k
+unfoldable pub closed : List ℕ → ℕ → ℕ → ℕ
+closed s k to = closingIn s (to - (k + 1)) (k + 1) 0 + 1
+
+-- the record behind the statement that the ELSE or END at k ends, or goes on with
+abbrev pub passed : List ℕ → ℕ → ℕ → ℕ
+passed s k to = cond (eqb (kindAt s k) ELSE) (closed s k to) (k + 1)
+
+-- where the side starts that the test of the IF at i chooses
+abbrev pub chosen : List ℕ → ℕ → ℕ → Bool → ℕ
+chosen s i to o = cond o (i + 1) (closed s i to)

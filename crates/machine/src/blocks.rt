@@ -1,0 +1,295 @@
+// Blocks run up to a limit: a step that does not end by then is not done, and the run is cut there.
+ghost use mathlib.Core.Path.{_≡_};
+ghost use mathlib.Core.Bool.{true, false};
+ghost use Prim.Native.Nat.{_+_, _*_, _≤_, _<_};
+ghost use lib.ListN.{length};
+ghost use Rattle.model.specs.Records.{kindAt, recordAt, IF, WHILE, TIMES};
+ghost use Rattle.model.specs.Refusals.{testFits, fieldsFit};
+ghost use Rattle.model.specs.Runs.{single, lastTest};
+ghost use Rattle.records.specs.Records.{recordOf};
+ghost use Rattle.reading.specs.Closing.{closesBlock};
+ghost use Rattle.reading.specs.Ranges.{testOf};
+ghost use Rattle.machine.specs.Machines.{held, recordEffect};
+ghost use Rattle.machine.specs.Contracts.{Lent, halted, Ran, Entered, Statement, BlockRan, StatementRan, Rounds, Inner, closed, passed, chosen};
+use crate::steps::act;
+use crate::steps::test_holds;
+use model::Settings;
+use reading::blocks::closes;
+use reading::blocks::closing;
+use records::Record;
+use records::kind_at;
+use records::kinds;
+use records::record_at;
+use timing::ticks::step_ticks;
+
+// Where a run is: its tick, the next record, whether it was cut at the limit, and whether it overran. A run that was cut or overran has
+// no next record.
+pub struct Progress {
+    pub tick: u32,
+    pub next: usize,
+    pub cut: bool,
+    pub overran: bool,
+}
+
+fn going(tick: u32, next: usize) -> Progress
+    ensures { λ r. ⌜ r ≡ record { tick = tick; next = next; cut = false; overran = false } ⌝ }
+{
+    Progress {
+        tick,
+        next,
+        cut: false,
+        overran: false,
+    }
+}
+
+fn cut_off(tick: u32) -> Progress
+    ensures { λ r. ⌜ r ≡ record { tick = tick; next = 0; cut = true; overran = false } ⌝ }
+{
+    Progress {
+        tick,
+        next: 0,
+        cut: true,
+        overran: false,
+    }
+}
+
+fn ended(e: Progress) -> bool
+    ensures { λ r. ⌜ r ≡ halted e ⌝ }
+{
+    e.cut | e.overran
+}
+
+// The record at i, which opens and closes no block.
+fn run_step(
+    i: usize,
+    r: Record,
+    lasts: u32,
+    inputs: &[u32],
+    limit: u32,
+    tick: u32,
+    cells: &mut [u32],
+) -> Progress
+    requires { ⌜ (Lent (now inputs) (now cells)) × (fieldsFit (recordOf r) ≡ true) × (i < 5461) × (tick ≤ limit) ⌝ }
+    ensures { λ e. ⌜ Ran limit (single lasts i (recordEffect (now (inputs .entry)) (recordOf r))) (i + 1) tick (now (cells .entry)) (now (cells .exit)) e ⌝ }
+{
+    if limit - tick < lasts {
+        return cut_off(tick);
+    }
+    let next = i + 1;
+    let end = tick + lasts;
+    let overran = act(r, next, end, inputs, cells);
+    Progress {
+        tick: end,
+        next,
+        cut: false,
+        overran,
+    }
+}
+
+// The last test of the loop at i, before the record `next`.
+fn run_last_test(i: usize, r: Record, next: usize, limit: u32, tick: u32, cells: &[u32]) -> Progress
+    requires { ⌜ (length (now cells) ≡ 50) × (testFits (recordOf r) ≡ true) × (tick ≤ limit) ⌝ }
+    ensures { λ e. ⌜ Ran limit (single 1 i (lastTest (testOf (recordOf r)))) next tick (now (cells .entry)) (now (cells .entry)) e ⌝ }
+{
+    if limit <= tick {
+        return cut_off(tick);
+    }
+    Progress {
+        tick: tick + 1,
+        next,
+        cut: false,
+        overran: test_holds(cells, r),
+    }
+}
+
+// The rounds to walk of a loop whose body starts at i: an empty body needs none.
+fn rounds(s: &[u8], i: usize, to: usize, count: u32) -> u32
+    requires { ⌜ (12 * i + 12 ≤ length (now s)) × (i < to) ⌝ }
+    ensures { λ r. ⌜ Rounds (now (s .entry)) i to count r ⌝ }
+{
+    if closes(kind_at(s, i)) {
+        return 0;
+    }
+    count
+}
+
+// The record behind the ELSE or END that closes the block behind k.
+fn behind(s: &[u8], k: usize, to: usize) -> usize
+    requires { ⌜ Inner (now s) k to ⌝ }
+    ensures { λ r. ⌜ r ≡ closed (now (s .entry)) k to ⌝ }
+{
+    closing(s, k + 1, to) + 1
+}
+
+// The record behind the statement that the ELSE or END at k ends, or goes on with.
+pub fn past(s: &[u8], k: usize, to: usize) -> usize
+    requires { ⌜ Inner (now s) k to ⌝ }
+    ensures { λ r. ⌜ r ≡ passed (now (s .entry)) k to ⌝ }
+{
+    if kind_at(s, k) == kinds::ELSE {
+        return behind(s, k, to);
+    }
+    k + 1
+}
+
+// Where the side starts that the test of the IF at i chooses.
+fn side(s: &[u8], i: usize, to: usize, holds: bool) -> usize
+    requires { ⌜ Inner (now s) i to ⌝ }
+    ensures { λ r. ⌜ r ≡ chosen (now (s .entry)) i to holds ⌝ }
+{
+    if holds {
+        return i + 1;
+    }
+    behind(s, i, to)
+}
+
+// The IF at i, with the record r.
+fn run_branch(
+    s: &[u8],
+    i: usize,
+    to: usize,
+    r: Record,
+    n: Settings,
+    inputs: &[u32],
+    limit: u32,
+    tick: u32,
+    cells: &mut [u32],
+) -> Progress
+    requires { ⌜ (Statement (now s) i to (now inputs) (now cells) limit tick) × (recordOf r ≡ recordAt (now s) i) × (kindAt (now s) i ≡ IF) ⌝ }
+    ensures { λ e. ⌜ StatementRan (now (s .entry)) i to n (now (inputs .entry)) limit tick (now (cells .entry)) (now (cells .exit)) e ⌝ }
+{
+    if limit <= tick {
+        return cut_off(tick);
+    }
+    let from = side(s, i, to, test_holds(cells, r));
+    let e = run_block(s, from, to, n, inputs, limit, tick + 1, cells);
+    if ended(e) {
+        return e;
+    }
+    going(e.tick, past(s, e.next, to))
+}
+
+// The WHILE at i, with the record r.
+fn run_while(
+    s: &[u8],
+    i: usize,
+    to: usize,
+    r: Record,
+    n: Settings,
+    inputs: &[u32],
+    limit: u32,
+    tick: u32,
+    cells: &mut [u32],
+) -> Progress
+    requires { ⌜ (Statement (now s) i to (now inputs) (now cells) limit tick) × (recordOf r ≡ recordAt (now s) i) × (kindAt (now s) i ≡ WHILE) ⌝ }
+    ensures { λ e. ⌜ StatementRan (now (s .entry)) i to n (now (inputs .entry)) limit tick (now (cells .entry)) (now (cells .exit)) e ⌝ }
+{
+    let body = i + 1;
+    let next = behind(s, i, to);
+    let mut at = tick;
+    let mut round: u32 = 0;
+    while round < r.count {
+        if limit <= at {
+            return cut_off(at);
+        }
+        at += 1;
+        if !test_holds(cells, r) {
+            return going(at, next);
+        }
+        let e = run_block(s, body, to, n, inputs, limit, at, cells);
+        if ended(e) {
+            return e;
+        }
+        at = e.tick;
+        round += 1;
+    }
+    run_last_test(i, r, next, limit, at, cells)
+}
+
+// The TIMES at i, with the record r.
+fn run_times(
+    s: &[u8],
+    i: usize,
+    to: usize,
+    r: Record,
+    n: Settings,
+    inputs: &[u32],
+    limit: u32,
+    tick: u32,
+    cells: &mut [u32],
+) -> Progress
+    requires { ⌜ (Statement (now s) i to (now inputs) (now cells) limit tick) × (recordOf r ≡ recordAt (now s) i) × (kindAt (now s) i ≡ TIMES) ⌝ }
+    ensures { λ e. ⌜ StatementRan (now (s .entry)) i to n (now (inputs .entry)) limit tick (now (cells .entry)) (now (cells .exit)) e ⌝ }
+{
+    let body = i + 1;
+    let next = behind(s, i, to);
+    let last = rounds(s, body, to, r.count);
+    let mut at = tick;
+    let mut round: u32 = 0;
+    while round < last {
+        let e = run_block(s, body, to, n, inputs, limit, at, cells);
+        if ended(e) {
+            return e;
+        }
+        at = e.tick;
+        round += 1;
+    }
+    run_last_test(i, r, next, limit, at, cells)
+}
+
+// The statement at i.
+fn run_statement(
+    s: &[u8],
+    i: usize,
+    to: usize,
+    n: Settings,
+    inputs: &[u32],
+    limit: u32,
+    tick: u32,
+    cells: &mut [u32],
+) -> Progress
+    requires { ⌜ Statement (now s) i to (now inputs) (now cells) limit tick ⌝ }
+    ensures { λ e. ⌜ StatementRan (now (s .entry)) i to n (now (inputs .entry)) limit tick (now (cells .entry)) (now (cells .exit)) e ⌝ }
+{
+    let r = record_at(s, i);
+    if r.kind == kinds::IF {
+        return run_branch(s, i, to, r, n, inputs, limit, tick, cells);
+    }
+    if r.kind == kinds::WHILE {
+        return run_while(s, i, to, r, n, inputs, limit, tick, cells);
+    }
+    if r.kind == kinds::TIMES {
+        return run_times(s, i, to, r, n, inputs, limit, tick, cells);
+    }
+    run_step(i, r, step_ticks(n, r), inputs, limit, tick, cells)
+}
+
+// The block at `from`, up to the record that closes it.
+pub fn run_block(
+    s: &[u8],
+    from: usize,
+    to: usize,
+    n: Settings,
+    inputs: &[u32],
+    limit: u32,
+    tick: u32,
+    cells: &mut [u32],
+) -> Progress
+    requires { ⌜ Entered (now s) from to (now inputs) (now cells) limit tick ⌝ }
+    ensures { λ e. ⌜ BlockRan (now (s .entry)) from to n (now (inputs .entry)) limit tick (now (cells .entry)) (now (cells .exit)) e ⌝ }
+{
+    let mut at = tick;
+    let mut next = from;
+    while next < to {
+        if closes(kind_at(s, next)) {
+            return going(at, next);
+        }
+        let e = run_statement(s, next, to, n, inputs, limit, at, cells);
+        if ended(e) {
+            return e;
+        }
+        at = e.tick;
+        next = e.next;
+    }
+    going(at, next)
+}
