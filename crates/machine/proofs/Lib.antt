@@ -8,3 +8,11 @@ pub mod Running
 pub mod RunningSteps
 pub mod RunningBranches
 pub mod RunningLoops
+pub mod Positions
+pub mod Bare
+pub mod TakingUp
+pub mod ReadyLaws
+pub mod ImageLaws
+pub mod Marks
+pub mod Whole
+pub mod Replies

@@ -28,11 +28,11 @@ no-next : (r : Progress) {j k : ℕ} → halted r ≡ true → halted r ≡ fals
 no-next r e h = let z : _≡_ {A = ℕ} 0 1 = cc in absurd (omega arith)
 
 -- what a test's negation says of it
-denied : (o : Bool) → not o ≡ true → o ≡ false
+pub denied : (o : Bool) → not o ≡ true → o ≡ false
 denied true e = sym e
 denied false e = refl
 
-granted : (o : Bool) → not o ≡ false → o ≡ true
+pub granted : (o : Bool) → not o ≡ false → o ≡ true
 granted true e = refl
 granted false e = sym e
 

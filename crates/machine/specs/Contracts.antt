@@ -11,6 +11,8 @@ use Rattle.model.specs.declared.Settings.{Settings}
 use Rattle.model.specs.Records.{Rec, kindAt, ELSE}
 use Rattle.model.specs.Trees.{Block, nil, skip, act, branch, while, times, size}
 use Rattle.model.specs.Times.{ticks}
+use Rattle.model.specs.Stopping.{none, rest}
+use Rattle.model.specs.Placement.{LoopFree}
 use Rattle.model.specs.Runs.{nothing, isOverrun, effect, lastTest, Run, _⊳_, single, choose, spin, rounds, run}
 use Rattle.reading.specs.Closing.{closesBlock, closingIn}
 use Rattle.reading.specs.Ranges.{Stands, InFile, firstSize}
@@ -91,3 +93,23 @@ passed s k to = cond (eqb (kindAt s k) ELSE) (closed s k to) (k + 1)
 -- where the side starts that the test of the IF at i chooses
 abbrev pub chosen : List ℕ → ℕ → ℕ → Bool → ℕ
 chosen s i to o = cond o (i + 1) (closed s i to)
+
+-- RECORDS IN THE MIDDLE OF A FILE
+
+-- a machine but for its image, which taking up does not write
+abbrev pub bare : Machine → Machine
+bare m = machine (m .tick) (m .cut) (m .overran) (record { variables = m .holds .variables; levels = m .holds .levels; marks = m .holds .marks; image = none })
+
+-- a file with no loop is run from one of its records on
+pub record TakesUp (s : List ℕ) (j to : ℕ) (ins w : List ℕ) (limit t : ℕ) : Type 0 where
+  pub form : Form
+  pub file : InFile form s 0 to
+  pub ends : size (file .block) ≡ to
+  pub loop-free : LoopFree (file .block)
+  pub few : to ≤ 5461
+  pub inside : j ≤ to
+  pub lent : Lent ins w
+  pub early : t ≤ limit
+
+pub record TookUp (s : List ℕ) (j to : ℕ) (σ : Settings) (ins : List ℕ) (limit t : ℕ) (old new : List ℕ) (r : Progress) : Type 0 where
+  pub right : (f : Form) (b : Block) → Stands f s 0 to b → bare (reached r new) ≡ bare (runs limit (run σ ins (rest b j) j) (going t old))

@@ -2,3 +2,4 @@
 pub mod Machines
 pub mod Contracts
 pub mod Buffers
+pub mod Calls

@@ -10,7 +10,7 @@ ghost use Rattle.records.specs.Records.{recordOf};
 ghost use Rattle.reading.specs.Closing.{closesBlock};
 ghost use Rattle.reading.specs.Ranges.{testOf};
 ghost use Rattle.machine.specs.Machines.{held, recordEffect};
-ghost use Rattle.machine.specs.Contracts.{Lent, halted, Ran, Entered, Statement, BlockRan, StatementRan, Rounds, Inner, closed, passed, chosen};
+ghost use Rattle.machine.specs.Contracts.{Lent, halted, Ran, Entered, Statement, BlockRan, StatementRan, Rounds, Inner, closed, passed, chosen, TakesUp, TookUp};
 use crate::steps::act;
 use crate::steps::test_holds;
 use model::Settings;
@@ -290,6 +290,36 @@ pub fn run_block(
         }
         at = e.tick;
         next = e.next;
+    }
+    going(at, next)
+}
+
+// The records from `from` on: what is left of the block that it stands in, then what follows the IF around that, up to the last record.
+pub fn run_from(
+    s: &[u8],
+    from: usize,
+    to: usize,
+    n: Settings,
+    inputs: &[u32],
+    limit: u32,
+    tick: u32,
+    cells: &mut [u32],
+) -> Progress
+    requires { ⌜ TakesUp (now s) from to (now inputs) (now cells) limit tick ⌝ }
+    ensures { λ e. ⌜ TookUp (now (s .entry)) from to n (now (inputs .entry)) limit tick (now (cells .entry)) (now (cells .exit)) e ⌝ }
+{
+    let mut at = tick;
+    let mut next = from;
+    while next < to {
+        let e = run_block(s, next, to, n, inputs, limit, at, cells);
+        if ended(e) {
+            return e;
+        }
+        if to <= e.next {
+            return e;
+        }
+        at = e.tick;
+        next = past(s, e.next, to);
     }
     going(at, next)
 }

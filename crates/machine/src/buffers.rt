@@ -38,7 +38,7 @@ pub fn load_outputs(cells: &mut [u32], levels: &[u32], marks: &[u8])
     load_marks(marks, &mut cells[24..32]);
 }
 
-fn store_marks(from: &[u32], marks: &mut [u8])
+pub fn store_marks(from: &[u32], marks: &mut [u8])
     requires { ⌜ (length (now from) ≡ length (now marks)) × (Bytes (now from)) ⌝ }
     ensures { λ _. ⌜ now (marks .exit) ≡ now (from .entry) ⌝ }
 {

@@ -12,7 +12,7 @@ const LEVELS: usize = 16;
 
 const MARKS: usize = 24;
 
-const INDEX: usize = 32;
+pub const INDEX: usize = 32;
 
 const TICK: usize = 33;
 

@@ -1,5 +1,263 @@
 // Runs of files of all three forms: whole, up to a tick, and taken up.
-pub mod blocks;
+mod blocks;
 mod buffers;
-pub mod cells;
+mod cells;
+mod images;
+mod ready;
 mod steps;
+
+ghost use mathlib.Core.Path.{_≡_};
+ghost use lib.ListN.{length, replicate};
+ghost use Rattle.model.specs.Answers.{ran, stopped, resumed};
+ghost use Rattle.model.specs.Replies.{runReply, runBuffers, stopReply, stopBuffers, stopImage, resumeReply, resumeBuffers, restartReply, restartBuffers};
+ghost use Rattle.machine.specs.Calls.{buffers, loan, Ready, RunWhole, Stops, Resumes};
+use blocks::Progress;
+use blocks::run_block;
+use blocks::run_from;
+use buffers::load_outputs;
+use buffers::load_variables;
+use buffers::load_words;
+use buffers::store;
+use cells::copy;
+use images::after_save;
+use images::store_image;
+use model::Form;
+use model::Ran;
+use model::Refusal;
+use model::Resumed;
+use model::Settings;
+use model::Stopped;
+use ready::bad_buffers;
+use ready::ready;
+use records::settings::Decoded;
+
+// All levels and marks set to 0.
+fn clear(levels: &mut [u32], marks: &mut [u8])
+    requires { ⌜ (length (now levels) ≡ 8) × (length (now marks) ≡ 8) ⌝ }
+    ensures { λ _. ⌜ (now (levels .exit) ≡ replicate 8 0) × (now (marks .exit) ≡ replicate 8 0) ⌝ }
+{
+    let zeros: [u32; 8] = [0; 8];
+    copy(&zeros, levels);
+    buffers::store_marks(&zeros, marks);
+}
+
+// The whole file, from the lent variables and outputs on.
+fn run_whole(
+    file: &[u8],
+    n: Settings,
+    variables: &mut [u32],
+    inputs: &[u32],
+    levels: &mut [u32],
+    marks: &mut [u8],
+) -> Progress
+    requires { ⌜ Ready (now file) n (now variables) (now inputs) (now levels) (now marks) ⌝ }
+    ensures { λ e. ⌜ RunWhole (now (file .entry)) n (now (inputs .entry)) (now (variables .entry)) (now (levels .entry)) (now (marks .entry))
+        (now (variables .exit)) (now (levels .exit)) (now (marks .exit)) e ⌝ }
+{
+    let mut cells: [u32; 50] = [0; 50];
+    load_variables(&mut cells, variables);
+    load_outputs(&mut cells, levels, marks);
+    let e = run_block(file, 0, file.len() / 12, n, inputs, n.period, 0, &mut cells);
+    store(&cells, variables, levels, marks);
+    e
+}
+
+// A whole run: its end tick and whether it overran, or the first refusal of 6, 1 to 5, 8 and 10.
+pub fn run(
+    settings: &[u8],
+    form: Form,
+    file: &[u8],
+    variables: &mut [u32],
+    inputs: &[u32],
+    levels: &mut [u32],
+    marks: &mut [u8],
+) -> Ran
+    ensures { λ r. ⌜ (let c = loan (now (settings .entry)) form (now (file .entry)) (now (variables .entry)) (now (inputs .entry)) (now (levels .entry)) (now (marks .entry)) in
+        ((ran r ≡ runReply c) × (buffers (now (variables .exit)) (now (levels .exit)) (now (marks .exit)) ≡ runBuffers c))) ⌝ }
+{
+    let bad = bad_buffers(
+        variables.len(),
+        inputs.len(),
+        levels.len(),
+        marks.len(),
+        false,
+    );
+    let r = ready(settings, form, file, bad);
+    match r {
+        Decoded::Refused(x) => Ran::Refused(x),
+        Decoded::Valid(n) => {
+            clear(levels, marks);
+            let e = run_whole(file, n, variables, inputs, levels, marks);
+            Ran::Ended {
+                tick: e.tick,
+                overran: e.overran,
+            }
+        }
+    }
+}
+
+// Up to the stop tick, with a file that was read: refusal 12 where the run ends by then.
+fn run_until_ready(
+    file: &[u8],
+    n: Settings,
+    variables: &mut [u32],
+    inputs: &[u32],
+    levels: &mut [u32],
+    marks: &mut [u8],
+    image: &mut [u8],
+    stop: u32,
+) -> Stopped
+    requires { ⌜ (Ready (now file) n (now variables) (now inputs) (now levels) (now marks)) × (length (now image) ≡ 72) ⌝ }
+    ensures { λ r. ⌜ Stops (now (file .entry)) n (now (inputs .entry)) stop (now (variables .entry)) (now (levels .entry)) (now (marks .entry)) (now (image .entry))
+        (now (variables .exit)) (now (levels .exit)) (now (marks .exit)) (now (image .exit)) r ⌝ }
+{
+    let mut cells: [u32; 50] = [0; 50];
+    load_variables(&mut cells, variables);
+    let e = run_block(file, 0, file.len() / 12, n, inputs, stop, 0, &mut cells);
+    if !e.cut {
+        return Stopped::Refused(Refusal::LateStop);
+    }
+    store(&cells, variables, levels, marks);
+    let saved = store_image(&cells, image);
+    Stopped::At { tick: stop, saved }
+}
+
+// A run stopped at a tick: whether there is an image, or the first refusal of 6, 1 to 5, 8, 10 and 12.
+pub fn run_until(
+    settings: &[u8],
+    form: Form,
+    file: &[u8],
+    variables: &mut [u32],
+    inputs: &[u32],
+    levels: &mut [u32],
+    marks: &mut [u8],
+    image: &mut [u8],
+    stop: u32,
+) -> Stopped
+    ensures { λ r. ⌜ (let c = loan (now (settings .entry)) form (now (file .entry)) (now (variables .entry)) (now (inputs .entry)) (now (levels .entry)) (now (marks .entry)) in
+        ((stopped r ≡ stopReply c (now (image .entry)) stop)
+        × (buffers (now (variables .exit)) (now (levels .exit)) (now (marks .exit)) ≡ stopBuffers c (now (image .entry)) stop)
+        × (now (image .exit) ≡ stopImage c (now (image .entry)) stop))) ⌝ }
+{
+    let bad = bad_buffers(
+        variables.len(),
+        inputs.len(),
+        levels.len(),
+        marks.len(),
+        image.len() != 72,
+    );
+    let r = ready(settings, form, file, bad);
+    match r {
+        Decoded::Refused(x) => Stopped::Refused(x),
+        Decoded::Valid(n) => {
+            run_until_ready(file, n, variables, inputs, levels, marks, image, stop)
+        }
+    }
+}
+
+// From an image on, with a file that was read: refusal 11 where it cannot be taken up.
+fn resume_ready(
+    file: &[u8],
+    n: Settings,
+    variables: &mut [u32],
+    inputs: &[u32],
+    levels: &mut [u32],
+    marks: &mut [u8],
+    image: &[u8],
+) -> Resumed
+    requires { ⌜ (Ready (now file) n (now variables) (now inputs) (now levels) (now marks)) × (length (now image) ≡ 72) ⌝ }
+    ensures { λ r. ⌜ Resumes (now (file .entry)) n (now (inputs .entry)) (now (variables .entry)) (now (levels .entry)) (now (marks .entry)) (now (image .entry))
+        (now (variables .exit)) (now (levels .exit)) (now (marks .exit)) r ⌝ }
+{
+    let mut words: [u32; 18] = [0; 18];
+    load_words(image, &mut words);
+    let index = words[0] as usize;
+    let tick = words[1];
+    if !after_save(file, index) {
+        return Resumed::Refused(Refusal::BadImage);
+    }
+    if n.period < tick {
+        return Resumed::Refused(Refusal::BadImage);
+    }
+    let mut cells: [u32; 50] = [0; 50];
+    load_variables(&mut cells, &words[2..]);
+    load_outputs(&mut cells, levels, marks);
+    let to = file.len() / 12;
+    let e = run_from(
+        file,
+        index,
+        to,
+        n,
+        inputs,
+        tick + n.period,
+        tick,
+        &mut cells,
+    );
+    store(&cells, variables, levels, marks);
+    Resumed::Ended {
+        tick: e.tick,
+        overran: e.overran,
+    }
+}
+
+// A run taken up from an image: its end tick and whether it overran, or the first refusal of 6, 1 to 5, 8, 10 and 11.
+pub fn resume(
+    settings: &[u8],
+    form: Form,
+    file: &[u8],
+    variables: &mut [u32],
+    inputs: &[u32],
+    levels: &mut [u32],
+    marks: &mut [u8],
+    image: &[u8],
+) -> Resumed
+    ensures { λ r. ⌜ (let c = loan (now (settings .entry)) form (now (file .entry)) (now (variables .entry)) (now (inputs .entry)) (now (levels .entry)) (now (marks .entry)) in
+        ((resumed r ≡ resumeReply c (now (image .entry)))
+        × (buffers (now (variables .exit)) (now (levels .exit)) (now (marks .exit)) ≡ resumeBuffers c (now (image .entry))))) ⌝ }
+{
+    let bad = bad_buffers(
+        variables.len(),
+        inputs.len(),
+        levels.len(),
+        marks.len(),
+        image.len() != 72,
+    );
+    let r = ready(settings, form, file, bad);
+    match r {
+        Decoded::Refused(x) => Resumed::Refused(x),
+        Decoded::Valid(n) => resume_ready(file, n, variables, inputs, levels, marks, image),
+    }
+}
+
+// A run taken up with no finished SAVE: from the first record and the first variables on, with the outputs as the stop left them.
+pub fn restart(
+    settings: &[u8],
+    form: Form,
+    file: &[u8],
+    variables: &mut [u32],
+    inputs: &[u32],
+    levels: &mut [u32],
+    marks: &mut [u8],
+) -> Resumed
+    ensures { λ r. ⌜ (let c = loan (now (settings .entry)) form (now (file .entry)) (now (variables .entry)) (now (inputs .entry)) (now (levels .entry)) (now (marks .entry)) in
+        ((resumed r ≡ restartReply c) × (buffers (now (variables .exit)) (now (levels .exit)) (now (marks .exit)) ≡ restartBuffers c))) ⌝ }
+{
+    let bad = bad_buffers(
+        variables.len(),
+        inputs.len(),
+        levels.len(),
+        marks.len(),
+        false,
+    );
+    let r = ready(settings, form, file, bad);
+    match r {
+        Decoded::Refused(x) => Resumed::Refused(x),
+        Decoded::Valid(n) => {
+            let e = run_whole(file, n, variables, inputs, levels, marks);
+            Resumed::Ended {
+                tick: e.tick,
+                overran: e.overran,
+            }
+        }
+    }
+}

@@ -56,7 +56,7 @@ module _ (s : List ℕ) (f : Form) (file : List ℕ) where
   read-sound σ R = read-good σ R .1
 
 -- a refusal keeps what was lent
-pub kept-refusal : (x : Refusal) (new old : List ℕ) → kept (refusal x) new old ≡ old
+pub kept-refusal : {A : Type 0} (x : Refusal) (new old : A) → kept (refusal x) new old ≡ old
 kept-refusal (Refusal.BadLength n) new old = refl
 kept-refusal (Refusal.BadKind i) new old = refl
 kept-refusal (Refusal.BadField i) new old = refl

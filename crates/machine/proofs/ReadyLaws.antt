@@ -1,0 +1,96 @@
+-- From the settings and the file that were read and the time of the file's records to what every run tries first.
+use Prim.Native.Nat.{ℕ, _/_, _≤_}
+use native.Mathlib.Omega.{arith}
+use mathlib.Core.Path.{_≡_, refl, sym, subst, _∙_}
+use mathlib.Core.Bool.{Bool, true, false}
+use mathlib.Core.List.{List, [], _∷_}
+use lib.Dec.{ltb}
+use lib.ListN.{length}
+use borrow.Author.Tests.{ltb-false}
+use Rattle.model.specs.declared.Form.{Form}
+use Rattle.model.specs.declared.Settings.{Settings}
+use Rattle.model.specs.declared.Refusal.{Refusal}
+use Rattle.model.specs.Settings.{settingsOf}
+use Rattle.model.specs.Trees.{fileTree}
+use Rattle.model.specs.Times.{time}
+use Rattle.model.specs.Answers.{Verdict, finished, refusal}
+use Rattle.model.specs.Replies.{turnDown, reading, above, fileTime}
+use Rattle.model.proofs.Sound.{sound-file}
+use Rattle.theory.proofs.Accepted.{in-range}
+use Rattle.records.specs.declared.settings.Decoded.{Decoded}
+use Rattle.records.specs.declared.settings.Decoded.the-variants.{Valid, Refused}
+use Rattle.reading.specs.Answers.{Reads}
+use Rattle.reading.proofs.Filled.{fills-file}
+use Rattle.reading.proofs.Entry.{read-sound, read-settings}
+use Rattle.timing.specs.declared.ticks.Time.{Time}
+use Rattle.timing.specs.declared.ticks.Time.the-variants.{Ticks, OverPeriod}
+use Rattle.timing.specs.Times.{Gives, answered}
+use Rattle.timing.specs.Blocks.{BlockTimes}
+use Rattle.machine.specs.Calls.{Readies}
+
+none : {A : Type 0} (x : Refusal) (σ : Settings) → Refused x ≡ Valid σ → A
+none x σ e = let z : _≡_ {A = ℕ} 0 1 = cc in absurd (omega arith)
+
+-- what the time of the records tells of row 8
+late : (p t : ℕ) → Gives p t OverPeriod → ltb p t ≡ true
+late p t G = go (ltb p t) refl (G .reply)
+  where
+    go : (o : Bool) → ltb p t ≡ o → answered OverPeriod ≡ turnDown 8 o (finished (t ∷ [])) → ltb p t ≡ true
+    go true h e = h
+    go false h e = let z : _≡_ {A = ℕ} 0 1 = cc in absurd (omega arith)
+
+early : (p t x : ℕ) → Gives p t (Ticks x) → ltb p t ≡ false
+early p t x G = go (ltb p t) refl (G .reply)
+  where
+    go : (o : Bool) → ltb p t ≡ o → answered (Ticks x) ≡ turnDown 8 o (finished (t ∷ [])) → ltb p t ≡ false
+    go true h e = let z : _≡_ {A = ℕ} 0 1 = cc in absurd (omega arith)
+    go false h e = h
+
+module _ (s : List ℕ) (f : Form) (file : List ℕ) (bad : Bool) where
+  abbrev rows : Verdict → Verdict
+  rows next = turnDown 8 (above s (fileTime s file)) (turnDown 10 bad next)
+
+  refused : (x : Refusal) → ((next : Verdict) → refusal x ≡ reading s f file (rows next)) → Readies s f file bad (Refused x)
+  refused x e = record {
+    reply = e;
+    settings = λ σ k. none x σ k;
+    sound = λ σ k. none x σ k;
+    in-time = λ σ k. none x σ k;
+    short = λ σ k. none x σ k;
+    good = λ σ k. none x σ k;
+  }
+
+  -- rows 6 and 1 to 5
+  pub not-read : {r : Decoded} (x : Refusal) → r ≡ Refused x → Reads s f file r → Readies s f file bad r
+  not-read x q R = subst (Readies s f file bad) (sym q) (refused x (λ next. subst (Reads s f file) q R .reply (rows next)))
+
+  module _ (σ : Settings) (R : Reads s f file (Valid σ)) where
+    is : σ ≡ settingsOf s
+    is = R .settings σ refl
+
+    gives : {t : Time} → BlockTimes file 0 (length file / 12) 16 σ t → Gives (settingsOf s .period) (fileTime s file) t
+    gives {t} B =
+        let fills = fills-file f file (fileTree file) (sound-file f file (read-sound s f file σ R)) in
+        subst (λ (τ : Settings). Gives (τ .period) (time τ (fileTree file)) t) is (B .right f (fileTree file) fills)
+
+    pub over-period : BlockTimes file 0 (length file / 12) 16 σ OverPeriod → Readies s f file bad (Refused Refusal.OverPeriod)
+    over-period B =
+        refused Refusal.OverPeriod
+        (λ next. sym (rw (late (settingsOf s .period) (fileTime s file) (gives B))) ∙ R .reply (rows next))
+
+    module _ {x : ℕ} (B : BlockTimes file 0 (length file / 12) 16 σ (Ticks x)) where
+      on-time : above s (fileTime s file) ≡ false
+      on-time = early (settingsOf s .period) (fileTime s file) x (gives B)
+
+      pub bad-lengths : bad ≡ true → Readies s f file bad (Refused Refusal.BadBuffers)
+      bad-lengths h = refused Refusal.BadBuffers (λ next. sym (rw (on-time, h)) ∙ R .reply (rows next))
+
+      pub is-ready : bad ≡ false → Readies s f file bad (Valid σ)
+      is-ready h = record {
+        reply = λ next. sym (rw (on-time, h)) ∙ R .reply (rows next);
+        settings = R .settings;
+        sound = λ τ k. record { sound = read-sound s f file σ R };
+        in-time = λ τ k. subst (λ (ν : Settings). time ν (fileTree file) ≤ ν .period) (sym (R .settings τ k)) (ltb-false (settingsOf s .period) (fileTime s file) on-time);
+        short = λ τ k. subst (λ (ν : Settings). ν .period ≤ 1000000) (sym (R .settings τ k)) (in-range s (read-settings s f file σ R) .short);
+        good = λ τ k. h;
+      }

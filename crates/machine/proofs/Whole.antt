@@ -1,0 +1,359 @@
+-- From a run of the file's records to what the calls answer and leave.
+use Prim.Native.Nat.{ℕ, _+_, _*_, _-_, _/_, _≤_, _<_}
+use native.Mathlib.Nat.{sub-zero}
+use native.Mathlib.Omega.{arith}
+use mathlib.Core.Path.{_≡_, refl, ap, ap₂, sym, subst, _∙_}
+use mathlib.Core.Bool.{Bool, true, false, cond, not, _||_, false≢true}
+use mathlib.Core.List.{List, [], _∷_}
+use lib.Dec.{eqb, leb, ltb}
+use lib.ListN.{length, getD, take, drop, replicate}
+use borrow.Author.Tests.{eqb-true, ltb-true, ltb-false, lt-ltb, le-ltb, le-leb, lt-leb}
+use Rattle.model.specs.declared.Form.{Form}
+use Rattle.model.specs.declared.Form.the-variants.{Task, Equalised, Laid}
+use Rattle.model.specs.declared.Settings.{Settings}
+use Rattle.model.specs.declared.Stopped.{Stopped}
+use Rattle.model.specs.declared.Resumed.{Resumed}
+use Rattle.model.specs.declared.Refusal.{Refusal}
+use Rattle.model.specs.Trees.{Block, size, fileTree}
+use Rattle.model.specs.Runs.{Step, duration, variablesAfter, outputsAfter, level, mark, overran, Buffers, leave, cleared, run}
+use Rattle.model.specs.Refusals.{maxRecords}
+use Rattle.model.specs.Stopping.{upto, Image, Saved, none, lastImage, wordsFrom, imageOf, rest, takeUp}
+use Rattle.model.specs.Replies.{kept, ended, isSaved, imageOver, afterSave}
+use Rattle.model.specs.Answers.{Verdict, finished, refused, bit}
+use Rattle.model.proofs.Bytes.{Bytes}
+use Rattle.model.proofs.Sound.{Sound, sound-file}
+use Rattle.model.specs.Placement.{LoopFree}
+use Rattle.theory.proofs.Reached.{rest-reached}
+use Rattle.theory.proofs.Stops.{upto-all}
+use Rattle.theory.proofs.Within.{run-within}
+use Rattle.reading.specs.Ranges.{Stands}
+use Rattle.reading.proofs.Standing.{stands-file}
+use Rattle.machine.specs.declared.blocks.Progress.{Progress}
+use Rattle.machine.specs.Machines.{Held, held, Machine, machine, does, runs}
+use Rattle.machine.specs.Contracts.{reached, Entered, BlockRan, bare, TakesUp, TookUp}
+use Rattle.machine.specs.Buffers.{Stored, withVariables, withOutputs}
+use Rattle.machine.specs.Calls.{buffers, badLengths, Ready, steps, RunWhole, stopVerdict, Stops, strayAt, resumeVerdict, Resumes, StoredImage}
+use Rattle.machine.proofs.Doing.{heldAfter, does-upto}
+use Rattle.machine.proofs.RunningLoops.{denied, granted}
+use Rattle.machine.proofs.Marks.{marks-bytes}
+use Rattle.machine.proofs.Positions.{rest-shorter}
+use Rattle.machine.proofs.ImageLaws.{beyond}
+
+or-true : (o : Bool) → (o || true) ≡ true
+or-true true = refl
+or-true false = refl
+
+-- LENGTHS
+
+pub equal-of : (a b : ℕ) → not (eqb a b) ≡ false → a ≡ b
+equal-of a b e = eqb-true a b (go (eqb a b) e)
+  where
+    go : (o : Bool) → not o ≡ false → o ≡ true
+    go true e = refl
+    go false e = sym e
+
+pub neither : (a b : Bool) → (a || b) ≡ false → (a ≡ false) × (b ≡ false)
+neither true b e = let z : _≡_ {A = ℕ} 0 1 = cc in absurd (omega arith)
+neither false b e = (refl, e)
+
+-- buffers of the table's lengths
+pub record Lengths (v i l m : ℕ) : Type 0 where
+  pub variables : v ≡ 16
+  pub inputs : i ≡ 8
+  pub levels : l ≡ 8
+  pub marks : m ≡ 8
+
+pub good-lengths : (v i l m : ℕ) → badLengths v i l m ≡ false → Lengths v i l m
+good-lengths v i l m e =
+    let c = neither (not (eqb v 16) || not (eqb i 8) || not (eqb l 8)) (not (eqb m 8)) e in
+    let b = neither (not (eqb v 16) || not (eqb i 8)) (not (eqb l 8)) (c .0) in
+    let a = neither (not (eqb v 16)) (not (eqb i 8)) (b .0) in
+    record { variables = equal-of v 16 (a .0); inputs = equal-of i 8 (a .1); levels = equal-of l 8 (b .1); marks = equal-of m 8 (c .1) }
+
+-- WHAT STEPS LEAVE
+
+-- the steps us are done from tick t on, from b on
+pub record Left (us : List Step) (t : ℕ) (b : Buffers) (e : Progress) (new : List ℕ) : Type 0 where
+  pub tick : e .tick ≡ t + duration us
+  pub overran-too : e .overran ≡ overran us
+  pub variables : held new .variables ≡ variablesAfter us (b .variables)
+  pub levels : held new .levels ≡ outputsAfter level us (b .levels)
+  pub marks : held new .marks ≡ outputsAfter mark us (b .marks)
+
+module _ {us : List Step} {t : ℕ} {b : Buffers} {e : Progress} {new : List ℕ} (L : Left us t b e new) where
+  pub left-bytes : Bytes (b .marks) → Bytes (held new .marks)
+  left-bytes h = subst Bytes (sym (L .marks)) (marks-bytes us (b .marks) h)
+
+  pub left-stored : {v l m : List ℕ} → Stored (held new) v l m → buffers v l m ≡ leave us b
+  left-stored S = rw (S .variables ∙ L .variables, S .levels ∙ L .levels, S .marks ∙ L .marks)
+
+-- the outputs and the image before the first step
+pub cleared-cells : (v : List ℕ) → withVariables v (held (replicate 50 0)) ≡ record { variables = v; levels = replicate 8 0; marks = replicate 8 0; image = none }
+unfolding held
+cleared-cells v = refl
+
+-- THE WHOLE FILE
+
+most : (f : Form) → maxRecords f ≤ 5461
+most Task = omega arith
+most Equalised = omega arith
+most Laid = omega arith
+
+module _ {file : List ℕ} {σ : Settings} {v ins l m : List ℕ} (R : Ready file σ v ins l m) where
+  pub lent : Lengths (length v) (length ins) (length l) (length m)
+  lent = good-lengths (length v) (length ins) (length l) (length m) (R .lengths)
+
+  tree-sound : Sound (R .form) file (fileTree file)
+  tree-sound = sound-file (R .form) file (R .sound .sound)
+
+  pub whole-few : length file / 12 ≤ 5461
+  whole-few = omega (arith, tree-sound .whole-records, tree-sound .few, most (R .form))
+
+  pub whole-size : size (fileTree file) ≡ length file / 12
+  whole-size = omega (arith, tree-sound .whole-records)
+
+  whole-stands : Stands (R .form) file 0 (length file / 12) (fileTree file)
+  whole-stands = stands-file (R .form) file (R .sound)
+
+  pub whole-entered : {w : List ℕ} {limit : ℕ} → length w ≡ 50 → Entered file 0 (length file / 12) ins w limit 0
+  whole-entered k = record {
+    form = R .form;
+    file = record { block = fileTree file; stands = whole-stands; inside = omega arith };
+    few = whole-few;
+    lent = record { inputs = lent .inputs; cells = k };
+    early = omega arith;
+  }
+
+  -- run from what h holds, up to a limit
+  module _ {limit : ℕ} {w new : List ℕ} {e : Progress} {h : Held} (B : BlockRan file 0 (length file / 12) σ ins limit 0 w new e) (k : held w ≡ h) (same : h .variables ≡ v) where
+    abbrev done : List Step
+    done = upto limit (steps file σ ins v)
+
+    abbrev outcome : List Step → ℕ → Machine
+    outcome es c = machine (0 + duration (upto c es)) (ltb c (duration es)) (overran (upto c es)) (heldAfter (upto c es) 0 h)
+
+    whole-reaches : reached e new ≡ outcome (steps file σ ins v) limit
+    unfolding runs
+    whole-reaches =
+        B .right (R .form) (fileTree file) whole-stands .reaches
+        ∙ ap (λ (x : Held). does limit (run σ ins (fileTree file) 0 (x .variables)) (machine 0 false false x)) k
+        ∙ ap (λ (x : List ℕ). does limit (run σ ins (fileTree file) 0 x) (machine 0 false false h)) same
+        ∙ does-upto limit (steps file σ ins v) 0 false h (omega arith)
+        ∙ ap (outcome (steps file σ ins v)) (sub-zero limit)
+
+    pub whole-left : Left done 0 (buffers v (h .levels) (h .marks)) e new
+    whole-left = record {
+      tick = ap (λ (x : Machine). x .tick) whole-reaches;
+      overran-too = ap (λ (x : Machine). x .overran) whole-reaches;
+      variables = ap (λ (x : Machine). x .holds .variables) whole-reaches ∙ ap (variablesAfter done) same;
+      levels = ap (λ (x : Machine). x .holds .levels) whole-reaches;
+      marks = ap (λ (x : Machine). x .holds .marks) whole-reaches;
+    }
+
+    pub whole-cut : e .cut ≡ ltb limit (duration (steps file σ ins v))
+    whole-cut = ap (λ (x : Machine). x .cut) whole-reaches
+
+    pub whole-image : held new .image ≡ lastImage done 0 v (h .image)
+    whole-image = ap (λ (x : Machine). x .holds .image) whole-reaches ∙ ap (λ (x : List ℕ). lastImage done 0 x (h .image)) same
+
+  -- WHOLE: it ends within the period
+
+  module _ {w new : List ℕ} {e : Progress} (B : BlockRan file 0 (length file / 12) σ ins (σ .period) 0 w new e)
+      (k : held w ≡ withOutputs l m (withVariables v (held (replicate 50 0)))) where
+    all-done : upto (σ .period) (steps file σ ins v) ≡ steps file σ ins v
+    all-done = upto-all (σ .period) (steps file σ ins v) (omega (arith, run-within σ ins (fileTree file) 0 .in-all v, R .in-time))
+
+    pub run-left : Left (steps file σ ins v) 0 (buffers v l m) e new
+    run-left = subst (λ (us : List Step). Left us 0 (buffers v l m) e new) all-done (whole-left B k refl)
+
+    pub run-ran : {v′ l′ m′ : List ℕ} → Stored (held new) v′ l′ m′ → RunWhole file σ ins v l m v′ l′ m′ e
+    run-ran S = record { tick = omega (arith, run-left .tick); overran-too = run-left .overran-too; leaves = left-stored run-left S }
+
+  -- UP TO A STOP TICK
+
+  module _ {stop : ℕ} {w new : List ℕ} {e : Progress} (B : BlockRan file 0 (length file / 12) σ ins stop 0 w new e) (a : held w ≡ withVariables v (held (replicate 50 0))) where
+    abbrev es : List Step
+    es = steps file σ ins v
+
+    start-cells : held w ≡ record { variables = v; levels = replicate 8 0; marks = replicate 8 0; image = none }
+    start-cells = a ∙ cleared-cells v
+
+    pub stop-left : Left (upto stop es) 0 (cleared v) e new
+    stop-left = whole-left B start-cells refl
+
+    abbrev result : Saved
+    result = lastImage (upto stop es) 0 v none
+
+    pub stop-late : {image : List ℕ} → not (e .cut) ≡ true → Stops file σ ins stop v l m image v l m image (Stopped.Refused Refusal.LateStop)
+    stop-late {image} n =
+        let c = ltb-false stop (duration es) (sym (whole-cut B start-cells refl) ∙ denied (e .cut) n) in
+        let r : refused 12 [] ≡ stopVerdict es v stop = rw (le-leb (duration es) stop c) in
+        record {
+          reply = r;
+          leaves = ap (λ (x : Verdict). kept x (leave (upto stop es) (cleared v)) (buffers v l m)) r;
+          saves = ap (λ (x : Verdict). kept x (imageOver result image) image) r;
+        }
+
+    pub stop-done : {image v′ l′ m′ image′ : List ℕ} {o : Bool} → not (e .cut) ≡ false → Stored (held new) v′ l′ m′ → StoredImage (held new .image) image image′ o
+        → Stops file σ ins stop v l m image v′ l′ m′ image′ (Stopped.At stop o)
+    stop-done {image} {v′} {l′} {m′} {image′} {o} n S I =
+        let c = ltb-true stop (duration es) (sym (whole-cut B start-cells refl) ∙ granted (e .cut) n) in
+        let i = whole-image B start-cells refl in
+        let r : finished (stop ∷ 0 ∷ bit (isSaved result) ∷ []) ≡ stopVerdict es v stop = rw (lt-leb (duration es) stop c) in
+        record {
+          reply = ap (λ (b : Bool). finished (stop ∷ 0 ∷ bit b ∷ [])) (I .told ∙ ap isSaved i) ∙ r;
+          leaves = left-stored stop-left S ∙ ap (λ (x : Verdict). kept x (leave (upto stop es) (cleared v)) (buffers v l m)) r;
+          saves = I .bytes ∙ ap (λ (s : Saved). imageOver s image) i ∙ ap (λ (x : Verdict). kept x (imageOver result image) image) r;
+        }
+
+-- RUN CLEARS THE OUTPUTS FIRST
+
+module _ {file : List ℕ} {σ : Settings} {v ins l₀ m₀ : List ℕ} where
+  pub cleared-ready : {l m : List ℕ} → Ready file σ v ins l m → l₀ ≡ replicate 8 0 → m₀ ≡ replicate 8 0 → Ready file σ v ins l₀ m₀
+  cleared-ready R e k = record {
+    form = R .form;
+    sound = R .sound;
+    in-time = R .in-time;
+    short = R .short;
+    lengths = rw (e, k, lent R .variables, lent R .inputs);
+  }
+
+  pub cleared-run : {v′ l′ m′ : List ℕ} {p : Progress} → l₀ ≡ replicate 8 0 → m₀ ≡ replicate 8 0 → RunWhole file σ ins v l₀ m₀ v′ l′ m′ p
+      → RunWhole file σ ins v (replicate 8 0) (replicate 8 0) v′ l′ m′ p
+  cleared-run {v′} {l′} {m′} {p} e k W =
+      subst (λ (x : List ℕ). RunWhole file σ ins v (replicate 8 0) x v′ l′ m′ p) k (subst (λ (x : List ℕ). RunWhole file σ ins v x m₀ v′ l′ m′ p) e W)
+
+-- FROM AN IMAGE ON
+
+module _ {file : List ℕ} {σ : Settings} {v ins l m : List ℕ} (R : Ready file σ v ins l m) (M : Image) where
+  abbrev leaving : Image → Buffers
+  leaving x = kept (resumeVerdict file σ ins x) (leave (takeUp σ ins (fileTree file) x) (buffers (x .variables) l m)) (buffers v l m)
+
+  -- row 11
+  pub resume-stray : {image : List ℕ} → M ≡ imageOf image → strayAt file (σ .period) M ≡ true → Resumes file σ ins v l m image v l m (Resumed.Refused Refusal.BadImage)
+  resume-stray is e =
+      let r : refused 11 [] ≡ resumeVerdict file σ ins M = rw e in
+      record {
+        reply = r ∙ ap (resumeVerdict file σ ins) is;
+        leaves = ap (λ (x : Verdict). kept x (leave (takeUp σ ins (fileTree file) M) (buffers (M .variables) l m)) (buffers v l m)) r ∙ ap leaving is;
+      }
+
+  module _ (a : afterSave file (M .index) ≡ true) (p : M .tick ≤ σ .period) where
+    abbrev j : ℕ
+    j = M .index
+
+    abbrev t : ℕ
+    t = M .tick
+
+    not-zero : j ≡ 0 → ⊥
+    not-zero z = false≢true (sym (ap (afterSave file) z) ∙ a)
+
+    in-file : j ≤ length file / 12
+    in-file = go (ltb (12 * (j - 1)) (length file)) refl
+      where
+        go : (o : Bool) → ltb (12 * (j - 1)) (length file) ≡ o → j ≤ length file / 12
+        go true e = omega (arith, ltb-true (12 * (j - 1)) (length file) e, tree-sound R .whole-records)
+        go false e = absurd (false≢true (beyond file (λ z. not-zero z) (ltb-false (12 * (j - 1)) (length file) e) ∙ a))
+
+    loop-free : LoopFree (fileTree file)
+    loop-free = rest-reached (R .form) file j (R .sound .sound) a
+
+    pub resume-takes : {w : List ℕ} → length w ≡ 50 → TakesUp file j (length file / 12) ins w (t + σ .period) t
+    resume-takes k = record {
+      form = R .form;
+      file = record { block = fileTree file; stands = whole-stands R; inside = omega arith };
+      ends = whole-size R;
+      loop-free = loop-free;
+      few = whole-few R;
+      inside = in-file;
+      lent = record { inputs = lent R .inputs; cells = k };
+      early = omega arith;
+    }
+
+    abbrev again : List Step
+    again = takeUp σ ins (fileTree file) M
+
+    module _ {w new : List ℕ} {e : Progress} (T : TookUp file j (length file / 12) σ ins (t + σ .period) t w new e)
+        (k : held w ≡ withOutputs l m (withVariables (M .variables) (held (replicate 50 0)))) where
+      abbrev from : Held
+      from = withOutputs l m (withVariables (M .variables) (held (replicate 50 0)))
+
+      within-period : duration again ≤ σ .period
+      unfolding takeUp
+      within-period =
+          omega (arith, run-within σ ins (rest (fileTree file) j) j .in-all (M .variables), rest-shorter σ (fileTree file) j loop-free, R .in-time)
+
+      abbrev outcome-from : List Step → ℕ → Machine
+      outcome-from es c = machine (t + duration (upto c es)) (ltb c (duration es)) (overran (upto c es)) (heldAfter (upto c es) t from)
+
+      resume-reaches : bare (reached e new) ≡ bare (outcome-from again (t + σ .period - t))
+      unfolding runs takeUp
+      resume-reaches =
+          T .right (R .form) (fileTree file) (whole-stands R)
+          ∙ ap (λ (x : Held). bare (does (t + σ .period) (run σ ins (rest (fileTree file) j) j (x .variables)) (machine t false false x))) k
+          ∙ ap bare (does-upto (t + σ .period) again t false from (omega arith))
+
+      resume-done : upto (t + σ .period - t) again ≡ again
+      resume-done = upto-all (t + σ .period - t) again (omega (arith, within-period))
+
+      pub resume-left : Left again t (buffers (M .variables) l m) e new
+      resume-left =
+          let q = resume-reaches in
+          subst (λ (us : List Step). Left us t (buffers (M .variables) l m) e new) resume-done
+          (record {
+            tick = ap (λ (x : Machine). x .tick) q;
+            overran-too = ap (λ (x : Machine). x .overran) q;
+            variables = ap (λ (x : Machine). x .holds .variables) q;
+            levels = ap (λ (x : Machine). x .holds .levels) q;
+            marks = ap (λ (x : Machine). x .holds .marks) q;
+          })
+
+      pub resume-ran : {image v′ l′ m′ : List ℕ} → M ≡ imageOf image → Stored (held new) v′ l′ m′
+          → Resumes file σ ins v l m image v′ l′ m′ (Resumed.Ended (e .tick) (e .overran))
+      resume-ran is S =
+          let r : ended t again ≡ resumeVerdict file σ ins M = rw (a, le-ltb (σ .period) t p) in
+          record {
+            reply = ap₂ (λ (x : ℕ) (o : Bool). finished (x ∷ bit o ∷ [])) (resume-left .tick) (resume-left .overran-too) ∙ r ∙ ap (resumeVerdict file σ ins) is;
+            leaves = left-stored resume-left S ∙ ap (λ (x : Verdict). kept x (leave again (buffers (M .variables) l m)) (buffers v l m)) r ∙ ap leaving is;
+          }
+
+-- the image in 18 words that were read
+abbrev imageFrom : List ℕ → Image
+imageFrom w = record { index = getD w 0 0; tick = getD w 1 0; variables = take 16 (drop 2 w) }
+
+image-is : (w image : List ℕ) → w ≡ wordsFrom image 0 18 → imageFrom w ≡ imageOf image
+unfolding imageOf
+image-is w image e = rw e
+
+pub index-small : (w image : List ℕ) → w ≡ wordsFrom image 0 18 → Bytes image → getD w 0 0 < 4294967296
+index-small w image e h = rw e (omega (arith, h 0, h 1, h 2, h 3))
+
+module _ {file : List ℕ} {σ : Settings} {v ins l m : List ℕ} (R : Ready file σ v ins l m) (w : List ℕ) where
+  module _ {o : Bool} (s : o ≡ afterSave file (getD w 0 0)) where
+    pub words-stray : {image : List ℕ} → w ≡ wordsFrom image 0 18 → not o ≡ true → Resumes file σ ins v l m image v l m (Resumed.Refused Refusal.BadImage)
+    words-stray {image} e n = resume-stray R (imageFrom w) (image-is w image e) (rw (sym s ∙ denied o n))
+
+    module _ (n : not o ≡ false) (p : getD w 1 0 ≤ σ .period) where
+      abbrev index : ℕ
+      index = getD w 0 0
+
+      abbrev tick : ℕ
+      tick = getD w 1 0
+
+      there : afterSave file index ≡ true
+      there = sym s ∙ granted o n
+
+      pub words-take : {cells : List ℕ} → length cells ≡ 50 → TakesUp file index (length file / 12) ins cells (tick + σ .period) tick
+      words-take k = resume-takes R (imageFrom w) there p k
+
+      module _ {cells new : List ℕ} {e : Progress} (T : TookUp file index (length file / 12) σ ins (tick + σ .period) tick cells new e)
+          (k : held cells ≡ withOutputs l m (withVariables (take 16 (drop 2 w)) (held (replicate 50 0)))) where
+        pub words-bytes : Bytes m → Bytes (held new .marks)
+        words-bytes h = left-bytes (resume-left R (imageFrom w) there p T k) h
+
+        pub words-ran : {image v′ l′ m′ : List ℕ} → w ≡ wordsFrom image 0 18 → Stored (held new) v′ l′ m′
+            → Resumes file σ ins v l m image v′ l′ m′ (Resumed.Ended (e .tick) (e .overran))
+        words-ran {image} e S = resume-ran R (imageFrom w) there p T k (image-is w image e) S
+
+  pub words-late : {image : List ℕ} → w ≡ wordsFrom image 0 18 → σ .period < getD w 1 0 → Resumes file σ ins v l m image v l m (Resumed.Refused Refusal.BadImage)
+  words-late {image} e p = resume-stray R (imageFrom w) (image-is w image e) (rw (lt-ltb (σ .period) (getD w 1 0) p) (or-true (not (afterSave file (getD w 0 0)))))

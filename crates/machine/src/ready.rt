@@ -1,0 +1,40 @@
+// Rows 6, 1 to 5, 8 and 10 of the table, which every run tries first.
+ghost use mathlib.Core.Path.{_≡_};
+ghost use mathlib.Core.Bool.{_||_};
+ghost use Rattle.machine.specs.Calls.{badLengths, Readies};
+use model::Form;
+use model::Refusal;
+use records::settings::Decoded;
+use timing::blocks::block_time;
+use timing::ticks::Time;
+
+// Whether a length is not the table's, or another cause of row 10 holds.
+pub fn bad_buffers(
+    variables: usize,
+    inputs: usize,
+    levels: usize,
+    marks: usize,
+    cause: bool,
+) -> bool
+    ensures { λ r. ⌜ r ≡ (badLengths variables inputs levels marks || cause) ⌝ }
+{
+    (variables != 16) | (inputs != 8) | (levels != 8) | (marks != 8) | cause
+}
+
+// The settings, or the first refusal of the rows. bad is row 10's cause.
+pub fn ready(settings: &[u8], form: Form, file: &[u8], bad: bool) -> Decoded
+    ensures { λ r. ⌜ Readies (now (settings .entry)) form (now (file .entry)) bad r ⌝ }
+{
+    let read = reading::read(settings, form, file);
+    let Decoded::Valid(n) = read else {
+        return read;
+    };
+    let time = block_time(file, 0, file.len() / 12, 16, n);
+    let Time::Ticks(_) = time else {
+        return Decoded::Refused(Refusal::OverPeriod);
+    };
+    if bad {
+        return Decoded::Refused(Refusal::BadBuffers);
+    }
+    Decoded::Valid(n)
+}
