@@ -6,7 +6,7 @@ ghost use Rattle.model.specs.Stopping.{words, wordsFrom};
 ghost use Rattle.model.proofs.Bytes.{Bytes};
 ghost use Rattle.machine.specs.Machines.{held};
 ghost use Rattle.machine.specs.Buffers.{Sized, Stored, withVariables, withOutputs};
-use crate::cells::copy;
+use records::words::copy;
 use records::words::put_word;
 use records::words::word_at;
 

@@ -5,6 +5,7 @@ ghost use Prim.Native.Nat.{_+_, _≤_, _<_};
 ghost use lib.ListN.{length, getD};
 ghost use Rattle.model.specs.Runs.{assigns, outputs, saves};
 ghost use Rattle.machine.specs.Machines.{held, affect};
+use records::words::copy;
 
 pub const CELLS: usize = 50;
 
@@ -41,18 +42,6 @@ pub fn output(cells: &mut [u32], p: usize, x: u32)
 {
     cells[LEVELS + p] = x;
     cells[MARKS + p] = 1;
-}
-
-// One slice over another of the same length.
-pub fn copy(from: &[u32], to: &mut [u32])
-    requires { ⌜ length (now from) ≡ length (now to) ⌝ }
-    ensures { λ _. ⌜ now (to .exit) ≡ now (from .entry) ⌝ }
-{
-    let mut i: usize = 0;
-    while i < to.len() {
-        to[i] = from[i];
-        i += 1;
-    }
 }
 
 // The image of a SAVE that ends at `tick`, before the record with that index.

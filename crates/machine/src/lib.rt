@@ -18,7 +18,6 @@ use buffers::load_outputs;
 use buffers::load_variables;
 use buffers::load_words;
 use buffers::store;
-use cells::copy;
 use images::after_save;
 use images::store_image;
 use model::Form;
@@ -30,6 +29,7 @@ use model::Stopped;
 use ready::bad_buffers;
 use ready::ready;
 use records::settings::Decoded;
+use records::words::copy;
 
 // All levels and marks set to 0.
 fn clear(levels: &mut [u32], marks: &mut [u8])

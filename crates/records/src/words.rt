@@ -1,4 +1,4 @@
-// Numbers of 32 bits: as 4 bytes, the lowest first, and their products.
+// Numbers of 32 bits: as 4 bytes, the lowest first, their products, and slices of them.
 ghost use mathlib.Core.Path.{_≡_};
 ghost use Prim.Native.Nat.{_+_, _*_, _%_, _^_, _≤_, _<_};
 ghost use lib.ListN.{length};
@@ -36,4 +36,16 @@ pub fn wrapping_mul(a: u32, b: u32) -> u32
     ensures { λ r. ⌜ r ≡ a * b % 2 ^ 32 ⌝ }
 {
     ((a as u64) * (b as u64) % 4294967296) as u32
+}
+
+// One slice over another of the same length.
+pub fn copy(from: &[u32], to: &mut [u32])
+    requires { ⌜ length (now from) ≡ length (now to) ⌝ }
+    ensures { λ _. ⌜ now (to .exit) ≡ now (from .entry) ⌝ }
+{
+    let mut i: usize = 0;
+    while i < to.len() {
+        to[i] = from[i];
+        i += 1;
+    }
 }

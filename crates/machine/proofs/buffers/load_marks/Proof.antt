@@ -2,7 +2,7 @@ use borrow.Author.Needs.{needs}
 use Prim.Native.Nat.{_-_}
 use native.Mathlib.Omega.{arith}
 use lib.ListN.{length}
-use Rattle.machine.proofs.CellLaws.{Copied, copied-start, copied-step, copied-end}
+use Rattle.records.proofs.Copying.{Copied, copied-start, copied-step, copied-end}
 use Rattle.machine.proofs.buffers.load_marks.Statement.{statement}
 use Rattle.machine.proofs.buffers.load_marks.Tie as tie
 

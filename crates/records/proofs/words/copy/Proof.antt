@@ -1,9 +1,9 @@
 use Prim.Native.Nat.{_-_}
 use lib.ListN.{length}
 use borrow.Author.Needs.{needs}
-use Rattle.machine.proofs.CellLaws.{Copied, copied-start, copied-step, copied-end}
-use Rattle.machine.proofs.cells.copy.Statement.{statement}
-use Rattle.machine.proofs.cells.copy.Tie as tie
+use Rattle.records.proofs.Copying.{Copied, copied-start, copied-step, copied-end}
+use Rattle.records.proofs.words.copy.Statement.{statement}
+use Rattle.records.proofs.words.copy.Tie as tie
 
 abbrev Inv-loop : tie.InvT-loop
 Inv-loop from to₀ i₀ to i = Copied from to₀ to i
