@@ -16,7 +16,7 @@ use Rattle.model.specs.Settings.{settingsOf}
 use Rattle.model.specs.Trees.{Block, fileTree}
 use Rattle.model.specs.Runs.{Step, duration, leave, cleared, run}
 use Rattle.model.specs.Stopping.{upto, none, lastImage, imageOf, start, takeUp}
-use Rattle.model.specs.Answers.{Verdict, finished, bit, refusal, ran, stopped, resumed}
+use Rattle.model.specs.Answers.{Verdict, finished, bit, ran, stopped, resumed}
 use Rattle.model.specs.Replies.{turnDown, reading, above, fileTime, kept, Loan, ready, ended, stepsOf, runReply, runBuffers, imageAt, stopReply, stopBuffers, imageOver, stopImage}
 use Rattle.model.specs.Replies.{takenUp, takenBuffers, resumeReply, resumeBuffers, restartReply, restartBuffers}
 use Rattle.theory.proofs.Left.{rest-0}

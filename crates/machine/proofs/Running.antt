@@ -5,7 +5,6 @@ use mathlib.Core.Path.{_≡_, refl, ap, sym, subst, _∙_}
 use mathlib.Core.Bool.{Bool, true, false, _||_}
 use mathlib.Core.List.{List}
 use lib.ListN.{length}
-use Rattle.model.specs.declared.Form.{Form}
 use Rattle.model.specs.declared.Settings.{Settings}
 use Rattle.model.specs.Records.{kindAt}
 use Rattle.model.specs.Trees.{Block, nil, skip, act, branch, while, times, size}
@@ -15,7 +14,7 @@ use Rattle.reading.specs.Ranges.{Stands, firstSize, afterFirst}
 use Rattle.reading.proofs.Filled.{size-first}
 use Rattle.reading.proofs.Standing.{stands-once, stands-closed, stands-end, stands-some, stands-after}
 use Rattle.machine.specs.declared.blocks.Progress.{Progress}
-use Rattle.machine.specs.Machines.{Machine, machine, held, does, runs}
+use Rattle.machine.specs.Machines.{Machine, does, runs}
 use Rattle.machine.specs.Contracts.{going, reached, halted, Ran, firstRun, Entered, Statement, BlockRan, StatementRan}
 use Rattle.machine.proofs.Doing.{runs-within, runs-on, runs-halted}
 

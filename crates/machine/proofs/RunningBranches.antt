@@ -1,25 +1,21 @@
 -- An IF run: its test, the side that it chooses, and the record behind its END.
-use Prim.Native.Nat.{ℕ, _+_, _*_, _-_, _≤_, _<_}
+use Prim.Native.Nat.{ℕ, _+_, _-_, _≤_, _<_}
 use native.Mathlib.Omega.{arith}
-use mathlib.Core.Path.{_≡_, refl, ap, sym, subst, _∙_}
+use mathlib.Core.Path.{_≡_, ap, sym, subst, _∙_}
 use mathlib.Core.Bool.{Bool, true, false, cond}
 use mathlib.Core.List.{List}
-use lib.Dec.{eqb}
-use lib.ListN.{length}
-use borrow.Author.Tests.{ne-eqb}
 use Rattle.model.specs.declared.Form.{Form}
 use Rattle.model.specs.declared.Settings.{Settings}
-use Rattle.model.specs.Records.{Rec, kindAt, recordAt, IF, ELSE, END}
-use Rattle.model.specs.Trees.{Test, Block, branch, size, elseRec, endRec}
-use Rattle.model.specs.Runs.{holds, choose, run}
-use Rattle.reading.specs.Closing.{closingIn}
+use Rattle.model.specs.Records.{Rec, kindAt, recordAt, IF}
+use Rattle.model.specs.Trees.{Test, Block, branch, size}
+use Rattle.model.specs.Runs.{holds, run}
 use Rattle.reading.specs.Ranges.{Stands, firstPart, secondPart, afterFirst, testOf}
 use Rattle.reading.proofs.Standing.{ending, if-at, first-side, second-side, sides-end}
 use Rattle.machine.specs.declared.blocks.Progress.{Progress}
 use Rattle.machine.specs.Machines.{held, runs}
-use Rattle.machine.specs.Contracts.{Lent, going, halted, Ran, firstRun, Entered, Statement, BlockRan, StatementRan, Inner, closed, passed, chosen}
+use Rattle.machine.specs.Contracts.{going, halted, Ran, firstRun, Entered, Statement, BlockRan, StatementRan, Inner, closed, passed, chosen}
 use Rattle.machine.proofs.Doing.{choose-cut, choose-first, choose-second}
-use Rattle.machine.proofs.Running.{reached-going, onward, cutAt, ran-early, ran-from}
+use Rattle.machine.proofs.Running.{reached-going, onward, cutAt, ran-from}
 use Rattle.machine.proofs.RunningSteps.{block, form, stands, told}
 
 -- the record behind the one that closes a block

@@ -1,23 +1,23 @@
 -- The loops run round by round: what is left of one, and what its tests say.
-use Prim.Native.Nat.{ℕ, zero, suc, _+_, _*_, _-_, _≤_, _<_}
+use Prim.Native.Nat.{ℕ, suc, _+_, _-_, _≤_, _<_}
 use native.Mathlib.Nat.{sub-zero}
 use native.Mathlib.Omega.{arith}
 use mathlib.Core.Path.{_≡_, refl, ap, sym, subst, _∙_}
 use mathlib.Core.Bool.{Bool, true, false, cond, not}
-use mathlib.Core.Logic.{_⊎_, inl, inr, ⊎-elim}
+use mathlib.Core.Logic.{_⊎_, inl, inr}
 use mathlib.Core.List.{List, [], _++_}
 use lib.ListN.{length}
 use Rattle.model.specs.declared.Settings.{Settings}
 use Rattle.model.specs.Records.{Rec, kindAt, recordAt, IF, WHILE, TIMES}
-use Rattle.model.specs.Trees.{Test, Block, nil, while, times, size}
+use Rattle.model.specs.Trees.{Block, nil, while, times, size}
 use Rattle.model.specs.Runs.{Step, overran, variablesAfter, holds, lastTest, Run, _⊳_, single, spin, rounds, run}
 use Rattle.theory.proofs.Sequences.{⊳-assoc}
 use Rattle.reading.specs.Closing.{opensBlock}
 use Rattle.reading.specs.Ranges.{Stands, firstPart, afterFirst, testOf}
 use Rattle.reading.proofs.Standing.{while-at, times-at, body-stands, body-ends}
 use Rattle.machine.specs.declared.blocks.Progress.{Progress}
-use Rattle.machine.specs.Machines.{Machine, held, runs}
-use Rattle.machine.specs.Contracts.{Lent, going, halted, Ran, firstRun, Entered, Statement, BlockRan, StatementRan, Rounds, closed}
+use Rattle.machine.specs.Machines.{held, runs}
+use Rattle.machine.specs.Contracts.{going, halted, Ran, Entered, Statement, BlockRan, StatementRan, Rounds, closed}
 use Rattle.machine.proofs.Doing.{spin-cut, spin-end, spin-round, rounds-nothing}
 use Rattle.machine.proofs.Running.{runs-same, onward, cutAt, ran-early, ran-on, ran-halted, ran-from}
 use Rattle.machine.proofs.RunningSteps.{block, form, stands, told}

@@ -1,8 +1,8 @@
 -- The statement at a record: its fields are in range, and one that opens no block is a single step.
-use Prim.Native.Nat.{ℕ, _+_, _≤_, _<_}
+use Prim.Native.Nat.{ℕ, _+_, _≤_}
 use native.Mathlib.Omega.{arith}
 use mathlib.Core.Path.{_≡_, refl, ap, ap₂, sym, subst, _∙_}
-use mathlib.Core.Bool.{Bool, true, false, _||_, _&&_}
+use mathlib.Core.Bool.{Bool, true, false, _||_}
 use mathlib.Core.Logic.{⊎-elim}
 use mathlib.Core.List.{List, [], _∷_}
 use lib.Dec.{eqb}
@@ -10,20 +10,19 @@ use borrow.Author.Tests.{eqb-true, eqb-false, ne-eqb}
 use Rattle.model.specs.declared.Form.{Form}
 use Rattle.model.specs.declared.Settings.{Settings}
 use Rattle.model.specs.Records.{Rec, kindAt, recordAt, SKIP, IF, WHILE, TIMES}
-use Rattle.model.specs.Trees.{Act, set, read, write, check, beat, save, Block, nil, skip, act, branch, while, times, skipRec, actRec}
+use Rattle.model.specs.Trees.{Act, set, read, write, check, beat, save, Block, nil, skip, act, branch, while, times, actRec}
 use Rattle.model.specs.Times.{ticks}
 use Rattle.model.specs.Refusals.{between, unused, testFits, fieldsFit}
 use Rattle.model.specs.Runs.{Effect, nothing, effect, Run, single, step}
 use Rattle.model.proofs.Shapes.{and-left, or-cases, Fit}
-use Rattle.reading.specs.Closing.{opensBlock, closesBlock}
+use Rattle.reading.specs.Closing.{opensBlock}
 use Rattle.reading.specs.Ranges.{Stands, firstSize, afterFirst}
-use Rattle.reading.proofs.FirstKinds.{IsAct}
 use Rattle.reading.proofs.Standing.{stands-once, stands-some, skip-at, act-at}
 use Rattle.timing.specs.Times.{stepTicks}
 use Rattle.timing.proofs.Firsts.{act-ticks}
 use Rattle.machine.specs.declared.blocks.Progress.{Progress}
 use Rattle.machine.specs.Machines.{runs, recordEffect}
-use Rattle.machine.specs.Contracts.{Lent, going, halted, Ran, firstRun, Statement, StatementRan}
+use Rattle.machine.specs.Contracts.{going, Ran, firstRun, Statement, StatementRan}
 use Rattle.machine.proofs.Running.{runs-same, ran-from}
 
 -- FIELDS

@@ -3,9 +3,9 @@ use Prim.Native.Nat.{ℕ, _+_, _*_, _-_, _/_, _≤_, _<_}
 use native.Mathlib.Nat.{sub-zero}
 use native.Mathlib.Omega.{arith}
 use mathlib.Core.Path.{_≡_, refl, ap, ap₂, sym, subst, _∙_}
-use mathlib.Core.Bool.{Bool, true, false, cond, not, _||_, false≢true}
+use mathlib.Core.Bool.{Bool, true, false, not, _||_, false≢true}
 use mathlib.Core.List.{List, [], _∷_}
-use lib.Dec.{eqb, leb, ltb}
+use lib.Dec.{eqb, ltb}
 use lib.ListN.{length, getD, take, drop, replicate}
 use borrow.Author.Tests.{eqb-true, ltb-true, ltb-false, lt-ltb, le-ltb, le-leb, lt-leb}
 use Rattle.model.specs.declared.Form.{Form}
@@ -14,7 +14,7 @@ use Rattle.model.specs.declared.Settings.{Settings}
 use Rattle.model.specs.declared.Stopped.{Stopped}
 use Rattle.model.specs.declared.Resumed.{Resumed}
 use Rattle.model.specs.declared.Refusal.{Refusal}
-use Rattle.model.specs.Trees.{Block, size, fileTree}
+use Rattle.model.specs.Trees.{size, fileTree}
 use Rattle.model.specs.Runs.{Step, duration, variablesAfter, outputsAfter, level, mark, overran, Buffers, leave, cleared, run}
 use Rattle.model.specs.Refusals.{maxRecords}
 use Rattle.model.specs.Stopping.{upto, Image, Saved, none, lastImage, wordsFrom, imageOf, rest, takeUp}

@@ -1,13 +1,13 @@
 -- A run as a machine that does one step after another up to a limit: the form in which the functions of this crate speak of the model's runs.
-use Prim.Native.Nat.{ℕ, _+_, _%_, _≤_}
-use mathlib.Core.Bool.{Bool, true, false, cond, _||_}
+use Prim.Native.Nat.{ℕ, _+_, _%_}
+use mathlib.Core.Bool.{Bool, true, cond, _||_}
 use mathlib.Core.List.{List, [], _∷_}
 use lib.Dec.{eqb, leb}
 use lib.ListN.{getD, take, drop}
 use Rattle.model.specs.Records.{Rec, SET, READ, WRITE, CHECK, BEAT, SAVE}
 use Rattle.model.specs.Runs.{Effect, nothing, assigns, outputs, beats, saves, isSave, isOverrun, Step, onVariables, onOutputs, level, mark}
 use Rattle.model.specs.Runs.{rightValue, result, lastTest, Run}
-use Rattle.model.specs.Stopping.{Image, Saved, none, saved}
+use Rattle.model.specs.Stopping.{Saved, none, saved}
 use Rattle.reading.specs.Ranges.{testOf}
 
 -- WHAT A RUN HOLDS

@@ -10,48 +10,38 @@ use Rattle.machine.proofs.ready.bad_buffers.Reads as bad-buffers-reads
 use Rattle.machine.proofs.ready.ready.Reads as ready-reads
 use Rattle.machine.proofs.resume_ready.Reads as resume-ready-reads
 
--- src/lib.rt:218:9
 bad-buffers-requires : tie.Need-bad-buffers-requires
 bad-buffers-requires c κs = search needs
 
--- src/lib.rt:225:9
 ready-requires : tie.Need-ready-requires
 ready-requires c κs = search needs
 
--- src/lib.rt:227:26
 enum-known-r : tie.Need-enum-known-r
 enum-known-r c = search needs
 
--- src/lib.rt:228:24
 enum-known-r-2 : tie.Need-enum-known-r-2
 enum-known-r-2 c = search needs
 
--- src/lib.rt:228:30
 resume-ready-requires : tie.Need-resume-ready-requires
 resume-ready-requires c κs =
     let w = c .before .before .before .before in
     let v = w .before .before .before .before .before .before .before .before .before .before .before in
     (is-ready _ _ _ _ _ _ _ _ (w .before .before .before .bad-buffers .ensures) (subst (Readies _ _ _ _) (w .r2 .given .1) (w .before .before .ready .ensures)), image-lent (v .args .settings .now) (v .args .form) (v .args .file .now) (v .args .variables .now) (v .args .inputs .now) (v .args .levels .now) (v .args .marks .now) (v .args .image .now) (w .before .before .before .bad-buffers .ensures) (subst (Readies _ _ _ _) (w .r2 .given .1) (w .before .before .ready .ensures)))
 
--- src/lib.rt:204:1
 returns : tie.Need-returns
 returns c =
     let w = c .before .before .before .before in
     resume-refused _ _ _ _ _ _ _ _ (w .bad-buffers .ensures) (subst (Readies _ _ _ _) (c .before .r .given .1) (c .before .before .before .ready .ensures))
 
--- src/lib.rt:204:1
 same-length : tie.Need-same-length
 same-length c = search needs
 
--- src/lib.rt:204:1
 same-length-2 : tie.Need-same-length-2
 same-length-2 c = search needs
 
--- src/lib.rt:204:1
 same-length-3 : tie.Need-same-length-3
 same-length-3 c = search needs
 
--- src/lib.rt:204:1
 returns-2 : tie.Need-returns-2
 returns-2 c =
     let w = c .before .before .before .before .before .before in

@@ -14,84 +14,66 @@ use Rattle.machine.proofs.buffers.load_words.Reads as load-words-reads
 use Rattle.machine.proofs.buffers.store.Reads as store-reads
 use Rattle.machine.proofs.images.after_save.Reads as after-save-reads
 
--- src/lib.rt:173:23
 slice-aggregate-load-words : tie.Need-slice-aggregate-load-words
 slice-aggregate-load-words c = search needs
 
--- src/lib.rt:173:5
 load-words-requires : tie.Need-load-words-requires
 load-words-requires c κs = search needs
 
--- src/lib.rt:174:17
 array-read-index : tie.Need-array-read-index
 array-read-index c = search needs
 
--- src/lib.rt:174:17
 cast-index : tie.Need-cast-index
 cast-index c =
     let w = c .before .before .before .before .before .before .before .before .before in
     record { fits = omega (arith, index-small (c .before .load-words .last .1 .0) (w .args .image .now) (c .before .load-words .ensures) (λ i. c .before .before .before .shared-slice-known3 .given i .fits)) }
 
--- src/lib.rt:175:16
 array-read-tick : tie.Need-array-read-tick
 array-read-tick c = search needs
 
--- src/lib.rt:176:9
 after-save-requires : tie.Need-after-save-requires
 after-save-requires c κs = search needs
 
--- src/lib.rt:177:9
 returns : tie.Need-returns
 returns c =
     let w = c .before .before .before .before .before .before .before .before .before .before .before in
     words-stray (w .pre .0) (c .before .before .before .load-words .last .1 .0) (c .before .after-save .ensures) (c .before .before .before .load-words .ensures) (c .if1 .taken)
 
--- src/lib.rt:180:9
 returns-2 : tie.Need-returns-2
 returns-2 c =
     let w = c .before .before .before .before .before in
     let v = w .before .before .before .before .before .before .before .before in
     words-late (v .pre .0) (w .load-words .last .1 .0) (w .load-words .ensures) (c .if2 .taken)
 
--- src/lib.rt:183:20
 slice-aggregate-load-variables : tie.Need-slice-aggregate-load-variables
 slice-aggregate-load-variables c = search needs
 
--- src/lib.rt:183:32
 sub-load-variables : tie.Need-sub-load-variables
 sub-load-variables c = search needs
 
--- src/lib.rt:183:32
 part-load-variables-start : tie.Need-part-load-variables-start
 part-load-variables-start c = search needs
 
--- src/lib.rt:183:32
 part-load-variables-end : tie.Need-part-load-variables-end
 part-load-variables-end c = search needs
 
--- src/lib.rt:183:5
 load-variables-requires : tie.Need-load-variables-requires
 load-variables-requires c κs = search needs
 
--- src/lib.rt:184:18
 slice-aggregate-load-outputs : tie.Need-slice-aggregate-load-outputs
 slice-aggregate-load-outputs c = search needs
 
--- src/lib.rt:184:5
 load-outputs-requires : tie.Need-load-outputs-requires
 load-outputs-requires c κs =
     let w = c .before .before .before .before .before .before .before .before .before .before .before .before .before .before .before .before .before .before .before .before .before in
     (search needs, lent (w .pre .0) .levels, lent (w .pre .0) .marks)
 
--- src/lib.rt:192:9
 add-run-from : tie.Need-add-run-from
 add-run-from c = search needs
 
--- src/lib.rt:194:9
 slice-aggregate-run-from : tie.Need-slice-aggregate-run-from
 slice-aggregate-run-from c = search needs
 
--- src/lib.rt:186:9
 run-from-requires : tie.Need-run-from-requires
 run-from-requires c κs =
     let w = c .before .before .before .before .before .before .before .before .before .before .before .before in
@@ -99,11 +81,9 @@ run-from-requires c κs =
     let u = v .before .before .before .before .before .before .before .before in
     words-take (u .pre .0) (v .load-words .last .1 .0) (w .before .before .before .after-save .ensures) (w .before .before .if1 .left) (w .if2 .left) (search needs)
 
--- src/lib.rt:196:11
 slice-aggregate-store : tie.Need-slice-aggregate-store
 slice-aggregate-store c = search needs
 
--- src/lib.rt:196:5
 store-requires : tie.Need-store-requires
 store-requires c κs =
     let w = c .before .before .before .before .before in
@@ -114,19 +94,15 @@ store-requires c κs =
     let o = p .before .before .before .before .before .before .before .before in
     (record { cells = w .run-from .kept .1 .1 .1 .1 .1 .1 .1 .0 ∙ v .load-outputs .kept .0 ∙ u .load-variables .kept .0; variables = lent (o .pre .0) .variables; levels = lent (o .pre .0) .levels; marks = lent (o .pre .0) .marks }, words-bytes (o .pre .0) (p .load-words .last .1 .0) (q .before .before .before .after-save .ensures) (q .before .before .if1 .left) (q .if2 .left) (w .run-from .ensures) (v .load-outputs .ensures ∙ ap (withOutputs _ _) (u .load-variables .ensures)) (λ i. p .before .before .before .slice-known3 .given i .fits))
 
--- src/lib.rt:159:1
 same-length : tie.Need-same-length
 same-length c = search needs
 
--- src/lib.rt:159:1
 same-length-2 : tie.Need-same-length-2
 same-length-2 c = search needs
 
--- src/lib.rt:159:1
 same-length-3 : tie.Need-same-length-3
 same-length-3 c = search needs
 
--- src/lib.rt:159:1
 returns-3 : tie.Need-returns-3
 returns-3 c =
     let w = c .before .before .before .before .before .before in

@@ -13,30 +13,24 @@ use Rattle.machine.proofs.ready.bad_buffers.Reads as bad-buffers-reads
 use Rattle.machine.proofs.ready.ready.Reads as ready-reads
 use Rattle.machine.proofs.run_whole.Reads as run-whole-reads
 
--- src/lib.rt:78:9
 bad-buffers-requires : tie.Need-bad-buffers-requires
 bad-buffers-requires c κs = search needs
 
--- src/lib.rt:85:9
 ready-requires : tie.Need-ready-requires
 ready-requires c κs = search needs
 
--- src/lib.rt:87:26
 enum-known-r : tie.Need-enum-known-r
 enum-known-r c = search needs
 
--- src/lib.rt:88:24
 enum-known-r-2 : tie.Need-enum-known-r-2
 enum-known-r-2 c = search needs
 
--- src/lib.rt:89:13
 clear-requires : tie.Need-clear-requires
 clear-requires c κs =
     let w = c .before .before .before .before .before in
     let v = w .before .before .before .before .before .before .before .before in
     let L = lent (is-ready (v .args .settings .now) (v .args .form) (v .args .file .now) (v .args .variables .now) (v .args .inputs .now) (v .args .levels .now) (v .args .marks .now) false (w .before .bad-buffers .ensures) (subst (Readies _ _ _ _) (c .before .before .before .r2 .given .1) (w .ready .ensures))) in (L .levels, L .marks)
 
--- src/lib.rt:90:17
 run-whole-requires : tie.Need-run-whole-requires
 run-whole-requires c κs =
     let w = c .before .before .before .before .before .before .before in
@@ -44,25 +38,20 @@ run-whole-requires c κs =
     let u = v .before .before .before .before .before .before .before .before .before .before in
     cleared-ready (is-ready (u .args .settings .now) (u .args .form) (u .args .file .now) (u .args .variables .now) (u .args .inputs .now) (u .args .levels .now) (u .args .marks .now) false (v .before .before .before .bad-buffers .ensures) (subst (Readies _ _ _ _) (v .r2 .given .1) (v .before .before .ready .ensures))) (w .clear .ensures .0) (w .clear .ensures .1)
 
--- src/lib.rt:66:1
 returns : tie.Need-returns
 returns c =
     let w = c .before .before .before .before in
     run-refused _ _ _ _ _ _ _ (w .bad-buffers .ensures) (subst (Readies _ _ _ _) (c .before .r .given .1) (c .before .before .before .ready .ensures))
 
--- src/lib.rt:66:1
 same-length : tie.Need-same-length
 same-length c = search needs
 
--- src/lib.rt:66:1
 same-length-2 : tie.Need-same-length-2
 same-length-2 c = search needs
 
--- src/lib.rt:66:1
 same-length-3 : tie.Need-same-length-3
 same-length-3 c = search needs
 
--- src/lib.rt:66:1
 returns-2 : tie.Need-returns-2
 returns-2 c =
     let w = c .before .before .before .before .before .before in

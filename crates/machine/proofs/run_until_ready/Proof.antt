@@ -11,73 +11,58 @@ use Rattle.machine.proofs.buffers.load_variables.Reads as load-variable
 use Rattle.machine.proofs.buffers.store.Reads as store-reads
 use Rattle.machine.proofs.images.store_image.Reads as store-image-reads
 
--- src/lib.rt:115:20
 slice-aggregate-load-variables : tie.Need-slice-aggregate-load-variables
 slice-aggregate-load-variables c = search needs
 
--- src/lib.rt:115:5
 load-variables-requires : tie.Need-load-variables-requires
 load-variables-requires c κs =
     let w = c .before .before .before .before .before .before .before .before in
     (refl, lent (w .pre .0) .variables)
 
--- src/lib.rt:116:69
 slice-aggregate-run-block : tie.Need-slice-aggregate-run-block
 slice-aggregate-run-block c = search needs
 
--- src/lib.rt:116:9
 run-block-requires : tie.Need-run-block-requires
 run-block-requires c κs =
     let w = c .before .before .before .before .before .before .before .before .before .before .before in
     whole-entered (w .pre .0) (search needs)
 
--- src/lib.rt:118:9
 same-length : tie.Need-same-length
 same-length c = search needs
 
--- src/lib.rt:118:9
 returns : tie.Need-returns
 returns c =
     let w = c .before .before .before .before .before .before in
     let v = w .before .before .before .before .before .before .before .before .before in
     stop-late (v .pre .0) (c .before .before .before .run-block .ensures) (w .load-variables .ensures) (c .if1 .taken)
 
--- src/lib.rt:120:11
 slice-aggregate-store : tie.Need-slice-aggregate-store
 slice-aggregate-store c = search needs
 
--- src/lib.rt:120:5
 store-requires : tie.Need-store-requires
 store-requires c κs =
     let w = c .before .before .before .before .before .before .before in
     let v = w .before .before .before .before .before .before .before .before .before .before .before .before in
     (record { cells = search needs; variables = lent (v .pre .0) .variables; levels = lent (v .pre .0) .levels; marks = lent (v .pre .0) .marks }, left-bytes (stop-left (v .pre .0) (w .run-block .ensures) (w .before .before .before .load-variables .ensures)) (zeros-bytes 8))
 
--- src/lib.rt:121:29
 slice-aggregate-store-image : tie.Need-slice-aggregate-store-image
 slice-aggregate-store-image c = search needs
 
--- src/lib.rt:121:9
 store-image-requires : tie.Need-store-image-requires
 store-image-requires c κs = search needs
 
--- src/lib.rt:100:1
 same-length-2 : tie.Need-same-length-2
 same-length-2 c = search needs
 
--- src/lib.rt:100:1
 same-length-3 : tie.Need-same-length-3
 same-length-3 c = search needs
 
--- src/lib.rt:100:1
 same-length-4 : tie.Need-same-length-4
 same-length-4 c = search needs
 
--- src/lib.rt:100:1
 same-length-5 : tie.Need-same-length-5
 same-length-5 c = search needs
 
--- src/lib.rt:100:1
 returns-2 : tie.Need-returns-2
 returns-2 c =
     let w = c .before .before .before .before .before .before .before .before .before .before .before in

@@ -11,41 +11,33 @@ use Rattle.machine.proofs.buffers.load_outputs.Reads as load-outputs-re
 use Rattle.machine.proofs.buffers.load_variables.Reads as load-variables-reads
 use Rattle.machine.proofs.buffers.store.Reads as store-reads
 
--- src/lib.rt:58:20
 slice-aggregate-load-variables : tie.Need-slice-aggregate-load-variables
 slice-aggregate-load-variables c = search needs
 
--- src/lib.rt:58:5
 load-variables-requires : tie.Need-load-variables-requires
 load-variables-requires c κs =
     let w = c .before .before .before .before .before .before .before in
     (refl, lent (w .pre) .variables)
 
--- src/lib.rt:59:18
 slice-aggregate-load-outputs : tie.Need-slice-aggregate-load-outputs
 slice-aggregate-load-outputs c = search needs
 
--- src/lib.rt:59:5
 load-outputs-requires : tie.Need-load-outputs-requires
 load-outputs-requires c κs =
     let w = c .before .before .before .before .before .before .before .before .before .before .before .before in
     (search needs, lent (w .pre) .levels, lent (w .pre) .marks)
 
--- src/lib.rt:60:73
 slice-aggregate-run-block : tie.Need-slice-aggregate-run-block
 slice-aggregate-run-block c = search needs
 
--- src/lib.rt:60:9
 run-block-requires : tie.Need-run-block-requires
 run-block-requires c κs =
     let w = c .before .before .before .before .before .before .before .before .before .before .before .before .before .before .before in
     whole-entered (w .pre) (search needs)
 
--- src/lib.rt:61:11
 slice-aggregate-store : tie.Need-slice-aggregate-store
 slice-aggregate-store c = search needs
 
--- src/lib.rt:61:5
 store-requires : tie.Need-store-requires
 store-requires c κs =
     let w = c .before .before .before .before .before in
@@ -53,19 +45,15 @@ store-requires c κs =
     let u = v .before .before .before .before .before .before .before .before in
     (record { cells = search needs; variables = lent (u .pre) .variables; levels = lent (u .pre) .levels; marks = lent (u .pre) .marks }, left-bytes (run-left (u .pre) (w .run-block .ensures) (w .before .before .before .load-outputs .ensures ∙ ap (withOutputs _ _) (v .load-variables .ensures))) (λ i. v .before .before .before .slice-known3 .given i .fits))
 
--- src/lib.rt:45:1
 same-length : tie.Need-same-length
 same-length c = search needs
 
--- src/lib.rt:45:1
 same-length-2 : tie.Need-same-length-2
 same-length-2 c = search needs
 
--- src/lib.rt:45:1
 same-length-3 : tie.Need-same-length-3
 same-length-3 c = search needs
 
--- src/lib.rt:45:1
 returns : tie.Need-returns
 returns c =
     let w = c .before .before .before .before .before .before in

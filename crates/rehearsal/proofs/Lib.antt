@@ -1,0 +1,7 @@
+-- The laws of a rehearsal.
+pub mod Chaining
+pub mod Alike
+pub mod SecondLaws
+pub mod First
+pub mod Theorem
+pub mod Preparing

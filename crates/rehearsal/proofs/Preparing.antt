@@ -1,0 +1,128 @@
+-- From the calls that prepare the task, and what the runs come to, to what a rehearsal answers.
+use Prim.Native.Nat.{ℕ, _*_, _≤_}
+use native.Mathlib.Omega.{arith}
+use mathlib.Core.Path.{_≡_, refl, ap, sym, subst, _∙_}
+use mathlib.Core.Bool.{Bool, true, false, not, _||_}
+use mathlib.Core.List.{List, [], _∷_}
+use lib.Dec.{eqb}
+use borrow.Author.Tests.{eqb-true}
+use lib.ListN.{length, getD, take, replicate}
+use Rattle.model.specs.declared.Refusal.{Refusal}
+use Rattle.model.specs.declared.LaidOut.{LaidOut}
+use Rattle.model.specs.Trees.{size}
+use Rattle.model.specs.Answers.{Verdict, finished, refusal, laidOut}
+use Rattle.model.specs.Replies.{turnDown, equaliseReply, equaliseOut, equalisedTree, layOutReply, layOutOut, laidTree, runReply}
+use Rattle.model.specs.Chain.{valueAt, Set, Chain, equalising, equalisedFile, layingOut, laidFile, plainLoan, plainEndOne}
+use Rattle.theory.proofs.Accepted.{equalise-accepted, lay-out-accepted}
+use Rattle.rehearsal.specs.declared.Stop.{Stop}
+use Rattle.rehearsal.specs.declared.Rehearsed.{Rehearsed}
+use Rattle.rehearsal.specs.Rehearsing.{rehearsed, andThen, room, zeroOutputs, chain, second, badSets, rehearsal, Unseen, Rehearses}
+use Rattle.rehearsal.specs.Contracts.{laidLoan, secondOf, equalisedBy, Prepares}
+use Rattle.rehearsal.proofs.Chaining.{never-finished, refused-first, refused-second, both-done, second-done}
+use Rattle.rehearsal.proofs.Theorem.{unseen}
+
+-- the first value of an answer
+value-is : {xs : List ℕ} {v : Verdict} → finished xs ≡ v → valueAt 0 v ≡ getD xs 0 0
+value-is e = ap (valueAt 0) (sym e)
+
+-- what is written fits its buffer
+equalised-fits : (s task : List ℕ) (m : ℕ) {n t : ℕ} → finished (n ∷ t ∷ []) ≡ equaliseReply s task m → n ≤ m
+equalised-fits s task m {n} {t} e =
+    let A = equalise-accepted s task m (n ∷ t ∷ []) (sym e) in
+    let q : 12 * size (equalisedTree s task) ≡ n = ap (λ (xs : List ℕ). getD xs 0 0) (A .answers) in
+    omega (arith, A .has-room .fits-buffer)
+
+laid-fits : (s file : List ℕ) (m : ℕ) {n t : ℕ} → finished (n ∷ t ∷ []) ≡ layOutReply s file m → n ≤ m
+laid-fits s file m {n} {t} e =
+    let A = lay-out-accepted s file m (n ∷ t ∷ []) (sym e) in
+    let q : 12 * size (laidTree s file) ≡ n = ap (λ (xs : List ℕ). getD xs 0 0) (A .answers) in
+    omega (arith, A .has-room .fits-buffer)
+
+-- both sets have 16 variables
+pub good-sets : {x y : ℕ} {o : Bool} → o ≡ badSets x y → o ≡ false → (x ≡ 16) × (y ≡ 16)
+good-sets {x} {y} {o} e h = go (eqb x 16) refl (eqb y 16) refl (sym e ∙ h)
+  where
+    go : (a : Bool) → eqb x 16 ≡ a → (b : Bool) → eqb y 16 ≡ b → (not a || not b) ≡ false → (x ≡ 16) × (y ≡ 16)
+    go true p true q f = (eqb-true x 16 p, eqb-true y 16 q)
+    go true p false q f = let z : _≡_ {A = ℕ} 0 1 = cc in absurd (omega arith)
+    go false p b q f = let z : _≡_ {A = ℕ} 0 1 = cc in absurd (omega arith)
+
+-- THE TASK IS PREPARED
+
+module _ (s task eq laid : List ℕ) where
+  pub prepare-refused : (x : Refusal) → refusal x ≡ equaliseReply s task (length eq) → Prepares s task eq laid laid (LaidOut.Refused x)
+  prepare-refused x e = record {
+    reply = refused-first x (layOutReply s (equalisedBy s task eq) (length laid)) e;
+    leaves = λ xs f. never-finished x xs f;
+  }
+
+  module _ {n t : ℕ} (e : finished (n ∷ t ∷ []) ≡ equaliseReply s task (length eq)) {eq′ : List ℕ} (w : eq′ ≡ equaliseOut s task eq) where
+    pub prepare-fits : length eq′ ≡ length eq → n ≤ length eq′
+    prepare-fits h = omega (arith, equalised-fits s task (length eq) e)
+
+    written : take n eq′ ≡ equalisedBy s task eq
+    written = ap (take n) w ∙ ap (λ (m : ℕ). take m (equaliseOut s task eq)) (sym (value-is e))
+
+    pub prepare-laid : {r : LaidOut} {laid′ : List ℕ} → laidOut r ≡ layOutReply s (take n eq′) (length laid) → laid′ ≡ layOutOut s (take n eq′) laid → Prepares s task eq laid laid′ r
+    prepare-laid p q = record {
+      reply = p ∙ ap (λ (f : List ℕ). layOutReply s f (length laid)) written ∙ ap (λ (v : Verdict). andThen v (layOutReply s (equalisedBy s task eq) (length laid))) e;
+      leaves = λ xs f. q ∙ ap (λ (g : List ℕ). layOutOut s g laid) written;
+    }
+
+-- THE WHOLE CHAIN
+
+module _ (s task : List ℕ) (x y : Set) (stop : Stop) where
+  abbrev k : Chain
+  k = chain s task x y stop
+
+  -- what the reply says holds of the answer
+  rehearses : {r : Rehearsed} → rehearsed r ≡ rehearsal stop k → Rehearses s task x y stop r
+  rehearses e = record { reply = e; unseen = λ P. subst (Unseen stop k) (sym e) (unseen s task x y stop P) }
+
+  abbrev Local : List ℕ → LaidOut → Type 0
+  Local laid′ r = Prepares s task (replicate 65532 0) (replicate 65532 0) laid′ r
+
+  pub rehearse-refused : {laid′ : List ℕ} {z : Refusal} → Local laid′ (LaidOut.Refused z) → Rehearses s task x y stop (Rehearsed.Refused z)
+  unfolding rehearsal room
+  rehearse-refused {laid′} {z} P = rehearses (refused-second z (equalising k) (layingOut k) _ (P .reply))
+
+  module _ {n t : ℕ} {laid′ : List ℕ} (P : Local laid′ (LaidOut.Written n t)) where
+    laid-reply : finished (n ∷ t ∷ []) ≡ layingOut k
+    unfolding room
+    laid-reply = second-done (equalising k) (layingOut k) (P .reply)
+
+    pub file-fits : length laid′ ≡ length (replicate {A = ℕ} 65532 0) → n ≤ length laid′
+    unfolding room
+    file-fits h = omega (arith, h, laid-fits s (equalisedFile k) (length (k .laidRoom)) laid-reply)
+
+    file-is : take n laid′ ≡ laidFile k
+    unfolding room
+    file-is = ap (take n) (P .leaves (n ∷ t ∷ []) refl) ∙ ap (λ (m : ℕ). take m (layOutOut s (equalisedFile k) (k .laidRoom))) (sym (value-is laid-reply))
+
+    total-is : t ≡ valueAt 1 (layingOut k)
+    total-is = ap (valueAt 1) laid-reply
+
+    abbrev runs : Verdict
+    runs = turnDown 10 (badSets (length (x .variables)) (length (y .variables))) (andThen (runReply (plainLoan k x zeroOutputs)) (second stop k))
+
+    prepared : rehearsal stop k ≡ runs
+    unfolding rehearsal room
+    prepared = both-done (equalising k) (layingOut k) (andThen (layingOut k) runs) (P .reply) ∙ ap (λ (v : Verdict). andThen v runs) (sym laid-reply)
+
+    second-same : secondOf stop (plainEndOne k) t (laidLoan s (take n laid′) (y .variables) (y .inputs)) ≡ second stop k
+    second-same =
+        ap (λ (f : List ℕ). secondOf stop (plainEndOne k) t (laidLoan s f (y .variables) (y .inputs))) file-is
+        ∙ ap (λ (m : ℕ). secondOf stop (plainEndOne k) m (laidLoan s (laidFile k) (y .variables) (y .inputs))) total-is
+        ∙ go stop
+      where
+        go : (c : Stop) → secondOf c (plainEndOne k) (valueAt 1 (layingOut k)) (laidLoan s (laidFile k) (y .variables) (y .inputs)) ≡ second c (chain s task x y c)
+        go Stop.Never = refl
+        go (Stop.At c) = refl
+
+    pub rehearse-bad : {o : Bool} → o ≡ badSets (length (x .variables)) (length (y .variables)) → o ≡ true → Rehearses s task x y stop (Rehearsed.Refused Refusal.BadBuffers)
+    rehearse-bad e h = rehearses (sym (prepared ∙ rw (sym e ∙ h)))
+
+    pub rehearse-done : {o : Bool} → o ≡ badSets (length (x .variables)) (length (y .variables)) → o ≡ false → {r : Rehearsed}
+        → rehearsed r ≡ andThen (runReply (plainLoan k x zeroOutputs)) (secondOf stop (plainEndOne k) t (laidLoan s (take n laid′) (y .variables) (y .inputs)))
+        → Rehearses s task x y stop r
+    rehearse-done e h q = rehearses (q ∙ ap (andThen (runReply (plainLoan k x zeroOutputs))) second-same ∙ sym (prepared ∙ rw (sym e ∙ h)))

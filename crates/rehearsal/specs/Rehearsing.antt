@@ -1,0 +1,138 @@
+-- The chain of calls that a rehearsal makes, as one composition of the model's replies.
+use Prim.Native.Nat.{ℕ, _*_, _-_, _<_}
+use mathlib.Core.Path.{_≡_}
+use mathlib.Core.Logic.{_↔_}
+use mathlib.Core.Bool.{Bool, true, false, not, _||_, _&&_}
+use mathlib.Core.List.{List, [], _∷_}
+use lib.Dec.{eqb}
+use lib.ListN.{length, replicate}
+use Rattle.model.specs.Settings.{settingsOf}
+use Rattle.model.specs.Runs.{Buffers}
+use Rattle.model.specs.Answers.{Verdict, finished, refused, bit, refusal}
+use Rattle.model.specs.Replies.{turnDown, Loan, stepsOf, runReply, stopReply}
+use Rattle.model.specs.Timeline.{endedBy, lastSaveEnd}
+use Rattle.model.specs.Chain.{isFinished, valueAt, Set, Outputs, Chain, LentSet, equalising, layingOut, plainLoan, wholeLoan, stoppedLoan}
+use Rattle.model.specs.Chain.{hasImage, takingUp, takenUpBuffers, imageTick, End, endOf, runEnd, plainEndOne, plainEndTwo}
+use Rattle.rehearsal.specs.declared.Rehearsed.{Rehearsed}
+use Rattle.rehearsal.specs.declared.Stop.{Stop}
+
+-- The values for each case: whether the ends are alike, the laid length and total, and the end tick; of a stopped run also the stop
+-- tick, whether there is an image and its tick, and the ticks run twice.
+abbrev pub rehearsed : Rehearsed → Verdict
+rehearsed (Rehearsed.Whole a n t e) = finished (bit a ∷ n ∷ t ∷ e ∷ [])
+rehearsed (Rehearsed.Stopped a n t e c i u x) = finished (bit a ∷ n ∷ t ∷ e ∷ c ∷ bit i ∷ u ∷ x ∷ [])
+rehearsed (Rehearsed.Refused x) = refusal x
+
+-- the first refusal in a chain of calls
+abbrev pub andThen : Verdict → Verdict → Verdict
+andThen (finished xs) next = next
+andThen (refused n xs) next = refused n xs
+
+-- ENDS
+
+abbrev pub sameList : List ℕ → List ℕ → Bool
+sameList [] [] = true
+sameList [] (y ∷ ys) = false
+sameList (x ∷ xs) [] = false
+sameList (x ∷ xs) (y ∷ ys) = eqb x y && sameList xs ys
+
+-- "Ends are alike when the 16 variables, 8 levels, 8 marks and the answers on overrun are equal"
+abbrev pub sameEnd : End → End → Bool
+sameEnd a b =
+    sameList (a .buffers .variables) (b .buffers .variables) && sameList (a .buffers .levels) (b .buffers .levels)
+    && sameList (a .buffers .marks) (b .buffers .marks) && eqb (a .overran) (b .overran)
+
+-- THE CHAIN
+
+abbrev pub set : List ℕ → List ℕ → Set
+set v ins = record { variables = v; inputs = ins }
+
+-- its buffers are its own, and hold zeros before
+unfoldable pub room : List ℕ
+room = replicate 65532 0
+
+abbrev pub zeroOutputs : Outputs
+zeroOutputs = record { levels = replicate 8 0; marks = replicate 8 0 }
+
+abbrev pub stopTick : Stop → ℕ
+stopTick Stop.Never = 0
+stopTick (Stop.At c) = c
+
+abbrev pub chain : List ℕ → List ℕ → Set → Set → Stop → Chain
+chain s task x y stop = record {
+  settings = s;
+  task = task;
+  equalisedRoom = room;
+  laidRoom = room;
+  one = x;
+  two = y;
+  plainOne = zeroOutputs;
+  plainTwo = zeroOutputs;
+  whole = zeroOutputs;
+  stopped = zeroOutputs;
+  image = replicate 72 0;
+  spare = replicate 16 0;
+  stop = stopTick stop;
+}
+
+-- a run c of the prepared form, whole, beside the end a of the task as written
+abbrev pub wholeOf : End → ℕ → Loan → Verdict
+wholeOf a total c = andThen (runReply c) (finished (bit (sameEnd a (runEnd c)) ∷ length (c .file) ∷ total ∷ valueAt 0 (runReply c) ∷ []))
+
+-- one that was stopped and taken up, from an image at tick t or from the start
+abbrev pub takenOf : End → ℕ → Loan → ℕ → Bool → ℕ → Verdict → Buffers → Verdict
+takenOf a total c stop saved t up b =
+    andThen up (finished (bit (sameEnd a (endOf up b)) ∷ length (c .file) ∷ total ∷ valueAt 0 up ∷ stop ∷ bit saved ∷ t ∷ (stop - t) ∷ []))
+
+abbrev pub stoppedOf : End → ℕ → Loan → List ℕ → List ℕ → ℕ → Verdict
+stoppedOf a total c image spare stop =
+    andThen (stopReply c image stop)
+    (takenOf a total c stop (hasImage c image stop) (imageTick c image stop) (takingUp c image spare stop) (takenUpBuffers c image spare stop))
+
+-- the prepared form on the second set
+abbrev pub second : Stop → Chain → Verdict
+second Stop.Never k = wholeOf (plainEndOne k) (valueAt 1 (layingOut k)) (wholeLoan k)
+second (Stop.At c) k = stoppedOf (plainEndOne k) (valueAt 1 (layingOut k)) (stoppedLoan k) (k .image) (k .spare) (k .stop)
+
+-- "variables not 16" (row 10): both sets are looked at before they are copied for the runs
+abbrev pub badSets : ℕ → ℕ → Bool
+badSets x y = not (eqb x 16) || not (eqb y 16)
+
+-- each call in turn, up to the first that refuses
+unfoldable pub rehearsal : Stop → Chain → Verdict
+rehearsal stop k =
+    andThen (equalising k)
+    (andThen (layingOut k)
+    (turnDown 10 (badSets (length (k .one .variables)) (length (k .two .variables)))
+    (andThen (runReply (plainLoan k (k .one) (k .plainOne))) (second stop k))))
+
+-- WHAT DEMAND 3 SAYS OF IT
+
+-- the task was prepared without refusal, the sets have the table's lengths, and the stop is before the end
+abbrev pub Early : Stop → Chain → Type 0
+Early Stop.Never k = Unit {0}
+Early (Stop.At c) k = k .stop < valueAt 0 (runReply (wholeLoan k))
+
+pub record Prepared (stop : Stop) (k : Chain) : Type 0 where
+  pub equalised : isFinished (equalising k) ≡ true
+  pub laid : isFinished (layingOut k) ≡ true
+  pub one : LentSet (k .one)
+  pub two : LentSet (k .two)
+  pub early : Early stop k
+
+-- "The ticks run twice are the stop tick less the end of the last finished checkpoint, or the stop tick itself if there is none, and always
+-- fewer than the checkpoint spacing in the settings."
+abbrev pub Twice : Stop → Chain → Verdict → Type 0
+Twice Stop.Never k r = Unit {0}
+Twice (Stop.At c) k r =
+    (valueAt 7 r ≡ k .stop - lastSaveEnd 0 0 (endedBy (k .stop) 0 (stepsOf (stoppedLoan k)))) × (valueAt 7 r < settingsOf (k .settings) .spacing * settingsOf (k .settings) .window)
+
+-- not refused once prepared, and alike exactly when the plain ends are
+pub record Unseen (stop : Stop) (k : Chain) (r : Verdict) : Type 0 where
+  pub finishes : isFinished r ≡ true
+  pub alike : (valueAt 0 r ≡ 1) ↔ (plainEndOne k ≡ plainEndTwo k)
+  pub twice : Twice stop k r
+
+pub record Rehearses (s task : List ℕ) (x y : Set) (stop : Stop) (r : Rehearsed) : Type 0 where
+  pub reply : rehearsed r ≡ rehearsal stop (chain s task x y stop)
+  pub unseen : Prepared stop (chain s task x y stop) → Unseen stop (chain s task x y stop) (rehearsed r)

@@ -1,0 +1,151 @@
+// A rehearsal of the whole chain of calls: the task as written on one set, its prepared form on another, whole or stopped once and taken
+// up, and whether the two ends are alike. All that is lent is read only.
+mod ends;
+mod second;
+
+ghost use mathlib.Core.Path.{_≡_};
+ghost use lib.ListN.{length};
+ghost use Rattle.model.specs.declared.Form.the-variants.{Task};
+ghost use Rattle.model.specs.Replies.{runReply};
+ghost use Rattle.model.specs.Chain.{lend, runEnd};
+ghost use Rattle.rehearsal.specs.Rehearsing.{rehearsed, andThen, zeroOutputs, set, badSets, Rehearses};
+ghost use Rattle.rehearsal.specs.Contracts.{laidLoan, secondOf, Prepares};
+use ends::Final;
+use equaliser::equalise;
+use layout::lay_out;
+use machine::run;
+use model::Equalised;
+use model::Form;
+use model::LaidOut;
+use model::Ran;
+use model::Refusal;
+use records::words::copy;
+use second::stopped;
+use second::whole;
+
+// Where the prepared form is stopped.
+pub enum Stop {
+    Never,
+    At(u32),
+}
+
+// Whether the ends are alike, the laid file's bytes and total, and the end tick; of a run that was stopped also the stop tick, whether
+// there was an image, its tick (0 with none) and the ticks run twice.
+pub enum Rehearsed {
+    Whole {
+        alike: bool,
+        bytes: usize,
+        total: u32,
+        end: u32,
+    },
+    Stopped {
+        alike: bool,
+        bytes: usize,
+        total: u32,
+        end: u32,
+        stop: u32,
+        saved: bool,
+        image: u32,
+        twice: u32,
+    },
+    Refused(Refusal),
+}
+
+// The task equalised into one lent buffer and laid out into another.
+fn prepare(settings: &[u8], task: &[u8], equalised: &mut [u8], laid: &mut [u8]) -> LaidOut
+    ensures { λ r. ⌜ Prepares (now (settings .entry)) (now (task .entry)) (now (equalised .entry)) (now (laid .entry)) (now (laid .exit)) r ⌝ }
+{
+    let r = equalise(settings, task, equalised);
+    match r {
+        Equalised::Refused(x) => LaidOut::Refused(x),
+        Equalised::Written { bytes, time: _ } => lay_out(settings, &equalised[..bytes], laid),
+    }
+}
+
+// The task on the first set and the laid file on the second.
+fn rehearse_laid(
+    settings: &[u8],
+    task: &[u8],
+    file: &[u8],
+    total: u32,
+    one: &[u32],
+    one_inputs: &[u32],
+    two: &[u32],
+    two_inputs: &[u32],
+    stop: Stop,
+) -> Rehearsed
+    requires { ⌜ (length (now one) ≡ 16) × (length (now two) ≡ 16) ⌝ }
+    ensures { λ r. ⌜ (let c = lend (now (settings .entry)) Task (now (task .entry)) (now («one_inputs» .entry)) (now (one .entry)) zeroOutputs in
+        rehearsed r ≡ andThen (runReply c) (secondOf stop (runEnd c) total (laidLoan (now (settings .entry)) (now (file .entry)) (now (two .entry)) (now («two_inputs» .entry))))) ⌝ }
+{
+    let mut variables: [u32; 16] = [0; 16];
+    copy(one, &mut variables);
+    let mut levels: [u32; 8] = [0; 8];
+    let mut marks: [u8; 8] = [0; 8];
+    let r = run(
+        settings,
+        Form::Task,
+        task,
+        &mut variables,
+        one_inputs,
+        &mut levels,
+        &mut marks,
+    );
+    match r {
+        Ran::Refused(x) => Rehearsed::Refused(x),
+        Ran::Ended { tick: _, overran } => {
+            let first = Final {
+                variables,
+                levels,
+                marks,
+                overran,
+            };
+            match stop {
+                Stop::Never => whole(settings, file, total, first, two, two_inputs),
+                Stop::At(c) => stopped(settings, file, total, first, two, two_inputs, c),
+            }
+        }
+    }
+}
+
+fn bad_sets(one: usize, two: usize) -> bool
+    ensures { λ r. ⌜ r ≡ badSets one two ⌝ }
+{
+    (one != 16) | (two != 16)
+}
+
+// The whole chain: the first refusal in it, or whether the ends are alike.
+pub fn rehearse(
+    settings: &[u8],
+    task: &[u8],
+    one: &[u32],
+    one_inputs: &[u32],
+    two: &[u32],
+    two_inputs: &[u32],
+    stop: Stop,
+) -> Rehearsed
+    ensures { λ r. ⌜ Rehearses (now (settings .entry)) (now (task .entry)) (set (now (one .entry)) (now («one_inputs» .entry))) (set (now (two .entry)) (now («two_inputs» .entry))) stop r ⌝ }
+{
+    let mut equalised: [u8; 65532] = [0; 65532];
+    let mut laid: [u8; 65532] = [0; 65532];
+    let r = prepare(settings, task, &mut equalised, &mut laid);
+    match r {
+        LaidOut::Refused(x) => Rehearsed::Refused(x),
+        LaidOut::Written { bytes, total } => {
+            if bad_sets(one.len(), two.len()) {
+                return Rehearsed::Refused(Refusal::BadBuffers);
+            }
+            rehearse_laid(
+                settings,
+                task,
+                &laid[..bytes],
+                total,
+                one,
+                one_inputs,
+                two,
+                two_inputs,
+                stop,
+            )
+        }
+    }
+}

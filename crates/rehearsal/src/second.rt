@@ -1,0 +1,224 @@
+// The prepared form on the second set: whole, or stopped once and taken up; each compared with the end of the task as written.
+ghost use mathlib.Core.Path.{_≡_};
+ghost use mathlib.Core.Bool.{true, false};
+ghost use lib.ListN.{length, replicate};
+ghost use Rattle.model.specs.Stopping.{imageOf};
+ghost use Rattle.model.specs.declared.Form.the-variants.{Laid};
+ghost use Rattle.model.specs.Replies.{resumeReply, resumeBuffers, restartReply, restartBuffers};
+ghost use Rattle.model.specs.Chain.{lend};
+ghost use Rattle.rehearsal.specs.Rehearsing.{rehearsed, wholeOf, takenOf, stoppedOf};
+ghost use Rattle.rehearsal.specs.Contracts.{endIn, Full, laidLoan, outputsIn, FullLeft};
+use crate::Rehearsed;
+use crate::ends::Final;
+use crate::ends::alike;
+use machine::restart;
+use machine::resume;
+use machine::run;
+use machine::run_until;
+use model::Form;
+use model::Ran;
+use model::Resumed;
+use model::Stopped;
+use records::words::copy;
+use records::words::word_at;
+use timing::ticks::beyond;
+
+// What a stop left for the run that is taken up.
+pub struct Left {
+    pub levels: [u32; 8],
+    pub marks: [u8; 8],
+    pub image: [u8; 72],
+}
+
+// Whole.
+pub fn whole(
+    settings: &[u8],
+    file: &[u8],
+    total: u32,
+    first: Final,
+    two: &[u32],
+    inputs: &[u32],
+) -> Rehearsed
+    requires { ⌜ (Full first) × (length (now two) ≡ 16) ⌝ }
+    ensures { λ r. ⌜ rehearsed r ≡ wholeOf (endIn first) total (laidLoan (now (settings .entry)) (now (file .entry)) (now (two .entry)) (now (inputs .entry))) ⌝ }
+{
+    let mut variables: [u32; 16] = [0; 16];
+    copy(two, &mut variables);
+    let mut levels: [u32; 8] = [0; 8];
+    let mut marks: [u8; 8] = [0; 8];
+    let r = run(
+        settings,
+        Form::Laid,
+        file,
+        &mut variables,
+        inputs,
+        &mut levels,
+        &mut marks,
+    );
+    match r {
+        Ran::Refused(x) => Rehearsed::Refused(x),
+        Ran::Ended { tick, overran } => {
+            let end = Final {
+                variables,
+                levels,
+                marks,
+                overran,
+            };
+            Rehearsed::Whole {
+                alike: alike(first, end),
+                bytes: file.len(),
+                total,
+                end: tick,
+            }
+        }
+    }
+}
+
+// Taken up from the image that the stop left.
+fn resumed(
+    settings: &[u8],
+    file: &[u8],
+    total: u32,
+    first: Final,
+    inputs: &[u32],
+    left: Left,
+    stop: u32,
+) -> Rehearsed
+    requires { ⌜ (Full first) × (FullLeft left) ⌝ }
+    ensures { λ r. ⌜ (let c = lend (now (settings .entry)) Laid (now (file .entry)) (now (inputs .entry)) (replicate 16 0) (outputsIn left) in
+        rehearsed r ≡ takenOf (endIn first) total c stop true (imageOf (left .image) .tick) (resumeReply c (left .image)) (resumeBuffers c (left .image))) ⌝ }
+{
+    let mut variables: [u32; 16] = [0; 16];
+    let mut levels = left.levels;
+    let mut marks = left.marks;
+    let image = left.image;
+    let tick = word_at(&image, 4);
+    let r = resume(
+        settings,
+        Form::Laid,
+        file,
+        &mut variables,
+        inputs,
+        &mut levels,
+        &mut marks,
+        &image,
+    );
+    match r {
+        Resumed::Refused(x) => Rehearsed::Refused(x),
+        Resumed::Ended { tick: end, overran } => {
+            let last = Final {
+                variables,
+                levels,
+                marks,
+                overran,
+            };
+            Rehearsed::Stopped {
+                alike: alike(first, last),
+                bytes: file.len(),
+                total,
+                end,
+                stop,
+                saved: true,
+                image: tick,
+                twice: beyond(stop, tick),
+            }
+        }
+    }
+}
+
+// Taken up from the start, since no SAVE was finished.
+fn restarted(
+    settings: &[u8],
+    file: &[u8],
+    total: u32,
+    first: Final,
+    two: &[u32],
+    inputs: &[u32],
+    left: Left,
+    stop: u32,
+) -> Rehearsed
+    requires { ⌜ (Full first) × (FullLeft left) × (length (now two) ≡ 16) ⌝ }
+    ensures { λ r. ⌜ (let c = lend (now (settings .entry)) Laid (now (file .entry)) (now (inputs .entry)) (now (two .entry)) (outputsIn left) in
+        rehearsed r ≡ takenOf (endIn first) total c stop false 0 (restartReply c) (restartBuffers c)) ⌝ }
+{
+    let mut variables: [u32; 16] = [0; 16];
+    copy(two, &mut variables);
+    let mut levels = left.levels;
+    let mut marks = left.marks;
+    let r = restart(
+        settings,
+        Form::Laid,
+        file,
+        &mut variables,
+        inputs,
+        &mut levels,
+        &mut marks,
+    );
+    match r {
+        Resumed::Refused(x) => Rehearsed::Refused(x),
+        Resumed::Ended { tick: end, overran } => {
+            let last = Final {
+                variables,
+                levels,
+                marks,
+                overran,
+            };
+            Rehearsed::Stopped {
+                alike: alike(first, last),
+                bytes: file.len(),
+                total,
+                end,
+                stop,
+                saved: false,
+                image: 0,
+                twice: stop,
+            }
+        }
+    }
+}
+
+// Stopped at a tick, and taken up.
+pub fn stopped(
+    settings: &[u8],
+    file: &[u8],
+    total: u32,
+    first: Final,
+    two: &[u32],
+    inputs: &[u32],
+    stop: u32,
+) -> Rehearsed
+    requires { ⌜ (Full first) × (length (now two) ≡ 16) ⌝ }
+    ensures { λ r. ⌜ rehearsed r ≡ stoppedOf (endIn first) total (laidLoan (now (settings .entry)) (now (file .entry)) (now (two .entry)) (now (inputs .entry)))
+        (replicate 72 0) (replicate 16 0) stop ⌝ }
+{
+    let mut variables: [u32; 16] = [0; 16];
+    copy(two, &mut variables);
+    let mut levels: [u32; 8] = [0; 8];
+    let mut marks: [u8; 8] = [0; 8];
+    let mut image: [u8; 72] = [0; 72];
+    let r = run_until(
+        settings,
+        Form::Laid,
+        file,
+        &mut variables,
+        inputs,
+        &mut levels,
+        &mut marks,
+        &mut image,
+        stop,
+    );
+    match r {
+        Stopped::Refused(x) => Rehearsed::Refused(x),
+        Stopped::At { tick: _, saved } => {
+            let left = Left {
+                levels,
+                marks,
+                image,
+            };
+            if saved {
+                return resumed(settings, file, total, first, inputs, left, stop);
+            }
+            restarted(settings, file, total, first, two, inputs, left, stop)
+        }
+    }
+}
