@@ -34,20 +34,23 @@ returns : tie.Need-returns
 returns c =
     let w = c .before .before .before .before .before .before .before in
     let v = w .before .before .before .before .before .before .before .before .before in
-    rehearse-bad (v .args .settings .now) (v .args .task .now) (set (v .args .one .now) (v .args .one-inputs .now)) (set (v .args .two .now) (v .args .two-inputs .now)) (v .args .stop) (subst (Prepares _ _ _ _ _) (c .before .before .before .r2 .given .1) (w .prepare .ensures)) (c .before .bad-sets .ensures) (c .if1 .taken)
+    rehearse-bad (v .args .settings .now) (v .args .task .now) (set (v .args .one .now) (v .args .one-inputs .now)) (set (v .args .two .now) (v .args .two-inputs .now)) (v .args .stop)
+    (subst (Prepares _ _ _ _ _) (c .before .before .before .r2 .given .1) (w .prepare .ensures)) (c .before .bad-sets .ensures) (c .if1 .taken)
 
 array-share-prefix-laid : tie.Need-array-share-prefix-laid
 array-share-prefix-laid c =
     let w = c .before .before .before .before .before .before .before in
     let v = w .before .before .before .before .before .before .before .before .before in
-    file-fits (v .args .settings .now) (v .args .task .now) (set (v .args .one .now) (v .args .one-inputs .now)) (set (v .args .two .now) (v .args .two-inputs .now)) (v .args .stop) (subst (Prepares _ _ _ _ _) (c .before .before .before .r2 .given .1) (w .prepare .ensures)) (w .prepare .kept .1 .1 .1 .0)
+    file-fits (v .args .settings .now) (v .args .task .now) (set (v .args .one .now) (v .args .one-inputs .now)) (set (v .args .two .now) (v .args .two-inputs .now)) (v .args .stop)
+    (subst (Prepares _ _ _ _ _) (c .before .before .before .r2 .given .1) (w .prepare .ensures)) (w .prepare .kept .1 .1 .1 .0)
 
 slice-aggregate-rehearse-laid : tie.Need-slice-aggregate-rehearse-laid
 slice-aggregate-rehearse-laid c =
     let w = c .before .before .before .before in
     let v = w .before .before .before .before in
     let u = v .before .before .before .before .before .before .before .before .before in
-    sym (length-take-le _ _ (file-fits (u .args .settings .now) (u .args .task .now) (set (u .args .one .now) (u .args .one-inputs .now)) (set (u .args .two .now) (u .args .two-inputs .now)) (u .args .stop) (subst (Prepares _ _ _ _ _) (w .r2 .given .1) (v .prepare .ensures)) (v .prepare .kept .1 .1 .1 .0)))
+    sym (length-take-le _ _ (file-fits (u .args .settings .now) (u .args .task .now) (set (u .args .one .now) (u .args .one-inputs .now)) (set (u .args .two .now) (u .args .two-inputs .now))
+    (u .args .stop) (subst (Prepares _ _ _ _ _) (w .r2 .given .1) (v .prepare .ensures)) (v .prepare .kept .1 .1 .1 .0)))
 
 rehearse-laid-requires : tie.Need-rehearse-laid-requires
 rehearse-laid-requires c κs = good-sets (c .before .before .bad-sets .ensures) (c .before .if1 .left)
@@ -56,14 +59,16 @@ returns-2 : tie.Need-returns-2
 returns-2 c =
     let w = c .before .before .before .before .before in
     let v = w .before .before .before .before .before .before .before .before .before in
-    rehearse-refused (v .args .settings .now) (v .args .task .now) (set (v .args .one .now) (v .args .one-inputs .now)) (set (v .args .two .now) (v .args .two-inputs .now)) (v .args .stop) (subst (Prepares _ _ _ _ _) (c .before .r .given .1) (w .prepare .ensures))
+    rehearse-refused (v .args .settings .now) (v .args .task .now) (set (v .args .one .now) (v .args .one-inputs .now)) (set (v .args .two .now) (v .args .two-inputs .now)) (v .args .stop)
+    (subst (Prepares _ _ _ _ _) (c .before .r .given .1) (w .prepare .ensures))
 
 returns-3 : tie.Need-returns-3
 returns-3 c =
     let w = c .before .before .before .before .before in
     let v = w .before .before .before .before in
     let u = v .before .before .before .before .before .before .before .before .before in
-    rehearse-done (u .args .settings .now) (u .args .task .now) (set (u .args .one .now) (u .args .one-inputs .now)) (set (u .args .two .now) (u .args .two-inputs .now)) (u .args .stop) (subst (Prepares _ _ _ _ _) (w .r2 .given .1) (v .prepare .ensures)) (c .before .before .before .bad-sets .ensures) (c .before .before .if1 .left) (c .rehearse-laid .ensures)
+    rehearse-done (u .args .settings .now) (u .args .task .now) (set (u .args .one .now) (u .args .one-inputs .now)) (set (u .args .two .now) (u .args .two-inputs .now)) (u .args .stop)
+    (subst (Prepares _ _ _ _ _) (w .r2 .given .1) (v .prepare .ensures)) (c .before .before .before .bad-sets .ensures) (c .before .before .if1 .left) (c .rehearse-laid .ensures)
 
 pub rehearse-spec : {M : Type 1} → statement M
 rehearse-spec =
