@@ -17,7 +17,7 @@ use Rattle.model.specs.Trees.{Block, fileTree}
 use Rattle.model.specs.Runs.{Step, duration, leave, cleared, run}
 use Rattle.model.specs.Stopping.{upto, none, lastImage, imageOf, start, takeUp}
 use Rattle.model.specs.Answers.{Verdict, finished, bit, ran, stopped, resumed}
-use Rattle.model.specs.Replies.{turnDown, reading, above, fileTime, kept, Loan, ready, ended, stepsOf, runReply, runBuffers, imageAt, stopReply, stopBuffers, imageOver, stopImage}
+use Rattle.model.specs.Replies.{turnDown, reading, above, fileTime, kept, Loan, ready, ended, stepsOf, runReply, runBuffers, imageAt, stopReply, stopBuffers, imageOver, stopImage, buffersOf, loan}
 use Rattle.model.specs.Replies.{takenUp, takenBuffers, resumeReply, resumeBuffers, restartReply, restartBuffers}
 use Rattle.theory.proofs.Left.{rest-0}
 use Rattle.records.specs.declared.settings.Decoded.{Decoded}
@@ -25,7 +25,7 @@ use Rattle.records.specs.declared.settings.Decoded.the-variants.{Valid, Refused
 use Rattle.records.specs.Decoded.{decoded}
 use Rattle.reading.proofs.Entry.{kept-refusal}
 use Rattle.machine.specs.declared.blocks.Progress.{Progress}
-use Rattle.machine.specs.Calls.{buffers, loan, badLengths, Readies, Ready, steps, RunWhole, stopVerdict, Stops, resumeVerdict, Resumes}
+use Rattle.machine.specs.Calls.{badLengths, Readies, Ready, steps, RunWhole, stopVerdict, Stops, resumeVerdict, Resumes}
 use Rattle.machine.proofs.Whole.{neither, equal-of}
 
 -- a call is handed these over
@@ -57,32 +57,32 @@ module _ (s : List ℕ) (f : Form) (file v ins l m : List ℕ) where
   -- RUN AND RESTART
 
   module _ {bad : Bool} (h : Bad false bad) where
-    pub run-refused : {x : Refusal} → Readies s f file bad (Refused x) → (ran (Ran.Refused x) ≡ runReply c) × (buffers v l m ≡ runBuffers c)
+    pub run-refused : {x : Refusal} → Readies s f file bad (Refused x) → (ran (Ran.Refused x) ≡ runReply c) × (buffersOf v l m ≡ runBuffers c)
     unfolding runReply runBuffers
     run-refused {x} R =
         let e = replied false h R (ended 0 (stepsOf c)) in
         let new = leave (stepsOf c) (cleared v) in
-        (e, sym (kept-refusal x new (buffers v l m)) ∙ ap (λ (y : Verdict). kept y new (buffers v l m)) e)
+        (e, sym (kept-refusal x new (buffersOf v l m)) ∙ ap (λ (y : Verdict). kept y new (buffersOf v l m)) e)
 
-    pub restart-refused : {x : Refusal} → Readies s f file bad (Refused x) → (resumed (Resumed.Refused x) ≡ restartReply c) × (buffers v l m ≡ restartBuffers c)
+    pub restart-refused : {x : Refusal} → Readies s f file bad (Refused x) → (resumed (Resumed.Refused x) ≡ restartReply c) × (buffersOf v l m ≡ restartBuffers c)
     unfolding restartReply restartBuffers
     restart-refused {x} R =
         let e = replied false h R (ended 0 (takenUp c (start v))) in
         let new = takenBuffers c (start v) in
-        (e, sym (kept-refusal x new (buffers v l m)) ∙ ap (λ (y : Verdict). kept y new (buffers v l m)) e)
+        (e, sym (kept-refusal x new (buffersOf v l m)) ∙ ap (λ (y : Verdict). kept y new (buffersOf v l m)) e)
 
     module _ {σ : Settings} (R : Readies s f file bad (Valid σ)) {v′ l′ m′ : List ℕ} {e : Progress} where
-      pub run-finished : RunWhole file σ ins v (replicate 8 0) (replicate 8 0) v′ l′ m′ e → (ran (Ran.Ended (e .tick) (e .overran)) ≡ runReply c) × (buffers v′ l′ m′ ≡ runBuffers c)
+      pub run-finished : RunWhole file σ ins v (replicate 8 0) (replicate 8 0) v′ l′ m′ e → (ran (Ran.Ended (e .tick) (e .overran)) ≡ runReply c) × (buffersOf v′ l′ m′ ≡ runBuffers c)
       unfolding runReply runBuffers stepsOf
       run-finished W =
           let W′ = subst (λ (τ : Settings). RunWhole file τ ins v (replicate 8 0) (replicate 8 0) v′ l′ m′ e) (R .settings σ refl) W in
           let es = steps file (settingsOf s) ins v in
           let k = replied false h R (ended 0 es) in (
             ap₂ (λ (t : ℕ) (o : Bool). finished (t ∷ bit o ∷ [])) (W′ .tick ∙ sym (zero-add (duration es))) (W′ .overran-too) ∙ k,
-            W′ .leaves ∙ ap (λ (y : Verdict). kept y (leave es (cleared v)) (buffers v l m)) k,
+            W′ .leaves ∙ ap (λ (y : Verdict). kept y (leave es (cleared v)) (buffersOf v l m)) k,
           )
 
-      pub restart-finished : RunWhole file σ ins v l m v′ l′ m′ e → (resumed (Resumed.Ended (e .tick) (e .overran)) ≡ restartReply c) × (buffers v′ l′ m′ ≡ restartBuffers c)
+      pub restart-finished : RunWhole file σ ins v l m v′ l′ m′ e → (resumed (Resumed.Ended (e .tick) (e .overran)) ≡ restartReply c) × (buffersOf v′ l′ m′ ≡ restartBuffers c)
       unfolding restartReply restartBuffers takenUp takenBuffers takeUp
       restart-finished W =
           let W′ = subst (λ (τ : Settings). RunWhole file τ ins v l m v′ l′ m′ e) (R .settings σ refl) W in
@@ -91,7 +91,7 @@ module _ (s : List ℕ) (f : Form) (file v ins l m : List ℕ) where
           let same : es ≡ again = ap (λ (b : Block). run (settingsOf s) ins b 0 v) (sym (rest-0 (fileTree file))) in
           let k = replied false h R (ended 0 again) in (
             ap₂ (λ (t : ℕ) (o : Bool). finished (t ∷ bit o ∷ [])) (W′ .tick ∙ sym (zero-add (duration es))) (W′ .overran-too) ∙ ap (ended 0) same ∙ k,
-            W′ .leaves ∙ ap (λ (xs : List Step). leave xs (buffers v l m)) same ∙ ap (λ (y : Verdict). kept y (leave again (buffers v l m)) (buffers v l m)) k,
+            W′ .leaves ∙ ap (λ (xs : List Step). leave xs (buffersOf v l m)) same ∙ ap (λ (y : Verdict). kept y (leave again (buffersOf v l m)) (buffersOf v l m)) k,
           )
 
   -- RUNNING UNTIL A TICK AND TAKING UP
@@ -105,7 +105,7 @@ module _ (s : List ℕ) (f : Form) (file v ins l m : List ℕ) where
 
     module _ (stop : ℕ) where
       abbrev Until : Stopped → List ℕ → List ℕ → List ℕ → List ℕ → Type 0
-      Until r v′ l′ m′ image′ = (stopped r ≡ stopReply c image stop) × (buffers v′ l′ m′ ≡ stopBuffers c image stop) × (image′ ≡ stopImage c image stop)
+      Until r v′ l′ m′ image′ = (stopped r ≡ stopReply c image stop) × (buffersOf v′ l′ m′ ≡ stopBuffers c image stop) × (image′ ≡ stopImage c image stop)
 
       pub until-refused : {x : Refusal} → Readies s f file bad (Refused x) → Until (Stopped.Refused x) v l m image
       unfolding stopReply stopBuffers stopImage imageAt
@@ -114,7 +114,7 @@ module _ (s : List ℕ) (f : Form) (file v ins l m : List ℕ) where
           let new = leave (upto stop (stepsOf c)) (cleared v) in
           let saved = imageOver (lastImage (upto stop (stepsOf c)) 0 v none) image in (
             e,
-            sym (kept-refusal x new (buffers v l m)) ∙ ap (λ (y : Verdict). kept y new (buffers v l m)) e,
+            sym (kept-refusal x new (buffersOf v l m)) ∙ ap (λ (y : Verdict). kept y new (buffersOf v l m)) e,
             sym (kept-refusal x saved image) ∙ ap (λ (y : Verdict). kept y saved image) e,
           )
 
@@ -126,19 +126,19 @@ module _ (s : List ℕ) (f : Form) (file v ins l m : List ℕ) where
           let es = steps file (settingsOf s) ins v in
           let e = replied cause h R (stopVerdict es v stop) in (
             S′ .reply ∙ e,
-            S′ .leaves ∙ ap (λ (y : Verdict). kept y (leave (upto stop es) (cleared v)) (buffers v l m)) e,
+            S′ .leaves ∙ ap (λ (y : Verdict). kept y (leave (upto stop es) (cleared v)) (buffersOf v l m)) e,
             S′ .saves ∙ ap (λ (y : Verdict). kept y (imageOver (lastImage (upto stop es) 0 v none) image) image) e,
           )
 
     abbrev From : Resumed → List ℕ → List ℕ → List ℕ → Type 0
-    From r v′ l′ m′ = (resumed r ≡ resumeReply c image) × (buffers v′ l′ m′ ≡ resumeBuffers c image)
+    From r v′ l′ m′ = (resumed r ≡ resumeReply c image) × (buffersOf v′ l′ m′ ≡ resumeBuffers c image)
 
     pub resume-refused : {x : Refusal} → Readies s f file bad (Refused x) → From (Resumed.Refused x) v l m
     unfolding resumeReply resumeBuffers takenUp
     resume-refused {x} R =
         let e = replied cause h R (resumeVerdict file (settingsOf s) ins (imageOf image)) in
         let new = takenBuffers c (imageOf image) in
-        (e, sym (kept-refusal x new (buffers v l m)) ∙ ap (λ (y : Verdict). kept y new (buffers v l m)) e)
+        (e, sym (kept-refusal x new (buffersOf v l m)) ∙ ap (λ (y : Verdict). kept y new (buffersOf v l m)) e)
 
     pub resume-finished : {σ : Settings} → Readies s f file bad (Valid σ) → {v′ l′ m′ : List ℕ} {r : Resumed} → Resumes file σ ins v l m image v′ l′ m′ r → From r v′ l′ m′
     unfolding resumeReply resumeBuffers takenUp takenBuffers
@@ -146,4 +146,4 @@ module _ (s : List ℕ) (f : Form) (file v ins l m : List ℕ) where
         let S′ = subst (λ (τ : Settings). Resumes file τ ins v l m image v′ l′ m′ r) (R .settings σ refl) S in
         let e = replied cause h R (resumeVerdict file (settingsOf s) ins (imageOf image)) in
         let again = takeUp (settingsOf s) ins (fileTree file) (imageOf image) in
-        (S′ .reply ∙ e, S′ .leaves ∙ ap (λ (y : Verdict). kept y (leave again (buffers (imageOf image .variables) l m)) (buffers v l m)) e)
+        (S′ .reply ∙ e, S′ .leaves ∙ ap (λ (y : Verdict). kept y (leave again (buffersOf (imageOf image .variables) l m)) (buffersOf v l m)) e)

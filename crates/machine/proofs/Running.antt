@@ -80,18 +80,18 @@ run-first σ ins (while q n a b) i h v = let e : i + 2 + size a ≡ i + (2 + siz
 run-first σ ins (times q n a b) i h v = let e : i + 2 + size a ≡ i + (2 + size a) = omega arith in ap (λ (k : ℕ). (firstRun σ ins (times q n a b) i ⊳ run σ ins b k) v) e
 
 -- of the block at `from`, run from tick t₀ on, the records from `next` on are left at tick t
-pub record Running (s : List ℕ) (from to : ℕ) (σ : Settings) (ins : List ℕ) (limit t₀ : ℕ) (old w : List ℕ) (t next : ℕ) : Type 0 where
-  pub all : Entered s from to ins old limit t₀
-  pub rest : Entered s next to ins w limit t
+pub record Running (s : List ℕ) (from to : ℕ) (ends : List ℕ) (σ : Settings) (ins : List ℕ) (limit t₀ : ℕ) (old w : List ℕ) (t next : ℕ) : Type 0 where
+  pub all : Entered s from to ends ins old limit t₀
+  pub rest : Entered s next to ends ins w limit t
   pub on : from ≤ next
   pub counts : next + size (rest .file .block) ≡ from + size (all .file .block)
   pub same : runs limit (run σ ins (all .file .block) from) (going t₀ old) ≡ runs limit (run σ ins (rest .file .block) next) (going t w)
 
-pub running-start : {s : List ℕ} {from to : ℕ} {σ : Settings} {ins : List ℕ} {limit t : ℕ} {w : List ℕ} → Entered s from to ins w limit t
-    → Running s from to σ ins limit t w w t from
+pub running-start : {s : List ℕ} {from to : ℕ} {ends : List ℕ} {σ : Settings} {ins : List ℕ} {limit t : ℕ} {w : List ℕ} → Entered s from to ends ins w limit t
+    → Running s from to ends σ ins limit t w w t from
 running-start E = record { all = E; rest = E; on = omega arith; counts = refl; same = refl }
 
-module _ {s : List ℕ} {from to : ℕ} {σ : Settings} {ins : List ℕ} {limit t₀ : ℕ} {old w : List ℕ} {t next : ℕ} (P : Running s from to σ ins limit t₀ old w t next) where
+module _ {s : List ℕ} {from to : ℕ} {ends : List ℕ} {σ : Settings} {ins : List ℕ} {limit t₀ : ℕ} {old w : List ℕ} {t next : ℕ} (P : Running s from to ends σ ins limit t₀ old w t next) where
   abbrev whole : Block
   whole = P .all .file .block
 
@@ -122,7 +122,7 @@ module _ {s : List ℕ} {from to : ℕ} {σ : Settings} {ins : List ℕ} {limit 
 
   -- a statement is left
   module _ (l : next < to) (k : closesBlock (kindAt s next) ≡ false) where
-    pub statement-next : Statement s next to ins w limit t
+    pub statement-next : Statement s next to ends ins w limit t
     statement-next = record { entered = P .rest; inside = l; goes-on = k }
 
     module _ {new : List ℕ} {r : Progress} (S : StatementRan s next to σ ins limit t w new r) where
@@ -149,13 +149,14 @@ module _ {s : List ℕ} {from to : ℕ} {σ : Settings} {ins : List ℕ} {limit 
         behind-there : Stands (P .rest .form) s (r .next) to (afterFirst left)
         behind-there = subst (λ (j : ℕ). Stands (P .rest .form) s j to (afterFirst left)) (sym goes) (stands-after left (P .rest .file .stands) l k)
 
-        pub running-next : length new ≡ length w → Running s from to σ ins limit t₀ old new (r .tick) (r .next)
+        pub running-next : length new ≡ length w → Running s from to ends σ ins limit t₀ old new (r .tick) (r .next)
         running-next n = record {
           all = P .all;
           rest = record {
             form = P .rest .form;
             file = record { block = afterFirst left; stands = behind-there; inside = P .rest .file .inside };
             few = P .rest .few;
+            table = P .rest .table;
             lent = record { inputs = P .rest .lent .inputs; cells = n ∙ P .rest .lent .cells };
             early = ran-early step (P .rest .early);
           };

@@ -26,7 +26,7 @@ closed-is k a A = ap (λ (n : ℕ). n + 1) (ending a A)
 kind-is : (s : List ℕ) (i : ℕ) {r : Rec} → recordAt s i ≡ r → kindAt s i ≡ r .kind
 kind-is s i e = ap (λ (r : Rec). r .kind) e
 
-module _ {s : List ℕ} {i to : ℕ} {ins w : List ℕ} {limit t : ℕ} (S : Statement s i to ins w limit t) (k : kindAt s i ≡ IF) where
+module _ {s : List ℕ} {i to : ℕ} {ends ins w : List ℕ} {limit t : ℕ} (S : Statement s i to ends ins w limit t) (k : kindAt s i ≡ IF) where
   abbrev one : Block
   one = firstPart (block S)
 
@@ -104,7 +104,7 @@ module _ {s : List ℕ} {i to : ℕ} {ins w : List ℕ} {limit t : ℕ} (S : Sta
       }))
 
   module _ (l : t < limit) {x : Rec} (there : x ≡ recordAt s i) {o : Bool} (h : o ≡ holds (testOf x) (held w .variables)) {from : ℕ} (f : from ≡ chosen s i to o) where
-    pub side-entered : Entered s from to ins w limit (t + 1)
+    pub side-entered : Entered s from to ends ins w limit (t + 1)
     side-entered = record {
       form = form S;
       file = record {
@@ -113,6 +113,7 @@ module _ {s : List ℕ} {i to : ℕ} {ins w : List ℕ} {limit t : ℕ} (S : Sta
         inside = S .entered .file .inside;
       };
       few = S .entered .few;
+      table = S .entered .table;
       lent = S .entered .lent;
       early = omega arith;
     }
@@ -128,8 +129,8 @@ module _ {s : List ℕ} {i to : ℕ} {ins w : List ℕ} {limit t : ℕ} (S : Sta
       branch-halted y = told S whole is-if (ran-from runs-side (λ z. let u : _≡_ {A = ℕ} 0 1 = cc in absurd (omega arith)) ran)
 
       module _ (y : halted e ≡ false) where
-        pub side-ends : Inner s (e .next) to
-        side-ends = record { before = omega (arith, ran .goes y, side-before o); inside = S .entered .file .inside }
+        pub side-ends : Inner s (e .next) to ends
+        side-ends = record { before = omega (arith, ran .goes y, side-before o); inside = S .entered .file .inside; table = S .entered .table }
 
         pub branch-ran : {r : Progress} {n : ℕ} → n ≡ passed s (e .next) to → r ≡ onward (e .tick) n → StatementRan s i to σ ins limit t w new r
         branch-ran {r} {n} p g =

@@ -38,7 +38,7 @@ granted false e = sym e
 
 -- A LOOP'S BODY
 
-module _ {s : List ℕ} {i to : ℕ} {ins old : List ℕ} {limit t₀ : ℕ} (S : Statement s i to ins old limit t₀) where
+module _ {s : List ℕ} {i to : ℕ} {ends ins old : List ℕ} {limit t₀ : ℕ} (S : Statement s i to ends ins old limit t₀) where
   abbrev pub body : Block
   body = firstPart (block S)
 
@@ -53,11 +53,12 @@ module _ {s : List ℕ} {i to : ℕ} {ins old : List ℕ} {limit t₀ : ℕ} (S 
     behind-body = closed-is i body body-there ∙ omega arith
 
     -- it is run from tick t on
-    body-entered : {w : List ℕ} {t : ℕ} → length w ≡ 50 → t ≤ limit → Entered s (i + 1) to ins w limit t
+    body-entered : {w : List ℕ} {t : ℕ} → length w ≡ 50 → t ≤ limit → Entered s (i + 1) to ends ins w limit t
     body-entered l h = record {
       form = form S;
       file = record { block = body; stands = body-there; inside = S .entered .file .inside };
       few = S .entered .few;
+      table = S .entered .table;
       lent = record { inputs = S .entered .lent .inputs; cells = l };
       early = h;
     }
@@ -69,8 +70,8 @@ module _ {s : List ℕ} {i to : ℕ} {ins old : List ℕ} {limit t₀ : ℕ} (S 
 -- WHILE
 
 -- the WHILE at i, with the record r, has done its rounds up to `round` at tick t
-pub record Spinning (s : List ℕ) (i to : ℕ) (r : Rec) (σ : Settings) (ins : List ℕ) (limit t₀ : ℕ) (old w : List ℕ) (t round next : ℕ) : Type 0 where
-  pub loop : Statement s i to ins old limit t₀
+pub record Spinning (s : List ℕ) (i to : ℕ) (ends : List ℕ) (r : Rec) (σ : Settings) (ins : List ℕ) (limit t₀ : ℕ) (old w : List ℕ) (t round next : ℕ) : Type 0 where
+  pub loop : Statement s i to ends ins old limit t₀
   pub kind : kindAt s i ≡ WHILE
   pub there : r ≡ recordAt s i
   pub behind : next ≡ closed s i to
@@ -79,8 +80,8 @@ pub record Spinning (s : List ℕ) (i to : ℕ) (r : Rec) (σ : Settings) (ins :
   pub same : runs limit (spin i (r .count) (testOf r) (run σ ins (body loop) (i + 1))) (going t₀ old)
       ≡ runs limit (spin i (r .count - round) (testOf r) (run σ ins (body loop) (i + 1))) (going t w)
 
-module _ {s : List ℕ} {i to : ℕ} {r : Rec} {σ : Settings} {ins : List ℕ} {limit t₀ : ℕ} {old w : List ℕ} {t round next : ℕ}
-    (P : Spinning s i to r σ ins limit t₀ old w t round next) where
+module _ {s : List ℕ} {i to : ℕ} {ends : List ℕ} {r : Rec} {σ : Settings} {ins : List ℕ} {limit t₀ : ℕ} {old w : List ℕ} {t round next : ℕ}
+    (P : Spinning s i to ends r σ ins limit t₀ old w t round next) where
   abbrev inner : Run
   inner = run σ ins (body (P .loop)) (i + 1)
 
@@ -132,7 +133,7 @@ module _ {s : List ℕ} {i to : ℕ} {r : Rec} {σ : Settings} {ins : List ℕ} 
             goes = λ g. refl;
           }))
 
-      pub spinning-entered : Entered s (i + 1) to ins w limit (t + 1)
+      pub spinning-entered : Entered s (i + 1) to ends ins w limit (t + 1)
       spinning-entered = body-entered (P .loop) opens not-if (P .lent) (omega arith)
 
       module _ {o : Bool} (q : o ≡ holds (testOf r) (held w .variables)) (n : not o ≡ false) {new : List ℕ} {e : Progress} (B : BlockRan s (i + 1) to σ ins limit (t + 1) w new e) where
@@ -148,7 +149,7 @@ module _ {s : List ℕ} {i to : ℕ} {r : Rec} {σ : Settings} {ins : List ℕ} 
         pub spinning-halted : halted e ≡ true → StatementRan s i to σ ins limit t₀ old new e
         spinning-halted y = left turned (ran-halted round-ran after next y)
 
-        pub spinning-next : halted e ≡ false → length new ≡ length w → Spinning s i to r σ ins limit t₀ old new (e .tick) (round + 1) next
+        pub spinning-next : halted e ≡ false → length new ≡ length w → Spinning s i to ends r σ ins limit t₀ old new (e .tick) (round + 1) next
         spinning-next y k = record {
           loop = P .loop;
           kind = P .kind;
@@ -159,9 +160,9 @@ module _ {s : List ℕ} {i to : ℕ} {r : Rec} {σ : Settings} {ins : List ℕ} 
           same = P .same ∙ turned ∙ ran-on round-ran after y;
         }
 
-pub spinning-start : {s : List ℕ} {i to : ℕ} {r : Rec} {σ : Settings} {ins : List ℕ} {limit t : ℕ} {w : List ℕ} {next : ℕ}
-    → Statement s i to ins w limit t → kindAt s i ≡ WHILE → r ≡ recordAt s i → next ≡ closed s i to → Spinning s i to r σ ins limit t w w t 0 next
-spinning-start {s} {i} {to} {r} {σ} {ins} {limit} {t} {w} S k h n = record {
+pub spinning-start : {s : List ℕ} {i to : ℕ} {ends : List ℕ} {r : Rec} {σ : Settings} {ins : List ℕ} {limit t : ℕ} {w : List ℕ} {next : ℕ}
+    → Statement s i to ends ins w limit t → kindAt s i ≡ WHILE → r ≡ recordAt s i → next ≡ closed s i to → Spinning s i to ends r σ ins limit t w w t 0 next
+spinning-start {s} {i} {to} {ends} {r} {σ} {ins} {limit} {t} {w} S k h n = record {
   loop = S;
   kind = k;
   there = h;
@@ -174,8 +175,8 @@ spinning-start {s} {i} {to} {r} {σ} {ins} {limit} {t} {w} S k h n = record {
 -- TIMES
 
 -- the TIMES at i, with the record r, has done its rounds up to `round` of `last` at tick t
-pub record Turning (s : List ℕ) (i to : ℕ) (r : Rec) (σ : Settings) (ins : List ℕ) (limit t₀ : ℕ) (old w : List ℕ) (t last round next : ℕ) : Type 0 where
-  pub loop : Statement s i to ins old limit t₀
+pub record Turning (s : List ℕ) (i to : ℕ) (ends : List ℕ) (r : Rec) (σ : Settings) (ins : List ℕ) (limit t₀ : ℕ) (old w : List ℕ) (t last round next : ℕ) : Type 0 where
+  pub loop : Statement s i to ends ins old limit t₀
   pub kind : kindAt s i ≡ TIMES
   pub there : r ≡ recordAt s i
   pub behind : next ≡ closed s i to
@@ -184,8 +185,8 @@ pub record Turning (s : List ℕ) (i to : ℕ) (r : Rec) (σ : Settings) (ins : 
   pub same : runs limit (rounds (r .count) (run σ ins (body loop) (i + 1)) ⊳ single 1 i (lastTest (testOf r))) (going t₀ old)
       ≡ runs limit (rounds (last - round) (run σ ins (body loop) (i + 1)) ⊳ single 1 i (lastTest (testOf r))) (going t w)
 
-module _ {s : List ℕ} {i to : ℕ} {r : Rec} {σ : Settings} {ins : List ℕ} {limit t₀ : ℕ} {old w : List ℕ} {t last round next : ℕ}
-    (P : Turning s i to r σ ins limit t₀ old w t last round next) where
+module _ {s : List ℕ} {i to : ℕ} {ends : List ℕ} {r : Rec} {σ : Settings} {ins : List ℕ} {limit t₀ : ℕ} {old w : List ℕ} {t last round next : ℕ}
+    (P : Turning s i to ends r σ ins limit t₀ old w t last round next) where
   abbrev inner-times : Run
   inner-times = run σ ins (body (P .loop)) (i + 1)
 
@@ -214,7 +215,7 @@ module _ {s : List ℕ} {i to : ℕ} {r : Rec} {σ : Settings} {ins : List ℕ} 
   turning-last l R = let z : last - round ≡ 0 = omega arith in times-left (ap (λ (n : ℕ). runs limit (rounds n inner-times ⊳ test) (going t w)) z) R
 
   module _ (l : round < last) where
-    pub turning-entered : Entered s (i + 1) to ins w limit t
+    pub turning-entered : Entered s (i + 1) to ends ins w limit t
     turning-entered = body-entered (P .loop) times-opens times-not-if (P .lent) (P .early)
 
     module _ {new : List ℕ} {e : Progress} (B : BlockRan s (i + 1) to σ ins limit t w new e) where
@@ -233,7 +234,7 @@ module _ {s : List ℕ} {i to : ℕ} {r : Rec} {σ : Settings} {ins : List ℕ} 
       pub turning-halted : halted e ≡ true → StatementRan s i to σ ins limit t₀ old new e
       turning-halted y = times-left times-turned (ran-halted times-ran after-times next y)
 
-      pub turning-next : halted e ≡ false → length new ≡ length w → Turning s i to r σ ins limit t₀ old new (e .tick) last (round + 1) next
+      pub turning-next : halted e ≡ false → length new ≡ length w → Turning s i to ends r σ ins limit t₀ old new (e .tick) last (round + 1) next
       turning-next y n = record {
         loop = P .loop;
         kind = P .kind;
@@ -250,10 +251,10 @@ rounds-as σ ins i {n} {c} a (inl e) v = ap (λ (m : ℕ). rounds m (run σ ins 
 rounds-as σ ins i {n} {c} a (inr p) v =
     ap (λ (b : Block). rounds c (run σ ins b i) v) (p .0) ∙ rounds-nothing c v ∙ ap (λ (m : ℕ). rounds m (run σ ins a i) v) (sym (sub-zero n ∙ p .1))
 
-pub turning-start : {s : List ℕ} {i to : ℕ} {r : Rec} {σ : Settings} {ins : List ℕ} {limit t : ℕ} {w : List ℕ} {last next : ℕ}
-    → Statement s i to ins w limit t → kindAt s i ≡ TIMES → r ≡ recordAt s i → next ≡ closed s i to → Rounds s (i + 1) to (r .count) last
-    → Turning s i to r σ ins limit t w w t last 0 next
-turning-start {s} {i} {to} {r} {σ} {ins} {limit} {t} {w} {last} S k h n R = record {
+pub turning-start : {s : List ℕ} {i to : ℕ} {ends : List ℕ} {r : Rec} {σ : Settings} {ins : List ℕ} {limit t : ℕ} {w : List ℕ} {last next : ℕ}
+    → Statement s i to ends ins w limit t → kindAt s i ≡ TIMES → r ≡ recordAt s i → next ≡ closed s i to → Rounds s (i + 1) to (r .count) last
+    → Turning s i to ends r σ ins limit t w w t last 0 next
+turning-start {s} {i} {to} {ends} {r} {σ} {ins} {limit} {t} {w} {last} S k h n R = record {
   loop = S;
   kind = k;
   there = h;

@@ -66,7 +66,7 @@ act-effect ins (save m) v = refl
 
 -- THE STATEMENT
 
-module _ {s : List ℕ} {i to : ℕ} {ins w : List ℕ} {limit t : ℕ} (S : Statement s i to ins w limit t) where
+module _ {s : List ℕ} {i to : ℕ} {ends ins w : List ℕ} {limit t : ℕ} (S : Statement s i to ends ins w limit t) where
   abbrev pub block : Block
   block = S .entered .file .block
 

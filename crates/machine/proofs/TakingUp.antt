@@ -50,18 +50,18 @@ passed-after s k to = go (eqb (kindAt s k) ELSE)
 -- THE TURNS OF THE LOOP
 
 -- of what was left at `from` and tick t₀, the rest from `next` on is left at tick t
-pub record TakingUp (s : List ℕ) (from to : ℕ) (σ : Settings) (ins : List ℕ) (limit t₀ : ℕ) (old w : List ℕ) (t next : ℕ) : Type 0 where
-  pub all : TakesUp s from to ins old limit t₀
+pub record TakingUp (s : List ℕ) (from to : ℕ) (ends : List ℕ) (σ : Settings) (ins : List ℕ) (limit t₀ : ℕ) (old w : List ℕ) (t next : ℕ) : Type 0 where
+  pub all : TakesUp s from to ends ins old limit t₀
   pub within : next ≤ to
   pub cells : length w ≡ 50
   pub early : t ≤ limit
   pub same : bare (runs limit (run σ ins (rest (all .file .block) from) from) (going t₀ old)) ≡ bare (runs limit (run σ ins (rest (all .file .block) next) next) (going t w))
 
-pub taking-up : {s : List ℕ} {from to : ℕ} {σ : Settings} {ins : List ℕ} {limit t : ℕ} {w : List ℕ} → TakesUp s from to ins w limit t
-    → TakingUp s from to σ ins limit t w w t from
+pub taking-up : {s : List ℕ} {from to : ℕ} {ends : List ℕ} {σ : Settings} {ins : List ℕ} {limit t : ℕ} {w : List ℕ} → TakesUp s from to ends ins w limit t
+    → TakingUp s from to ends σ ins limit t w w t from
 taking-up T = record { all = T; within = T .inside; cells = T .lent .cells; early = T .early; same = refl }
 
-module _ {s : List ℕ} {from to : ℕ} {σ : Settings} {ins : List ℕ} {limit t₀ : ℕ} {old w : List ℕ} {t next : ℕ} (P : TakingUp s from to σ ins limit t₀ old w t next) where
+module _ {s : List ℕ} {from to : ℕ} {ends : List ℕ} {σ : Settings} {ins : List ℕ} {limit t₀ : ℕ} {old w : List ℕ} {t next : ℕ} (P : TakingUp s from to ends σ ins limit t₀ old w t next) where
   abbrev whole : Block
   whole = P .all .file .block
 
@@ -85,17 +85,18 @@ module _ {s : List ℕ} {from to : ℕ} {σ : Settings} {ins : List ℕ} {limit 
   left-is : (x : Block) → rest whole (next - 0) ≡ x → left ≡ x
   left-is x e = ap (rest whole) (sym (sub-zero next)) ∙ e
 
-  pub block-next : Entered s next to ins w limit t
+  pub block-next : Entered s next to ends ins w limit t
   block-next = record {
     form = P .all .form;
     file = record { block = first; stands = here .stands; inside = P .all .file .inside };
     few = P .all .few;
+    table = P .all .table;
     lent = record { inputs = P .all .lent .inputs; cells = P .cells };
     early = P .early;
   }
 
-  pub closing-there : {k : ℕ} → k < to → Inner s k to
-  closing-there l = record { before = l; inside = P .all .file .inside }
+  pub closing-there : {k : ℕ} → k < to → Inner s k to ends
+  closing-there l = record { before = l; inside = P .all .file .inside; table = P .all .table }
 
   -- nothing is left
   left-none : to ≤ next → left ≡ nil
@@ -146,7 +147,7 @@ module _ {s : List ℕ} {from to : ℕ} {σ : Settings} {ins : List ℕ} {limit 
         behind-is : passed s (next + size first) to ≡ n
         behind-is = ap (λ (k : ℕ). passed s k to) (sym goes) ∙ sym p
 
-        next-is : length new ≡ length w → Onward s to 0 whole next first → TakingUp s from to σ ins limit t₀ old new (r .tick) n
+        next-is : length new ≡ length w → Onward s to 0 whole next first → TakingUp s from to ends σ ins limit t₀ old new (r .tick) n
         next-is e O =
             let b = rest whole n in
             let m : passed s (next + size first) to - 0 ≡ n = omega (arith, behind-is) in
@@ -161,5 +162,5 @@ module _ {s : List ℕ} {from to : ℕ} {σ : Settings} {ins : List ℕ} {limit 
                   ∙ runs-moved limit σ ins b (next + size first) n (going (r .tick) new);
             }
 
-        pub taking-next : r .next < to → length new ≡ length w → TakingUp s from to σ ins limit t₀ old new (r .tick) n
+        pub taking-next : r .next < to → length new ≡ length w → TakingUp s from to ends σ ins limit t₀ old new (r .tick) n
         taking-next l e = ⊎-elim (λ x. absurd (omega (arith, x .0, P .all .ends, goes))) (λ O. next-is e O) (here .then)

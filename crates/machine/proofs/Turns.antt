@@ -4,22 +4,24 @@ use mathlib.Core.Path.{_≡_, refl, ap, sym, subst, _∙_}
 use mathlib.Core.Bool.{Bool, true, false}
 use mathlib.Core.List.{List}
 use mathlib.Core.Logic.{inl, inr}
+use native.Mathlib.Omega.{arith}
+use lib.ListN.{getD}
 use borrow.Author.Tests.{eq-eqb, ne-eqb}
 use Rattle.model.specs.Records.{Rec, kindAt, ELSE}
 use Rattle.model.specs.Trees.{Test}
 use Rattle.model.specs.Runs.{Effect, holds, lastTest, single}
-use Rattle.reading.specs.Closing.{closesBlock, Closes}
+use Rattle.reading.specs.Closing.{closesBlock}
 use Rattle.reading.proofs.Standing.{stands-closed}
 use Rattle.machine.specs.declared.blocks.Progress.{Progress}
 use Rattle.machine.specs.Machines.{held, recordEffect}
-use Rattle.machine.specs.Contracts.{Acts, Ran, Rounds, closed, passed}
+use Rattle.machine.specs.Contracts.{Acts, Ran, Rounds, Inner, closed, passed}
 use Rattle.machine.proofs.Doing.{single-cut, single-done, test-done}
 
 -- WHERE BLOCKS END
 
-pub behind-is : (s : List ℕ) (k to r : ℕ) → Closes s (k + 1) to r → r + 1 ≡ closed s k to
+pub behind-is : {s ends : List ℕ} (k to : ℕ) → Inner s k to ends → getD ends (k + 1) 0 + 1 ≡ closed s k to
 unfolding closed
-behind-is s k to r C = ap (λ (n : ℕ). n + 1) (C .is)
+behind-is k to I = ap (λ (n : ℕ). n + 1) (I .table .at (k + 1) (omega (arith, I .before)))
 
 pub past-else : (s : List ℕ) (k to r n : ℕ) → n ≡ kindAt s k → n ≡ ELSE → r ≡ closed s k to → r ≡ passed s k to
 past-else s k to r n e h p = rw (eq-eqb (kindAt s k) ELSE (sym e ∙ h)) p

@@ -18,7 +18,7 @@ use Rattle.model.specs.Trees.{size, fileTree}
 use Rattle.model.specs.Runs.{Step, duration, variablesAfter, outputsAfter, level, mark, overran, Buffers, leave, cleared, run}
 use Rattle.model.specs.Refusals.{maxRecords}
 use Rattle.model.specs.Stopping.{upto, Image, Saved, none, lastImage, wordsFrom, imageOf, rest, takeUp}
-use Rattle.model.specs.Replies.{kept, ended, isSaved, imageOver, afterSave}
+use Rattle.model.specs.Replies.{kept, ended, isSaved, imageOver, afterSave, buffersOf}
 use Rattle.model.specs.Answers.{Verdict, finished, refused, bit}
 use Rattle.model.proofs.Bytes.{Bytes}
 use Rattle.model.proofs.Sound.{Sound, sound-file}
@@ -26,13 +26,14 @@ use Rattle.model.specs.Placement.{LoopFree}
 use Rattle.theory.proofs.Reached.{rest-reached}
 use Rattle.theory.proofs.Stops.{upto-all}
 use Rattle.theory.proofs.Within.{run-within}
-use Rattle.reading.specs.Ranges.{Stands}
+use Rattle.reading.specs.Closing.{Closings}
+use Rattle.reading.specs.Ranges.{Fillable, Stands}
 use Rattle.reading.proofs.Standing.{stands-file}
 use Rattle.machine.specs.declared.blocks.Progress.{Progress}
 use Rattle.machine.specs.Machines.{Held, held, Machine, machine, does, runs}
 use Rattle.machine.specs.Contracts.{reached, Entered, BlockRan, bare, TakesUp, TookUp}
 use Rattle.machine.specs.Buffers.{Stored, withVariables, withOutputs}
-use Rattle.machine.specs.Calls.{buffers, badLengths, Ready, steps, RunWhole, stopVerdict, Stops, strayAt, resumeVerdict, Resumes, StoredImage}
+use Rattle.machine.specs.Calls.{badLengths, Ready, steps, RunWhole, stopVerdict, Stops, strayAt, resumeVerdict, Resumes, StoredImage}
 use Rattle.machine.proofs.Doing.{heldAfter, does-upto}
 use Rattle.machine.proofs.RunningLoops.{denied, granted}
 use Rattle.machine.proofs.Marks.{marks-bytes}
@@ -84,7 +85,7 @@ module _ {us : List Step} {t : ℕ} {b : Buffers} {e : Progress} {new : List ℕ
   pub left-bytes : Bytes (b .marks) → Bytes (held new .marks)
   left-bytes h = subst Bytes (sym (L .marks)) (marks-bytes us (b .marks) h)
 
-  pub left-stored : {v l m : List ℕ} → Stored (held new) v l m → buffers v l m ≡ leave us b
+  pub left-stored : {v l m : List ℕ} → Stored (held new) v l m → buffersOf v l m ≡ leave us b
   left-stored S = rw (S .variables ∙ L .variables, S .levels ∙ L .levels, S .marks ∙ L .marks)
 
 -- the outputs and the image before the first step
@@ -115,11 +116,22 @@ module _ {file : List ℕ} {σ : Settings} {v ins l m : List ℕ} (R : Ready fil
   whole-stands : Stands (R .form) file 0 (length file / 12) (fileTree file)
   whole-stands = stands-file (R .form) file (R .sound)
 
-  pub whole-entered : {w : List ℕ} {limit : ℕ} → length w ≡ 50 → Entered file 0 (length file / 12) ins w limit 0
-  whole-entered k = record {
+  -- the table of its closings is filled into as much room
+  pub whole-fills : {ends : List ℕ} → length ends ≡ 5462 → Fillable file (length file / 12) ends
+  whole-fills k = record {
+    form = R .form;
+    file = record { block = fileTree file; stands = whole-stands; inside = omega arith };
+    ends = whole-size;
+    few = whole-few;
+    room = omega (arith, whole-few);
+  }
+
+  pub whole-entered : {ends w : List ℕ} {limit : ℕ} → Closings file (length file / 12) ends → length w ≡ 50 → Entered file 0 (length file / 12) ends ins w limit 0
+  whole-entered T k = record {
     form = R .form;
     file = record { block = fileTree file; stands = whole-stands; inside = omega arith };
     few = whole-few;
+    table = T;
     lent = record { inputs = lent .inputs; cells = k };
     early = omega arith;
   }
@@ -141,7 +153,7 @@ module _ {file : List ℕ} {σ : Settings} {v ins l m : List ℕ} (R : Ready fil
         ∙ does-upto limit (steps file σ ins v) 0 false h (omega arith)
         ∙ ap (outcome (steps file σ ins v)) (sub-zero limit)
 
-    pub whole-left : Left done 0 (buffers v (h .levels) (h .marks)) e new
+    pub whole-left : Left done 0 (buffersOf v (h .levels) (h .marks)) e new
     whole-left = record {
       tick = ap (λ (x : Machine). x .tick) whole-reaches;
       overran-too = ap (λ (x : Machine). x .overran) whole-reaches;
@@ -163,8 +175,8 @@ module _ {file : List ℕ} {σ : Settings} {v ins l m : List ℕ} (R : Ready fil
     all-done : upto (σ .period) (steps file σ ins v) ≡ steps file σ ins v
     all-done = upto-all (σ .period) (steps file σ ins v) (omega (arith, run-within σ ins (fileTree file) 0 .in-all v, R .in-time))
 
-    pub run-left : Left (steps file σ ins v) 0 (buffers v l m) e new
-    run-left = subst (λ (us : List Step). Left us 0 (buffers v l m) e new) all-done (whole-left B k refl)
+    pub run-left : Left (steps file σ ins v) 0 (buffersOf v l m) e new
+    run-left = subst (λ (us : List Step). Left us 0 (buffersOf v l m) e new) all-done (whole-left B k refl)
 
     pub run-ran : {v′ l′ m′ : List ℕ} → Stored (held new) v′ l′ m′ → RunWhole file σ ins v l m v′ l′ m′ e
     run-ran S = record { tick = omega (arith, run-left .tick); overran-too = run-left .overran-too; leaves = left-stored run-left S }
@@ -190,7 +202,7 @@ module _ {file : List ℕ} {σ : Settings} {v ins l m : List ℕ} (R : Ready fil
         let r : refused 12 [] ≡ stopVerdict es v stop = rw (le-leb (duration es) stop c) in
         record {
           reply = r;
-          leaves = ap (λ (x : Verdict). kept x (leave (upto stop es) (cleared v)) (buffers v l m)) r;
+          leaves = ap (λ (x : Verdict). kept x (leave (upto stop es) (cleared v)) (buffersOf v l m)) r;
           saves = ap (λ (x : Verdict). kept x (imageOver result image) image) r;
         }
 
@@ -202,7 +214,7 @@ module _ {file : List ℕ} {σ : Settings} {v ins l m : List ℕ} (R : Ready fil
         let r : finished (stop ∷ 0 ∷ bit (isSaved result) ∷ []) ≡ stopVerdict es v stop = rw (lt-leb (duration es) stop c) in
         record {
           reply = ap (λ (b : Bool). finished (stop ∷ 0 ∷ bit b ∷ [])) (I .told ∙ ap isSaved i) ∙ r;
-          leaves = left-stored stop-left S ∙ ap (λ (x : Verdict). kept x (leave (upto stop es) (cleared v)) (buffers v l m)) r;
+          leaves = left-stored stop-left S ∙ ap (λ (x : Verdict). kept x (leave (upto stop es) (cleared v)) (buffersOf v l m)) r;
           saves = I .bytes ∙ ap (λ (s : Saved). imageOver s image) i ∙ ap (λ (x : Verdict). kept x (imageOver result image) image) r;
         }
 
@@ -227,7 +239,7 @@ module _ {file : List ℕ} {σ : Settings} {v ins l₀ m₀ : List ℕ} where
 
 module _ {file : List ℕ} {σ : Settings} {v ins l m : List ℕ} (R : Ready file σ v ins l m) (M : Image) where
   abbrev leaving : Image → Buffers
-  leaving x = kept (resumeVerdict file σ ins x) (leave (takeUp σ ins (fileTree file) x) (buffers (x .variables) l m)) (buffers v l m)
+  leaving x = kept (resumeVerdict file σ ins x) (leave (takeUp σ ins (fileTree file) x) (buffersOf (x .variables) l m)) (buffersOf v l m)
 
   -- row 11
   pub resume-stray : {image : List ℕ} → M ≡ imageOf image → strayAt file (σ .period) M ≡ true → Resumes file σ ins v l m image v l m (Resumed.Refused Refusal.BadImage)
@@ -235,7 +247,7 @@ module _ {file : List ℕ} {σ : Settings} {v ins l m : List ℕ} (R : Ready fil
       let r : refused 11 [] ≡ resumeVerdict file σ ins M = rw e in
       record {
         reply = r ∙ ap (resumeVerdict file σ ins) is;
-        leaves = ap (λ (x : Verdict). kept x (leave (takeUp σ ins (fileTree file) M) (buffers (M .variables) l m)) (buffers v l m)) r ∙ ap leaving is;
+        leaves = ap (λ (x : Verdict). kept x (leave (takeUp σ ins (fileTree file) M) (buffersOf (M .variables) l m)) (buffersOf v l m)) r ∙ ap leaving is;
       }
 
   module _ (a : afterSave file (M .index) ≡ true) (p : M .tick ≤ σ .period) where
@@ -258,13 +270,14 @@ module _ {file : List ℕ} {σ : Settings} {v ins l m : List ℕ} (R : Ready fil
     loop-free : LoopFree (fileTree file)
     loop-free = rest-reached (R .form) file j (R .sound .sound) a
 
-    pub resume-takes : {w : List ℕ} → length w ≡ 50 → TakesUp file j (length file / 12) ins w (t + σ .period) t
-    resume-takes k = record {
+    pub resume-takes : {ends w : List ℕ} → Closings file (length file / 12) ends → length w ≡ 50 → TakesUp file j (length file / 12) ends ins w (t + σ .period) t
+    resume-takes T k = record {
       form = R .form;
       file = record { block = fileTree file; stands = whole-stands R; inside = omega arith };
       ends = whole-size R;
       loop-free = loop-free;
       few = whole-few R;
+      table = T;
       inside = in-file;
       lent = record { inputs = lent R .inputs; cells = k };
       early = omega arith;
@@ -296,10 +309,10 @@ module _ {file : List ℕ} {σ : Settings} {v ins l m : List ℕ} (R : Ready fil
       resume-done : upto (t + σ .period - t) again ≡ again
       resume-done = upto-all (t + σ .period - t) again (omega (arith, within-period))
 
-      pub resume-left : Left again t (buffers (M .variables) l m) e new
+      pub resume-left : Left again t (buffersOf (M .variables) l m) e new
       resume-left =
           let q = resume-reaches in
-          subst (λ (us : List Step). Left us t (buffers (M .variables) l m) e new) resume-done
+          subst (λ (us : List Step). Left us t (buffersOf (M .variables) l m) e new) resume-done
           (record {
             tick = ap (λ (x : Machine). x .tick) q;
             overran-too = ap (λ (x : Machine). x .overran) q;
@@ -314,7 +327,7 @@ module _ {file : List ℕ} {σ : Settings} {v ins l m : List ℕ} (R : Ready fil
           let r : ended t again ≡ resumeVerdict file σ ins M = rw (a, le-ltb (σ .period) t p) in
           record {
             reply = ap₂ (λ (x : ℕ) (o : Bool). finished (x ∷ bit o ∷ [])) (resume-left .tick) (resume-left .overran-too) ∙ r ∙ ap (resumeVerdict file σ ins) is;
-            leaves = left-stored resume-left S ∙ ap (λ (x : Verdict). kept x (leave again (buffers (M .variables) l m)) (buffers v l m)) r ∙ ap leaving is;
+            leaves = left-stored resume-left S ∙ ap (λ (x : Verdict). kept x (leave again (buffersOf (M .variables) l m)) (buffersOf v l m)) r ∙ ap leaving is;
           }
 
 -- the image in 18 words that were read
@@ -343,8 +356,9 @@ module _ {file : List ℕ} {σ : Settings} {v ins l m : List ℕ} (R : Ready fil
       there : afterSave file index ≡ true
       there = sym s ∙ granted o n
 
-      pub words-take : {cells : List ℕ} → length cells ≡ 50 → TakesUp file index (length file / 12) ins cells (tick + σ .period) tick
-      words-take k = resume-takes R (imageFrom w) there p k
+      pub words-take : {ends cells : List ℕ} → Closings file (length file / 12) ends → length cells ≡ 50
+          → TakesUp file index (length file / 12) ends ins cells (tick + σ .period) tick
+      words-take T k = resume-takes R (imageFrom w) there p T k
 
       module _ {cells new : List ℕ} {e : Progress} (T : TookUp file index (length file / 12) σ ins (tick + σ .period) tick cells new e)
           (k : held cells ≡ withOutputs l m (withVariables (take 16 (drop 2 w)) (held (replicate 50 0)))) where

@@ -15,19 +15,12 @@ use Rattle.model.specs.Times.{time}
 use Rattle.model.specs.Runs.{Step, duration, overran, Buffers, leave, cleared, run}
 use Rattle.model.specs.Stopping.{upto, Saved, none, Image, lastImage, imageOf, takeUp}
 use Rattle.model.specs.Answers.{Verdict, finished, bit, stopped, resumed}
-use Rattle.model.specs.Replies.{turnDown, reading, above, fileTime, kept, Loan, ended, isSaved, imageOver, afterSave}
+use Rattle.model.specs.Replies.{turnDown, reading, above, fileTime, kept, buffersOf, ended, isSaved, imageOver, afterSave}
 use Rattle.records.specs.declared.settings.Decoded.{Decoded}
 use Rattle.records.specs.declared.settings.Decoded.the-variants.{Valid}
 use Rattle.records.specs.Decoded.{decoded}
 use Rattle.reading.specs.Ranges.{SoundFile}
 use Rattle.machine.specs.declared.blocks.Progress.{Progress}
-
-abbrev pub buffers : List ℕ → List ℕ → List ℕ → Buffers
-buffers v l m = record { variables = v; levels = l; marks = m }
-
--- what a call is handed over
-abbrev pub loan : List ℕ → Form → List ℕ → List ℕ → List ℕ → List ℕ → List ℕ → Loan
-loan s f file v ins l m = record { settings = s; form = f; file = file; inputs = ins; buffers = buffers v l m }
 
 -- row 10, of lengths
 abbrev pub badLengths : ℕ → ℕ → ℕ → ℕ → Bool
@@ -58,7 +51,7 @@ steps file σ ins v = run σ ins (fileTree file) 0 v
 pub record RunWhole (file : List ℕ) (σ : Settings) (ins v l m v′ l′ m′ : List ℕ) (e : Progress) : Type 0 where
   pub tick : e .tick ≡ duration (steps file σ ins v)
   pub overran-too : e .overran ≡ overran (steps file σ ins v)
-  pub leaves : buffers v′ l′ m′ ≡ leave (steps file σ ins v) (buffers v l m)
+  pub leaves : buffersOf v′ l′ m′ ≡ leave (steps file σ ins v) (buffersOf v l m)
 
 -- a run up to a stop tick: row 12, and the result
 abbrev pub stopVerdict : List Step → List ℕ → ℕ → Verdict
@@ -66,7 +59,7 @@ stopVerdict es v stop = turnDown 12 (leb (duration es) stop) (finished (stop ∷
 
 pub record Stops (file : List ℕ) (σ : Settings) (ins : List ℕ) (stop : ℕ) (v l m image v′ l′ m′ image′ : List ℕ) (r : Stopped) : Type 0 where
   pub reply : stopped r ≡ stopVerdict (steps file σ ins v) v stop
-  pub leaves : buffers v′ l′ m′ ≡ kept (stopVerdict (steps file σ ins v) v stop) (leave (upto stop (steps file σ ins v)) (cleared v)) (buffers v l m)
+  pub leaves : buffersOf v′ l′ m′ ≡ kept (stopVerdict (steps file σ ins v) v stop) (leave (upto stop (steps file σ ins v)) (cleared v)) (buffersOf v l m)
   pub saves : image′ ≡ kept (stopVerdict (steps file σ ins v) v stop) (imageOver (lastImage (upto stop (steps file σ ins v)) 0 v none) image) image
 
 -- a run taken up: row 11, and the result
@@ -78,8 +71,8 @@ resumeVerdict file σ ins m = turnDown 11 (strayAt file (σ .period) m) (ended (
 
 pub record Resumes (file : List ℕ) (σ : Settings) (ins v l m image v′ l′ m′ : List ℕ) (r : Resumed) : Type 0 where
   pub reply : resumed r ≡ resumeVerdict file σ ins (imageOf image)
-  pub leaves : buffers v′ l′ m′
-      ≡ kept (resumeVerdict file σ ins (imageOf image)) (leave (takeUp σ ins (fileTree file) (imageOf image)) (buffers (imageOf image .variables) l m)) (buffers v l m)
+  pub leaves : buffersOf v′ l′ m′
+      ≡ kept (resumeVerdict file σ ins (imageOf image)) (leave (takeUp σ ins (fileTree file) (imageOf image)) (buffersOf (imageOf image .variables) l m)) (buffersOf v l m)
 
 -- the last image over a lent buffer, and whether there is one
 pub record StoredImage (s : Saved) (old new : List ℕ) (r : Bool) : Type 0 where

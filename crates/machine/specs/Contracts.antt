@@ -14,7 +14,7 @@ use Rattle.model.specs.Times.{ticks}
 use Rattle.model.specs.Stopping.{none, rest}
 use Rattle.model.specs.Placement.{LoopFree}
 use Rattle.model.specs.Runs.{nothing, isOverrun, effect, lastTest, Run, _⊳_, single, choose, spin, rounds, run}
-use Rattle.reading.specs.Closing.{closesBlock, closingIn}
+use Rattle.reading.specs.Closing.{closesBlock, closingIn, Closings}
 use Rattle.reading.specs.Ranges.{Stands, InFile, firstSize}
 use Rattle.machine.specs.declared.blocks.Progress.{Progress}
 use Rattle.machine.specs.Machines.{held, affect, Machine, machine, runs, recordEffect}
@@ -54,16 +54,17 @@ firstRun σ ins (while q n a b) i = spin i n q (run σ ins a (i + 1))
 firstRun σ ins (times q n a b) i = rounds n (run σ ins a (i + 1)) ⊳ single 1 i (lastTest q)
 
 -- a block of the file is run from tick t on
-pub record Entered (s : List ℕ) (i to : ℕ) (ins w : List ℕ) (limit t : ℕ) : Type 0 where
+pub record Entered (s : List ℕ) (i to : ℕ) (closings ins w : List ℕ) (limit t : ℕ) : Type 0 where
   pub form : Form
   pub file : InFile form s i to
   pub few : to ≤ 5461
+  pub table : Closings s to closings
   pub lent : Lent ins w
   pub early : t ≤ limit
 
 -- and it is not empty
-pub record Statement (s : List ℕ) (i to : ℕ) (ins w : List ℕ) (limit t : ℕ) : Type 0 where
-  pub entered : Entered s i to ins w limit t
+pub record Statement (s : List ℕ) (i to : ℕ) (closings ins w : List ℕ) (limit t : ℕ) : Type 0 where
+  pub entered : Entered s i to closings ins w limit t
   pub inside : i < to
   pub goes-on : closesBlock (kindAt s i) ≡ false
 
@@ -78,9 +79,10 @@ pub record Rounds (s : List ℕ) (i to c n : ℕ) : Type 0 where
   pub same : (f : Form) (a : Block) → Stands f s i to a → (n ≡ c) ⊎ ((a ≡ nil) × (n ≡ 0))
 
 -- the record k is one of those up to `to`
-pub record Inner (s : List ℕ) (k to : ℕ) : Type 0 where
+pub record Inner (s : List ℕ) (k to : ℕ) (closings : List ℕ) : Type 0 where
   pub before : k < to
   pub inside : 12 * to ≤ length s
+  pub table : Closings s to closings
 
 -- the record behind the ELSE or END that closes the block behind k
 unfoldable pub closed : List ℕ → ℕ → ℕ → ℕ
@@ -101,12 +103,13 @@ abbrev pub bare : Machine → Machine
 bare m = machine (m .tick) (m .cut) (m .overran) (record { variables = m .holds .variables; levels = m .holds .levels; marks = m .holds .marks; image = none })
 
 -- a file with no loop is run from one of its records on
-pub record TakesUp (s : List ℕ) (j to : ℕ) (ins w : List ℕ) (limit t : ℕ) : Type 0 where
+pub record TakesUp (s : List ℕ) (j to : ℕ) (closings ins w : List ℕ) (limit t : ℕ) : Type 0 where
   pub form : Form
   pub file : InFile form s 0 to
   pub ends : size (file .block) ≡ to
   pub loop-free : LoopFree (file .block)
   pub few : to ≤ 5461
+  pub table : Closings s to closings
   pub inside : j ≤ to
   pub lent : Lent ins w
   pub early : t ≤ limit

@@ -14,7 +14,6 @@ use crate::steps::act;
 use crate::steps::test_holds;
 use model::Settings;
 use reading::blocks::closes;
-use reading::blocks::closing;
 use records::Record;
 use records::kind_at;
 use records::kinds;
@@ -113,33 +112,33 @@ fn rounds(s: &[u8], i: usize, to: usize, count: u32) -> u32
 }
 
 // The record behind the ELSE or END that closes the block behind k.
-fn behind(s: &[u8], k: usize, to: usize) -> usize
-    requires { ⌜ Inner (now s) k to ⌝ }
+fn behind(s: &[u8], k: usize, to: usize, ends: &[u16]) -> usize
+    requires { ⌜ Inner (now s) k to (now ends) ⌝ }
     ensures { λ r. ⌜ r ≡ closed (now (s .entry)) k to ⌝ }
 {
-    closing(s, k + 1, to) + 1
+    ends[k + 1] as usize + 1
 }
 
 // The record behind the statement that the ELSE or END at k ends, or goes on with.
-pub fn past(s: &[u8], k: usize, to: usize) -> usize
-    requires { ⌜ Inner (now s) k to ⌝ }
+pub fn past(s: &[u8], k: usize, to: usize, ends: &[u16]) -> usize
+    requires { ⌜ Inner (now s) k to (now ends) ⌝ }
     ensures { λ r. ⌜ r ≡ passed (now (s .entry)) k to ⌝ }
 {
     if kind_at(s, k) == kinds::ELSE {
-        return behind(s, k, to);
+        return behind(s, k, to, ends);
     }
     k + 1
 }
 
 // Where the side starts that the test of the IF at i chooses.
-fn side(s: &[u8], i: usize, to: usize, holds: bool) -> usize
-    requires { ⌜ Inner (now s) i to ⌝ }
+fn side(s: &[u8], i: usize, to: usize, ends: &[u16], holds: bool) -> usize
+    requires { ⌜ Inner (now s) i to (now ends) ⌝ }
     ensures { λ r. ⌜ r ≡ chosen (now (s .entry)) i to holds ⌝ }
 {
     if holds {
         return i + 1;
     }
-    behind(s, i, to)
+    behind(s, i, to, ends)
 }
 
 // The IF at i, with the record r.
@@ -147,6 +146,7 @@ fn run_branch(
     s: &[u8],
     i: usize,
     to: usize,
+    ends: &[u16],
     r: Record,
     n: Settings,
     inputs: &[u32],
@@ -154,18 +154,18 @@ fn run_branch(
     tick: u32,
     cells: &mut [u32],
 ) -> Progress
-    requires { ⌜ (Statement (now s) i to (now inputs) (now cells) limit tick) × (recordOf r ≡ recordAt (now s) i) × (kindAt (now s) i ≡ IF) ⌝ }
+    requires { ⌜ (Statement (now s) i to (now ends) (now inputs) (now cells) limit tick) × (recordOf r ≡ recordAt (now s) i) × (kindAt (now s) i ≡ IF) ⌝ }
     ensures { λ e. ⌜ StatementRan (now (s .entry)) i to n (now (inputs .entry)) limit tick (now (cells .entry)) (now (cells .exit)) e ⌝ }
 {
     if limit <= tick {
         return cut_off(tick);
     }
-    let from = side(s, i, to, test_holds(cells, r));
-    let e = run_block(s, from, to, n, inputs, limit, tick + 1, cells);
+    let from = side(s, i, to, ends, test_holds(cells, r));
+    let e = run_block(s, from, to, ends, n, inputs, limit, tick + 1, cells);
     if ended(e) {
         return e;
     }
-    going(e.tick, past(s, e.next, to))
+    going(e.tick, past(s, e.next, to, ends))
 }
 
 // The WHILE at i, with the record r.
@@ -173,6 +173,7 @@ fn run_while(
     s: &[u8],
     i: usize,
     to: usize,
+    ends: &[u16],
     r: Record,
     n: Settings,
     inputs: &[u32],
@@ -180,11 +181,11 @@ fn run_while(
     tick: u32,
     cells: &mut [u32],
 ) -> Progress
-    requires { ⌜ (Statement (now s) i to (now inputs) (now cells) limit tick) × (recordOf r ≡ recordAt (now s) i) × (kindAt (now s) i ≡ WHILE) ⌝ }
+    requires { ⌜ (Statement (now s) i to (now ends) (now inputs) (now cells) limit tick) × (recordOf r ≡ recordAt (now s) i) × (kindAt (now s) i ≡ WHILE) ⌝ }
     ensures { λ e. ⌜ StatementRan (now (s .entry)) i to n (now (inputs .entry)) limit tick (now (cells .entry)) (now (cells .exit)) e ⌝ }
 {
     let body = i + 1;
-    let next = behind(s, i, to);
+    let next = behind(s, i, to, ends);
     let mut at = tick;
     let mut round: u32 = 0;
     while round < r.count {
@@ -195,7 +196,7 @@ fn run_while(
         if !test_holds(cells, r) {
             return going(at, next);
         }
-        let e = run_block(s, body, to, n, inputs, limit, at, cells);
+        let e = run_block(s, body, to, ends, n, inputs, limit, at, cells);
         if ended(e) {
             return e;
         }
@@ -210,6 +211,7 @@ fn run_times(
     s: &[u8],
     i: usize,
     to: usize,
+    ends: &[u16],
     r: Record,
     n: Settings,
     inputs: &[u32],
@@ -217,16 +219,16 @@ fn run_times(
     tick: u32,
     cells: &mut [u32],
 ) -> Progress
-    requires { ⌜ (Statement (now s) i to (now inputs) (now cells) limit tick) × (recordOf r ≡ recordAt (now s) i) × (kindAt (now s) i ≡ TIMES) ⌝ }
+    requires { ⌜ (Statement (now s) i to (now ends) (now inputs) (now cells) limit tick) × (recordOf r ≡ recordAt (now s) i) × (kindAt (now s) i ≡ TIMES) ⌝ }
     ensures { λ e. ⌜ StatementRan (now (s .entry)) i to n (now (inputs .entry)) limit tick (now (cells .entry)) (now (cells .exit)) e ⌝ }
 {
     let body = i + 1;
-    let next = behind(s, i, to);
+    let next = behind(s, i, to, ends);
     let last = rounds(s, body, to, r.count);
     let mut at = tick;
     let mut round: u32 = 0;
     while round < last {
-        let e = run_block(s, body, to, n, inputs, limit, at, cells);
+        let e = run_block(s, body, to, ends, n, inputs, limit, at, cells);
         if ended(e) {
             return e;
         }
@@ -241,24 +243,25 @@ fn run_statement(
     s: &[u8],
     i: usize,
     to: usize,
+    ends: &[u16],
     n: Settings,
     inputs: &[u32],
     limit: u32,
     tick: u32,
     cells: &mut [u32],
 ) -> Progress
-    requires { ⌜ Statement (now s) i to (now inputs) (now cells) limit tick ⌝ }
+    requires { ⌜ Statement (now s) i to (now ends) (now inputs) (now cells) limit tick ⌝ }
     ensures { λ e. ⌜ StatementRan (now (s .entry)) i to n (now (inputs .entry)) limit tick (now (cells .entry)) (now (cells .exit)) e ⌝ }
 {
     let r = record_at(s, i);
     if r.kind == kinds::IF {
-        return run_branch(s, i, to, r, n, inputs, limit, tick, cells);
+        return run_branch(s, i, to, ends, r, n, inputs, limit, tick, cells);
     }
     if r.kind == kinds::WHILE {
-        return run_while(s, i, to, r, n, inputs, limit, tick, cells);
+        return run_while(s, i, to, ends, r, n, inputs, limit, tick, cells);
     }
     if r.kind == kinds::TIMES {
-        return run_times(s, i, to, r, n, inputs, limit, tick, cells);
+        return run_times(s, i, to, ends, r, n, inputs, limit, tick, cells);
     }
     run_step(i, r, step_ticks(n, r), inputs, limit, tick, cells)
 }
@@ -268,13 +271,14 @@ pub fn run_block(
     s: &[u8],
     from: usize,
     to: usize,
+    ends: &[u16],
     n: Settings,
     inputs: &[u32],
     limit: u32,
     tick: u32,
     cells: &mut [u32],
 ) -> Progress
-    requires { ⌜ Entered (now s) from to (now inputs) (now cells) limit tick ⌝ }
+    requires { ⌜ Entered (now s) from to (now ends) (now inputs) (now cells) limit tick ⌝ }
     ensures { λ e. ⌜ BlockRan (now (s .entry)) from to n (now (inputs .entry)) limit tick (now (cells .entry)) (now (cells .exit)) e ⌝ }
 {
     let mut at = tick;
@@ -283,7 +287,7 @@ pub fn run_block(
         if closes(kind_at(s, next)) {
             return going(at, next);
         }
-        let e = run_statement(s, next, to, n, inputs, limit, at, cells);
+        let e = run_statement(s, next, to, ends, n, inputs, limit, at, cells);
         if ended(e) {
             return e;
         }
@@ -298,19 +302,20 @@ pub fn run_from(
     s: &[u8],
     from: usize,
     to: usize,
+    ends: &[u16],
     n: Settings,
     inputs: &[u32],
     limit: u32,
     tick: u32,
     cells: &mut [u32],
 ) -> Progress
-    requires { ⌜ TakesUp (now s) from to (now inputs) (now cells) limit tick ⌝ }
+    requires { ⌜ TakesUp (now s) from to (now ends) (now inputs) (now cells) limit tick ⌝ }
     ensures { λ e. ⌜ TookUp (now (s .entry)) from to n (now (inputs .entry)) limit tick (now (cells .entry)) (now (cells .exit)) e ⌝ }
 {
     let mut at = tick;
     let mut next = from;
     while next < to {
-        let e = run_block(s, next, to, n, inputs, limit, at, cells);
+        let e = run_block(s, next, to, ends, n, inputs, limit, at, cells);
         if ended(e) {
             return e;
         }
@@ -318,7 +323,7 @@ pub fn run_from(
             return e;
         }
         at = e.tick;
-        next = past(s, e.next, to);
+        next = past(s, e.next, to, ends);
     }
     going(at, next)
 }

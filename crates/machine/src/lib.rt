@@ -9,8 +9,8 @@ mod steps;
 ghost use mathlib.Core.Path.{_≡_};
 ghost use lib.ListN.{length, replicate};
 ghost use Rattle.model.specs.Answers.{ran, stopped, resumed};
-ghost use Rattle.model.specs.Replies.{runReply, runBuffers, stopReply, stopBuffers, stopImage, resumeReply, resumeBuffers, restartReply, restartBuffers};
-ghost use Rattle.machine.specs.Calls.{buffers, loan, Ready, RunWhole, Stops, Resumes};
+ghost use Rattle.model.specs.Replies.{runReply, runBuffers, stopReply, stopBuffers, stopImage, resumeReply, resumeBuffers, restartReply, restartBuffers, buffersOf, loan};
+ghost use Rattle.machine.specs.Calls.{Ready, RunWhole, Stops, Resumes};
 use blocks::Progress;
 use blocks::run_block;
 use blocks::run_from;
@@ -26,6 +26,7 @@ use model::Refusal;
 use model::Resumed;
 use model::Settings;
 use model::Stopped;
+use reading::closings::fill;
 use ready::bad_buffers;
 use ready::ready;
 use records::settings::Decoded;
@@ -57,7 +58,10 @@ fn run_whole(
     let mut cells: [u32; 50] = [0; 50];
     load_variables(&mut cells, variables);
     load_outputs(&mut cells, levels, marks);
-    let e = run_block(file, 0, file.len() / 12, n, inputs, n.period, 0, &mut cells);
+    let to = file.len() / 12;
+    let mut ends: [u16; 5462] = [0; 5462];
+    fill(file, to, &mut ends);
+    let e = run_block(file, 0, to, &ends, n, inputs, n.period, 0, &mut cells);
     store(&cells, variables, levels, marks);
     e
 }
@@ -73,7 +77,7 @@ pub fn run(
     marks: &mut [u8],
 ) -> Ran
     ensures { λ r. ⌜ (let c = loan (now (settings .entry)) form (now (file .entry)) (now (variables .entry)) (now (inputs .entry)) (now (levels .entry)) (now (marks .entry)) in
-        ((ran r ≡ runReply c) × (buffers (now (variables .exit)) (now (levels .exit)) (now (marks .exit)) ≡ runBuffers c))) ⌝ }
+        ((ran r ≡ runReply c) × (buffersOf (now (variables .exit)) (now (levels .exit)) (now (marks .exit)) ≡ runBuffers c))) ⌝ }
 {
     let bad = bad_buffers(
         variables.len(),
@@ -87,10 +91,10 @@ pub fn run(
         Decoded::Refused(x) => Ran::Refused(x),
         Decoded::Valid(n) => {
             clear(levels, marks);
-            let e = run_whole(file, n, variables, inputs, levels, marks);
+            let end = run_whole(file, n, variables, inputs, levels, marks);
             Ran::Ended {
-                tick: e.tick,
-                overran: e.overran,
+                tick: end.tick,
+                overran: end.overran,
             }
         }
     }
@@ -113,7 +117,10 @@ fn run_until_ready(
 {
     let mut cells: [u32; 50] = [0; 50];
     load_variables(&mut cells, variables);
-    let e = run_block(file, 0, file.len() / 12, n, inputs, stop, 0, &mut cells);
+    let to = file.len() / 12;
+    let mut ends: [u16; 5462] = [0; 5462];
+    fill(file, to, &mut ends);
+    let e = run_block(file, 0, to, &ends, n, inputs, stop, 0, &mut cells);
     if !e.cut {
         return Stopped::Refused(Refusal::LateStop);
     }
@@ -136,7 +143,7 @@ pub fn run_until(
 ) -> Stopped
     ensures { λ r. ⌜ (let c = loan (now (settings .entry)) form (now (file .entry)) (now (variables .entry)) (now (inputs .entry)) (now (levels .entry)) (now (marks .entry)) in
         ((stopped r ≡ stopReply c (now (image .entry)) stop)
-        × (buffers (now (variables .exit)) (now (levels .exit)) (now (marks .exit)) ≡ stopBuffers c (now (image .entry)) stop)
+        × (buffersOf (now (variables .exit)) (now (levels .exit)) (now (marks .exit)) ≡ stopBuffers c (now (image .entry)) stop)
         × (now (image .exit) ≡ stopImage c (now (image .entry)) stop))) ⌝ }
 {
     let bad = bad_buffers(
@@ -183,10 +190,13 @@ fn resume_ready(
     load_variables(&mut cells, &words[2..]);
     load_outputs(&mut cells, levels, marks);
     let to = file.len() / 12;
-    let e = run_from(
+    let mut ends: [u16; 5462] = [0; 5462];
+    fill(file, to, &mut ends);
+    let last = run_from(
         file,
         index,
         to,
+        &ends,
         n,
         inputs,
         tick + n.period,
@@ -195,8 +205,8 @@ fn resume_ready(
     );
     store(&cells, variables, levels, marks);
     Resumed::Ended {
-        tick: e.tick,
-        overran: e.overran,
+        tick: last.tick,
+        overran: last.overran,
     }
 }
 
@@ -213,7 +223,7 @@ pub fn resume(
 ) -> Resumed
     ensures { λ r. ⌜ (let c = loan (now (settings .entry)) form (now (file .entry)) (now (variables .entry)) (now (inputs .entry)) (now (levels .entry)) (now (marks .entry)) in
         ((resumed r ≡ resumeReply c (now (image .entry)))
-        × (buffers (now (variables .exit)) (now (levels .exit)) (now (marks .exit)) ≡ resumeBuffers c (now (image .entry))))) ⌝ }
+        × (buffersOf (now (variables .exit)) (now (levels .exit)) (now (marks .exit)) ≡ resumeBuffers c (now (image .entry))))) ⌝ }
 {
     let bad = bad_buffers(
         variables.len(),
@@ -240,7 +250,7 @@ pub fn restart(
     marks: &mut [u8],
 ) -> Resumed
     ensures { λ r. ⌜ (let c = loan (now (settings .entry)) form (now (file .entry)) (now (variables .entry)) (now (inputs .entry)) (now (levels .entry)) (now (marks .entry)) in
-        ((resumed r ≡ restartReply c) × (buffers (now (variables .exit)) (now (levels .exit)) (now (marks .exit)) ≡ restartBuffers c))) ⌝ }
+        ((resumed r ≡ restartReply c) × (buffersOf (now (variables .exit)) (now (levels .exit)) (now (marks .exit)) ≡ restartBuffers c))) ⌝ }
 {
     let bad = bad_buffers(
         variables.len(),

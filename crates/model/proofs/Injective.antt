@@ -1,10 +1,10 @@
 -- The paper's number and values tell the cases of each answer apart: each answer can be read back from them.
 use Prim.Native.Nat.{ℕ}
-use mathlib.Core.Path.{_≡_, refl, ap, sym, _∙_}
+use mathlib.Core.Path.{_≡_, refl, ap, ap₂, sym, _∙_}
 use mathlib.Core.Bool.{Bool, true, false, cond}
 use mathlib.Core.List.{List}
 use lib.Dec.{eqb}
-use lib.ListN.{getD}
+use lib.ListN.{length, getD}
 use Rattle.model.specs.declared.Refusal.{Refusal}
 use Rattle.model.specs.declared.Timed.{Timed}
 use Rattle.model.specs.declared.Equalised.{Equalised}
@@ -12,7 +12,8 @@ use Rattle.model.specs.declared.LaidOut.{LaidOut}
 use Rattle.model.specs.declared.Ran.{Ran}
 use Rattle.model.specs.declared.Stopped.{Stopped}
 use Rattle.model.specs.declared.Resumed.{Resumed}
-use Rattle.model.specs.Answers.{Verdict, finished, refused, bit, refusal, timed, equalised, laidOut, ran, stopped, resumed}
+use Rattle.model.specs.declared.Rehearsed.{Rehearsed}
+use Rattle.model.specs.Answers.{Verdict, finished, refused, bit, refusal, timed, equalised, laidOut, ran, stopped, resumed, rehearsed}
 
 -- a function that can be undone is injective
 undone : {A : Type 0} (f : A → Verdict) (g : Verdict → A) → ((a : A) → g (f a) ≡ a) → (a b : A) → f a ≡ f b → a ≡ b
@@ -124,3 +125,18 @@ resumed-injective = undone resumed (read-back done Resumed.Refused) back
     back : (a : Resumed) → read-back done Resumed.Refused (resumed a) ≡ a
     back (Resumed.Ended t o) = ap (Resumed.Ended t) (bit-back o)
     back (Resumed.Refused r) = turned-back done Resumed.Refused r
+
+pub rehearsed-injective : (a b : Rehearsed) → rehearsed a ≡ rehearsed b → a ≡ b
+unfolding read-back
+rehearsed-injective = undone rehearsed (read-back done Rehearsed.Refused) back
+  where
+    done : List ℕ → Rehearsed
+    done xs =
+        let a = eqb (getD xs 0 0) 1 in
+        cond (eqb (length xs) 4) (Rehearsed.Whole a (getD xs 1 0) (getD xs 2 0) (getD xs 3 0))
+        (Rehearsed.Stopped a (getD xs 1 0) (getD xs 2 0) (getD xs 3 0) (getD xs 4 0) (eqb (getD xs 5 0) 1) (getD xs 6 0) (getD xs 7 0))
+
+    back : (a : Rehearsed) → read-back done Rehearsed.Refused (rehearsed a) ≡ a
+    back (Rehearsed.Whole a n t e) = ap (λ (o : Bool). Rehearsed.Whole o n t e) (bit-back a)
+    back (Rehearsed.Stopped a n t e c i u x) = ap₂ (λ (o p : Bool). Rehearsed.Stopped o n t e c p u x) (bit-back a) (bit-back i)
+    back (Rehearsed.Refused r) = turned-back done Rehearsed.Refused r

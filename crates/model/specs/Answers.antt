@@ -10,6 +10,7 @@ use Rattle.model.specs.declared.LaidOut.{LaidOut}
 use Rattle.model.specs.declared.Ran.{Ran}
 use Rattle.model.specs.declared.Stopped.{Stopped}
 use Rattle.model.specs.declared.Resumed.{Resumed}
+use Rattle.model.specs.declared.Rehearsed.{Rehearsed}
 
 -- what a call answers: the values of a finished result, or a refusal's number and the value returned with it, if any
 pub data Verdict : Type 0 where
@@ -61,3 +62,10 @@ stopped (Stopped.Refused r) = refusal r
 abbrev pub resumed : Resumed → Verdict
 resumed (Resumed.Ended t o) = finished (t ∷ bit o ∷ [])
 resumed (Resumed.Refused r) = refusal r
+
+-- `rehearse` answers whether the ends are alike, the laid length and total, and the end tick; of a stopped run also the stop
+-- tick, whether there is an image and its tick, and the ticks run twice.
+abbrev pub rehearsed : Rehearsed → Verdict
+rehearsed (Rehearsed.Whole a n t e) = finished (bit a ∷ n ∷ t ∷ e ∷ [])
+rehearsed (Rehearsed.Stopped a n t e c i u x) = finished (bit a ∷ n ∷ t ∷ e ∷ c ∷ bit i ∷ u ∷ x ∷ [])
+rehearsed (Rehearsed.Refused x) = refusal x

@@ -13,4 +13,5 @@ pub mod Replies
 pub mod Placement
 pub mod Timeline
 pub mod Chain
+pub mod Rehearsal
 pub mod Listing

@@ -108,6 +108,13 @@ pub record Loan : Type 0 where
   pub inputs : List ℕ
   pub buffers : Buffers
 
+abbrev pub buffersOf : List ℕ → List ℕ → List ℕ → Buffers
+buffersOf v l m = record { variables = v; levels = l; marks = m }
+
+-- in the order of a call's parameters
+abbrev pub loan : List ℕ → Form → List ℕ → List ℕ → List ℕ → List ℕ → List ℕ → Loan
+loan s f file v ins l m = record { settings = s; form = f; file = file; inputs = ins; buffers = buffersOf v l m }
+
 -- "variables not 16, inputs not 8, outputs not 8 values and 8 marks" (row 10)
 abbrev pub badBuffers : Loan → Bool
 badBuffers c =

@@ -75,3 +75,31 @@ pub enum Resumed {
     Ended { tick: u32, overran: bool },
     Refused(Refusal),
 }
+
+// rehearse: where the prepared form is stopped
+pub enum Stop {
+    Never,
+    At(u32),
+}
+
+// rehearse: whether the ends are alike, the laid file's bytes and total, and the end tick; of a run that was stopped also the stop tick, whether
+// there was an image, its tick (0 with none) and the ticks run twice.
+pub enum Rehearsed {
+    Whole {
+        alike: bool,
+        bytes: usize,
+        total: u32,
+        end: u32,
+    },
+    Stopped {
+        alike: bool,
+        bytes: usize,
+        total: u32,
+        end: u32,
+        stop: u32,
+        saved: bool,
+        image: u32,
+        twice: u32,
+    },
+    Refused(Refusal),
+}

@@ -6,4 +6,5 @@ pub mod BlockEnds
 pub mod FirstKinds
 pub mod Filled
 pub mod Standing
+pub mod ClosingTable
 pub mod Entry

@@ -30,14 +30,14 @@ stands-file f s S =
     }
 
 -- a record that closes a block shows by its kind
-closes : (s : List ℕ) (i : ℕ) {r : Rec} → recordAt s i ≡ r → closesBlock (r .kind) ≡ true → closesBlock (kindAt s i) ≡ true
+pub closes : (s : List ℕ) (i : ℕ) {r : Rec} → recordAt s i ≡ r → closesBlock (r .kind) ≡ true → closesBlock (kindAt s i) ≡ true
 closes s i e h = ap (λ (r : Rec). closesBlock (r .kind)) e ∙ h
 
 closes-at : (s : List ℕ) (i j : ℕ) → i ≡ j → closesBlock (kindAt s i) ≡ true → closesBlock (kindAt s j) ≡ true
 closes-at s i j e h = subst (λ (k : ℕ). closesBlock (kindAt s k) ≡ true) e h
 
 -- a block that is at i, and ends where one is closed or with the records
-standing-at : {f : Form} {s : List ℕ} {i to : ℕ} (b : Block) → At s i b → OfForm f b → i + size b ≤ to
+pub standing-at : {f : Form} {s : List ℕ} {i to : ℕ} (b : Block) → At s i b → OfForm f b → i + size b ≤ to
     → (i + size b < to → closesBlock (kindAt s (i + size b)) ≡ true) → Stands f s i to b
 standing-at b at f l h = record { fills = record { stands = at; ends = refl; shallow = omega arith; of-form = f }; ends = l; stops = h }
 

@@ -1,9 +1,10 @@
 -- The index of the ELSE or END that closes a block, by a count of the blocks opened in it.
-use Prim.Native.Nat.{ℕ, zero, suc, _+_, _-_, _≤_}
+use Prim.Native.Nat.{ℕ, zero, suc, _+_, _-_, _≤_, _<_}
 use mathlib.Core.Path.{_≡_}
 use mathlib.Core.Bool.{Bool, cond, _||_}
 use mathlib.Core.List.{List}
 use lib.Dec.{eqb}
+use lib.ListN.{length, getD}
 use Rattle.model.specs.Records.{kindAt, IF, ELSE, WHILE, END, TIMES}
 use Rattle.reading.specs.declared.blocks.Pass.{Pass}
 use Rattle.reading.specs.declared.blocks.Pass.the-variants.{Ends, On}
@@ -37,3 +38,12 @@ pub record Closes (s : List ℕ) (from to r : ℕ) : Type 0 where
   pub is : r ≡ closingIn s (to - from) from 0
   pub low : from ≤ r
   pub high : r ≤ to
+
+-- the table of these for the records from i on, and for the end
+pub record ClosingsFrom (s : List ℕ) (i to : ℕ) (closings : List ℕ) : Type 0 where
+  pub at : (j : ℕ) → i ≤ j → j ≤ to → getD closings j 0 ≡ closingIn s (to - j) j 0
+
+-- the whole table
+pub record Closings (s : List ℕ) (to : ℕ) (closings : List ℕ) : Type 0 where
+  pub room : to < length closings
+  pub at : (j : ℕ) → j ≤ to → getD closings j 0 ≡ closingIn s (to - j) j 0

@@ -35,6 +35,14 @@ pub record InFile (f : Form) (s : List ℕ) (i to : ℕ) : Type 0 where
   pub stands : Stands f s i to block
   pub inside : 12 * to ≤ length s
 
+-- the records of a file, one block up to `to`, whose table of closings has room
+pub record Fillable (s : List ℕ) (to : ℕ) (closings : List ℕ) : Type 0 where
+  pub form : Form
+  pub file : InFile form s 0 to
+  pub ends : size (file .block) ≡ to
+  pub few : to ≤ 5461
+  pub room : to < length closings
+
 -- a range of the records of s
 pub record Ranged (s : List ℕ) (i to : ℕ) : Type 0 where
   pub order : i ≤ to

@@ -1,5 +1,6 @@
 // Rows 6 and 1 to 5 of the table: every call reads its settings and its file here first.
 pub mod blocks;
+pub mod closings;
 mod fields;
 mod nesting;
 mod scan;

@@ -13,7 +13,7 @@ use borrow.Author.Tests.{eqb-true, eq-eqb, ne-eqb, not-true, not-false}
 use Rattle.model.specs.Answers.{bit}
 use Rattle.model.specs.Chain.{End}
 use Rattle.rehearsal.specs.declared.ends.Final.{Final}
-use Rattle.rehearsal.specs.Rehearsing.{sameList, sameEnd}
+use Rattle.model.specs.Rehearsal.{sameList, sameEnd}
 use Rattle.rehearsal.specs.Contracts.{endIn}
 
 -- ELEMENT BY ELEMENT

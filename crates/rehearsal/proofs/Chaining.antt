@@ -7,7 +7,7 @@ use mathlib.Core.List.{List, [], _∷_}
 use Rattle.model.specs.declared.Refusal.{Refusal}
 use Rattle.model.specs.Answers.{Verdict, finished, refused, refusal}
 use Rattle.model.specs.Chain.{isFinished}
-use Rattle.rehearsal.specs.Rehearsing.{andThen}
+use Rattle.model.specs.Rehearsal.{andThen}
 
 -- a refusal is no finished result
 record IsRefused (v : Verdict) : Type 0 where

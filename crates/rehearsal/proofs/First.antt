@@ -10,8 +10,8 @@ use Rattle.model.specs.Runs.{Buffers}
 use Rattle.model.specs.Answers.{Verdict, finished, bit, refusal, ran}
 use Rattle.model.specs.Replies.{Loan, runReply, runBuffers}
 use Rattle.model.specs.Chain.{End, endOf, runEnd}
-use Rattle.rehearsal.specs.declared.Stop.{Stop}
-use Rattle.rehearsal.specs.Rehearsing.{andThen, wholeOf, stoppedOf}
+use Rattle.model.specs.declared.Stop.{Stop}
+use Rattle.model.specs.Rehearsal.{andThen, wholeOf, stoppedOf}
 use Rattle.rehearsal.specs.Contracts.{secondOf}
 use Rattle.rehearsal.proofs.Chaining.{refused-first}
 

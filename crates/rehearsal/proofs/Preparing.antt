@@ -10,13 +10,13 @@ use lib.ListN.{length, getD, take, replicate}
 use Rattle.model.specs.declared.Refusal.{Refusal}
 use Rattle.model.specs.declared.LaidOut.{LaidOut}
 use Rattle.model.specs.Trees.{size}
-use Rattle.model.specs.Answers.{Verdict, finished, refusal, laidOut}
+use Rattle.model.specs.Answers.{Verdict, finished, refusal, laidOut, rehearsed}
 use Rattle.model.specs.Replies.{turnDown, equaliseReply, equaliseOut, equalisedTree, layOutReply, layOutOut, laidTree, runReply}
 use Rattle.model.specs.Chain.{valueAt, Set, Chain, equalising, equalisedFile, layingOut, laidFile, plainLoan, plainEndOne}
 use Rattle.theory.proofs.Accepted.{equalise-accepted, lay-out-accepted}
-use Rattle.rehearsal.specs.declared.Stop.{Stop}
-use Rattle.rehearsal.specs.declared.Rehearsed.{Rehearsed}
-use Rattle.rehearsal.specs.Rehearsing.{rehearsed, andThen, room, zeroOutputs, chain, second, badSets, rehearsal, Unseen, Rehearses}
+use Rattle.model.specs.declared.Stop.{Stop}
+use Rattle.model.specs.declared.Rehearsed.{Rehearsed}
+use Rattle.model.specs.Rehearsal.{andThen, room, zeroOutputs, chain, second, badSets, rehearsal, Unseen, Rehearses}
 use Rattle.rehearsal.specs.Contracts.{laidLoan, secondOf, equalisedBy, Prepares}
 use Rattle.rehearsal.proofs.Chaining.{never-finished, refused-first, refused-second, both-done, second-done}
 use Rattle.rehearsal.proofs.Theorem.{unseen}

@@ -15,10 +15,9 @@ use Rattle.model.specs.Records.{wordAt}
 use Rattle.model.specs.Runs.{Buffers}
 use Rattle.model.specs.Stopping.{imageOf}
 use Rattle.model.specs.Answers.{Verdict, finished, bit, refusal, ran, stopped, resumed}
-use Rattle.model.specs.Replies.{Loan, runReply, runBuffers, stopReply, stopBuffers, stopImage, resumeReply, resumeBuffers, restartReply, restartBuffers}
+use Rattle.model.specs.Replies.{Loan, runReply, runBuffers, stopReply, stopBuffers, stopImage, resumeReply, resumeBuffers, restartReply, restartBuffers, buffersOf}
 use Rattle.model.specs.Chain.{valueAt, Outputs, lend, End, endOf}
-use Rattle.machine.specs.Calls.{buffers}
-use Rattle.rehearsal.specs.Rehearsing.{andThen, sameEnd, wholeOf, takenOf, stoppedOf}
+use Rattle.model.specs.Rehearsal.{andThen, sameEnd, wholeOf, takenOf, stoppedOf}
 use Rattle.rehearsal.specs.Contracts.{laidLoan}
 use Rattle.rehearsal.proofs.Chaining.{refused-first}
 
@@ -37,7 +36,7 @@ module _ (first : End) (total : ℕ) (s file ins : List ℕ) {v two : List ℕ} 
   whole-refused {x} k e = refused-first x _ (sym (ap ran k) ∙ e) ∙ ap (λ (w : List ℕ). wholeOf first total (laidLoan s file w ins)) copied
 
   pub whole-ended : {t : ℕ} {o a : Bool} {v′ l′ m′ : List ℕ} → r ≡ Ran.Ended t o → ran r ≡ runReply (laidLoan s file v ins)
-      → buffers v′ l′ m′ ≡ runBuffers (laidLoan s file v ins) → a ≡ sameEnd first (record { buffers = buffers v′ l′ m′; overran = bit o })
+      → buffersOf v′ l′ m′ ≡ runBuffers (laidLoan s file v ins) → a ≡ sameEnd first (record { buffers = buffersOf v′ l′ m′; overran = bit o })
       → finished (bit a ∷ length file ∷ total ∷ t ∷ []) ≡ wholeOf first total (laidLoan s file two ins)
   whole-ended {o = o} k e l h =
       ended-then first (λ x n. finished (bit x ∷ length file ∷ total ∷ n ∷ [])) o (sym (ap ran k) ∙ e) l h
@@ -66,7 +65,7 @@ module _ (first : End) (total : ℕ) (s file ins : List ℕ) (o : Outputs) (stop
     resumed-refused {x} k e = refused-first x _ (sym (ap resumed k) ∙ e)
 
     pub resumed-ended : {t n twice : ℕ} {over a : Bool} {v′ l′ m′ : List ℕ} → r ≡ Resumed.Ended t over → resumed r ≡ resumeReply (loan (replicate 16 0)) image
-        → buffers v′ l′ m′ ≡ resumeBuffers (loan (replicate 16 0)) image → a ≡ sameEnd first (record { buffers = buffers v′ l′ m′; overran = bit over })
+        → buffersOf v′ l′ m′ ≡ resumeBuffers (loan (replicate 16 0)) image → a ≡ sameEnd first (record { buffers = buffersOf v′ l′ m′; overran = bit over })
         → n ≡ wordAt image 4 → twice ≡ stop - n → finished (bit a ∷ length file ∷ total ∷ t ∷ stop ∷ 1 ∷ n ∷ twice ∷ []) ≡ fromImage image (imageOf image .tick)
     unfolding imageOf
     resumed-ended {t} {n} {a = a} k e l h w d =
@@ -78,8 +77,8 @@ module _ (first : End) (total : ℕ) (s file ins : List ℕ) (o : Outputs) (stop
     pub restarted-refused : {x : Refusal} → r ≡ Resumed.Refused x → resumed r ≡ restartReply (loan v) → refusal x ≡ fromStart two
     restarted-refused {x} k e = refused-first x _ (sym (ap resumed k) ∙ e) ∙ ap fromStart copied
 
-    pub restarted-ended : {t : ℕ} {over a : Bool} {v′ l′ m′ : List ℕ} → r ≡ Resumed.Ended t over → resumed r ≡ restartReply (loan v) → buffers v′ l′ m′ ≡ restartBuffers (loan v)
-        → a ≡ sameEnd first (record { buffers = buffers v′ l′ m′; overran = bit over }) → finished (bit a ∷ length file ∷ total ∷ t ∷ stop ∷ 0 ∷ 0 ∷ stop ∷ []) ≡ fromStart two
+    pub restarted-ended : {t : ℕ} {over a : Bool} {v′ l′ m′ : List ℕ} → r ≡ Resumed.Ended t over → resumed r ≡ restartReply (loan v) → buffersOf v′ l′ m′ ≡ restartBuffers (loan v)
+        → a ≡ sameEnd first (record { buffers = buffersOf v′ l′ m′; overran = bit over }) → finished (bit a ∷ length file ∷ total ∷ t ∷ stop ∷ 0 ∷ 0 ∷ stop ∷ []) ≡ fromStart two
     restarted-ended {t} {a = a} k e l h =
         ap (λ (x : ℕ). finished (bit a ∷ length file ∷ total ∷ t ∷ stop ∷ 0 ∷ 0 ∷ x ∷ [])) (sym (sub-zero stop))
         ∙ taken-ended first total (loan v) stop false k e l h
@@ -117,12 +116,12 @@ module _ (first : End) (total : ℕ) (s file ins : List ℕ) {v two : List ℕ} 
       → refusal x ≡ stoppedOf first total (laidLoan s file two ins) image spare stop
   stop-refused {x = x} k e = refused-first x _ (sym (ap stopped k) ∙ e) ∙ ap (λ (w : List ℕ). stoppedOf first total (laidLoan s file w ins) image spare stop) copied
 
-  pub stop-saved : {r : Stopped} {t : ℕ} {saved : Bool} {v′ l′ m′ i : List ℕ} {reply : Verdict} → r ≡ Stopped.At t saved → saved ≡ true → Until v r (buffers v′ l′ m′) i
+  pub stop-saved : {r : Stopped} {t : ℕ} {saved : Bool} {v′ l′ m′ i : List ℕ} {reply : Verdict} → r ≡ Stopped.At t saved → saved ≡ true → Until v r (buffersOf v′ l′ m′) i
       → (let c = lend s Laid file ins spare (record { levels = l′; marks = m′ }) in reply ≡ takenOf first total c stop true (imageOf i .tick) (resumeReply c i) (resumeBuffers c i))
       → reply ≡ stoppedOf first total (laidLoan s file two ins) image spare stop
-  stop-saved {r} {t} {v′ = v′} {l′} {m′} {i} k y u e = e ∙ ap (λ (x : Stopped). told (stopped x) (buffers v′ l′ m′) i) (sym (k ∙ ap (Stopped.At t) y)) ∙ answer r u
+  stop-saved {r} {t} {v′ = v′} {l′} {m′} {i} k y u e = e ∙ ap (λ (x : Stopped). told (stopped x) (buffersOf v′ l′ m′) i) (sym (k ∙ ap (Stopped.At t) y)) ∙ answer r u
 
-  pub stop-unsaved : {r : Stopped} {t : ℕ} {saved : Bool} {v′ l′ m′ i : List ℕ} {reply : Verdict} → r ≡ Stopped.At t saved → saved ≡ false → Until v r (buffers v′ l′ m′) i
+  pub stop-unsaved : {r : Stopped} {t : ℕ} {saved : Bool} {v′ l′ m′ i : List ℕ} {reply : Verdict} → r ≡ Stopped.At t saved → saved ≡ false → Until v r (buffersOf v′ l′ m′) i
       → (let c = lend s Laid file ins two (record { levels = l′; marks = m′ }) in reply ≡ takenOf first total c stop false 0 (restartReply c) (restartBuffers c))
       → reply ≡ stoppedOf first total (laidLoan s file two ins) image spare stop
-  stop-unsaved {r} {t} {v′ = v′} {l′} {m′} {i} k y u e = e ∙ ap (λ (x : Stopped). told (stopped x) (buffers v′ l′ m′) i) (sym (k ∙ ap (Stopped.At t) y)) ∙ answer r u
+  stop-unsaved {r} {t} {v′ = v′} {l′} {m′} {i} k y u e = e ∙ ap (λ (x : Stopped). told (stopped x) (buffersOf v′ l′ m′) i) (sym (k ∙ ap (Stopped.At t) y)) ∙ answer r u

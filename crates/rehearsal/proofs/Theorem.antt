@@ -12,8 +12,8 @@ use Rattle.model.specs.Replies.{runReply, stopReply}
 use Rattle.model.specs.Chain.{isFinished, Set, Chain, LentOutputs, Lent, equalising, layingOut, plainLoan, wholeLoan, stoppedLoan, takingUp, End, plainEndOne, wholeEnd, stoppedEnd}
 use Rattle.theory.proofs.Demand3.{demand3}
 use Rattle.theory.proofs.Demand3.{Unseen as Chained}
-use Rattle.rehearsal.specs.declared.Stop.{Stop}
-use Rattle.rehearsal.specs.Rehearsing.{andThen, sameEnd, zeroOutputs, chain, second, rehearsal, Prepared, Unseen}
+use Rattle.model.specs.declared.Stop.{Stop}
+use Rattle.model.specs.Rehearsal.{andThen, sameEnd, zeroOutputs, chain, second, rehearsal, Prepared, Unseen}
 use Rattle.rehearsal.proofs.Alike.{same-end, bit-one}
 
 -- a call that is not refused is followed by the next

@@ -8,10 +8,10 @@ use Rattle.model.specs.declared.LaidOut.{LaidOut}
 use Rattle.model.specs.Answers.{Verdict, finished, bit, laidOut}
 use Rattle.model.specs.Replies.{Loan, equaliseReply, equaliseOut, layOutReply, layOutOut}
 use Rattle.model.specs.Chain.{valueAt, Outputs, lend, End}
-use Rattle.rehearsal.specs.declared.Stop.{Stop}
+use Rattle.model.specs.declared.Stop.{Stop}
 use Rattle.rehearsal.specs.declared.ends.Final.{Final}
 use Rattle.rehearsal.specs.declared.second.Left.{Left}
-use Rattle.rehearsal.specs.Rehearsing.{andThen, zeroOutputs, wholeOf, stoppedOf}
+use Rattle.model.specs.Rehearsal.{andThen, zeroOutputs, wholeOf, stoppedOf}
 
 -- an end, and the lengths of its arrays
 abbrev pub endIn : Final → End

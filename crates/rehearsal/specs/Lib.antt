@@ -1,3 +1,2 @@
--- The chain of calls that a rehearsal makes, and what its parts answer.
-pub mod Rehearsing
+-- What the parts of a rehearsal answer.
 pub mod Contracts

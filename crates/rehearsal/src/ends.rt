@@ -1,7 +1,7 @@
 // The ends of two runs, compared.
 ghost use mathlib.Core.Path.{_≡_};
 ghost use lib.ListN.{length};
-ghost use Rattle.rehearsal.specs.Rehearsing.{sameList, sameEnd};
+ghost use Rattle.model.specs.Rehearsal.{sameList, sameEnd};
 ghost use Rattle.rehearsal.specs.Contracts.{endIn, Full};
 
 // What a run that ended leaves, and whether it overran.

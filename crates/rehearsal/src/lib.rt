@@ -8,7 +8,8 @@ ghost use lib.ListN.{length};
 ghost use Rattle.model.specs.declared.Form.the-variants.{Task};
 ghost use Rattle.model.specs.Replies.{runReply};
 ghost use Rattle.model.specs.Chain.{lend, runEnd};
-ghost use Rattle.rehearsal.specs.Rehearsing.{rehearsed, andThen, zeroOutputs, set, badSets, Rehearses};
+ghost use Rattle.model.specs.Answers.{rehearsed};
+ghost use Rattle.model.specs.Rehearsal.{andThen, zeroOutputs, set, badSets, Rehearses};
 ghost use Rattle.rehearsal.specs.Contracts.{laidLoan, secondOf, Prepares};
 use ends::Final;
 use equaliser::equalise;
@@ -19,37 +20,11 @@ use model::Form;
 use model::LaidOut;
 use model::Ran;
 use model::Refusal;
+use model::Rehearsed;
+use model::Stop;
 use records::words::copy;
 use second::stopped;
 use second::whole;
-
-// Where the prepared form is stopped.
-pub enum Stop {
-    Never,
-    At(u32),
-}
-
-// Whether the ends are alike, the laid file's bytes and total, and the end tick; of a run that was stopped also the stop tick, whether
-// there was an image, its tick (0 with none) and the ticks run twice.
-pub enum Rehearsed {
-    Whole {
-        alike: bool,
-        bytes: usize,
-        total: u32,
-        end: u32,
-    },
-    Stopped {
-        alike: bool,
-        bytes: usize,
-        total: u32,
-        end: u32,
-        stop: u32,
-        saved: bool,
-        image: u32,
-        twice: u32,
-    },
-    Refused(Refusal),
-}
 
 // The task equalised into one lent buffer and laid out into another.
 fn prepare(settings: &[u8], task: &[u8], equalised: &mut [u8], laid: &mut [u8]) -> LaidOut

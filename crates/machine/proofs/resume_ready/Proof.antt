@@ -2,17 +2,11 @@ use native.Mathlib.Omega.{arith}
 use mathlib.Core.Path.{ap, _∙_}
 use borrow.Author.Needs.{needs}
 use Rattle.machine.specs.Buffers.{withOutputs}
-use Rattle.machine.proofs.Whole.{lent, index-small, words-stray, words-late, words-take, words-bytes, words-ran}
+use Rattle.machine.proofs.Whole.{lent, index-small, whole-fills, words-stray, words-late, words-take, words-bytes, words-ran}
+use Prim.Native.Nat.{ℕ}
+use lib.ListN.{length-replicate}
 use Rattle.machine.proofs.resume_ready.Statement.{statement}
 use Rattle.machine.proofs.resume_ready.Tie as tie
-use Rattle.machine.proofs.resume_ready.Reads as reads
-use Rattle.machine.proofs.resume_ready.Lts as lts
-use Rattle.machine.proofs.blocks.run_from.Reads as run-from-reads
-use Rattle.machine.proofs.buffers.load_outputs.Reads as load-outputs-reads
-use Rattle.machine.proofs.buffers.load_variables.Reads as load-variables-reads
-use Rattle.machine.proofs.buffers.load_words.Reads as load-words-reads
-use Rattle.machine.proofs.buffers.store.Reads as store-reads
-use Rattle.machine.proofs.images.after_save.Reads as after-save-reads
 
 slice-aggregate-load-words : tie.Need-slice-aggregate-load-words
 slice-aggregate-load-words c = search needs
@@ -68,18 +62,33 @@ load-outputs-requires c κs =
     let w = c .before .before .before .before .before .before .before .before .before .before .before .before .before .before .before .before .before .before .before .before .before in
     (search needs, lent (w .pre .0) .levels, lent (w .pre .0) .marks)
 
-add-run-from : tie.Need-add-run-from
-add-run-from c = search needs
+slice-aggregate-fill : tie.Need-slice-aggregate-fill
+slice-aggregate-fill c = search needs
+
+fill-requires : tie.Need-fill-requires
+fill-requires c κs =
+    let w = c .before .before .before .before .before .before .before .before .before .before .before .before .before .before .before .before .before .before .before .before .before .before .before .before in
+    whole-fills (w .pre .0) (length-replicate {A = ℕ} 5462 0)
 
 slice-aggregate-run-from : tie.Need-slice-aggregate-run-from
 slice-aggregate-run-from c = search needs
 
+add-run-from : tie.Need-add-run-from
+add-run-from c =
+    let w = c .before .before .before .before .before .before .before .before .before .before .before .before .before .before .before in
+    let v = w .before .before .before .before .before .before .before .before .before .before .before .before .before in
+    omega (arith, v .pre .0 .short, w .if2 .left)
+
+slice-aggregate-run-from-2 : tie.Need-slice-aggregate-run-from-2
+slice-aggregate-run-from-2 c = search needs
+
 run-from-requires : tie.Need-run-from-requires
 run-from-requires c κs =
-    let w = c .before .before .before .before .before .before .before .before .before .before .before .before in
-    let v = w .before .before .before .before .before in
-    let u = v .before .before .before .before .before .before .before .before in
-    words-take (u .pre .0) (v .load-words .last .1 .0) (w .before .before .before .after-save .ensures) (w .before .before .if1 .left) (w .if2 .left) (search needs)
+    let w = c .before .before .before .before in
+    let v = w .before .before .before .before .before .before .before .before .before .before .before .before in
+    let u = v .before .before .before .before .before in
+    let q = u .before .before .before .before .before .before .before .before in
+    words-take (q .pre .0) (u .load-words .last .1 .0) (v .before .before .before .after-save .ensures) (v .before .before .if1 .left) (v .if2 .left) (w .fill .ensures) (search needs)
 
 slice-aggregate-store : tie.Need-slice-aggregate-store
 slice-aggregate-store c = search needs
@@ -87,12 +96,12 @@ slice-aggregate-store c = search needs
 store-requires : tie.Need-store-requires
 store-requires c κs =
     let w = c .before .before .before .before .before in
-    let v = w .before .before .before .before in
+    let v = w .before .before .before .before .before .before .before .before in
     let u = v .before .before .before .before .before in
     let q = u .before .before .before .before in
     let p = q .before .before .before .before .before in
     let o = p .before .before .before .before .before .before .before .before in
-    (record { cells = w .run-from .kept .1 .1 .1 .1 .1 .1 .1 .0 ∙ v .load-outputs .kept .0 ∙ u .load-variables .kept .0; variables = lent (o .pre .0) .variables; levels = lent (o .pre .0) .levels; marks = lent (o .pre .0) .marks }, words-bytes (o .pre .0) (p .load-words .last .1 .0) (q .before .before .before .after-save .ensures) (q .before .before .if1 .left) (q .if2 .left) (w .run-from .ensures) (v .load-outputs .ensures ∙ ap (withOutputs _ _) (u .load-variables .ensures)) (λ i. p .before .before .before .slice-known3 .given i .fits))
+    (record { cells = w .run-from .kept .1 .1 .1 .1 .1 .1 .1 .1 .0 ∙ v .load-outputs .kept .0 ∙ u .load-variables .kept .0; variables = lent (o .pre .0) .variables; levels = lent (o .pre .0) .levels; marks = lent (o .pre .0) .marks }, words-bytes (o .pre .0) (p .load-words .last .1 .0) (q .before .before .before .after-save .ensures) (q .before .before .if1 .left) (q .if2 .left) (w .run-from .ensures) (v .load-outputs .ensures ∙ ap (withOutputs _ _) (u .load-variables .ensures)) (λ i. p .before .before .before .slice-known3 .given i .fits))
 
 same-length : tie.Need-same-length
 same-length c = search needs
@@ -107,7 +116,7 @@ returns-3 : tie.Need-returns-3
 returns-3 c =
     let w = c .before .before .before .before .before .before in
     let v = w .before .before .before .before .before .before in
-    let u = v .before .before .before .before in
+    let u = v .before .before .before .before .before .before .before .before in
     let q = u .before .before .before .before .before in
     let p = q .before .before .before .before in
     let o = p .before .before .before .before .before in
@@ -133,8 +142,11 @@ resume-ready-spec =
     load-variables-requires
     slice-aggregate-load-outputs
     load-outputs-requires
-    add-run-from
+    slice-aggregate-fill
+    fill-requires
     slice-aggregate-run-from
+    add-run-from
+    slice-aggregate-run-from-2
     run-from-requires
     slice-aggregate-store
     store-requires

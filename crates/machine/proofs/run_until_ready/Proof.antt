@@ -1,15 +1,9 @@
-use mathlib.Core.Path.{refl}
+use mathlib.Core.Path.{refl, _∙_}
 use borrow.Author.Needs.{needs}
 use Rattle.machine.proofs.Marks.{zeros-bytes}
-use Rattle.machine.proofs.Whole.{left-bytes, lent, whole-entered, stop-left, stop-late, stop-done}
+use Rattle.machine.proofs.Whole.{left-bytes, lent, whole-fills, whole-entered, stop-left, stop-late, stop-done}
 use Rattle.machine.proofs.run_until_ready.Statement.{statement}
 use Rattle.machine.proofs.run_until_ready.Tie as tie
-use Rattle.machine.proofs.run_until_ready.Reads as reads
-use Rattle.machine.proofs.run_until_ready.Lts as lts
-use Rattle.machine.proofs.blocks.run_block.Reads as run-block-reads
-use Rattle.machine.proofs.buffers.load_variables.Reads as load-variables-reads
-use Rattle.machine.proofs.buffers.store.Reads as store-reads
-use Rattle.machine.proofs.images.store_image.Reads as store-image-reads
 
 slice-aggregate-load-variables : tie.Need-slice-aggregate-load-variables
 slice-aggregate-load-variables c = search needs
@@ -19,20 +13,31 @@ load-variables-requires c κs =
     let w = c .before .before .before .before .before .before .before .before in
     (refl, lent (w .pre .0) .variables)
 
+slice-aggregate-fill : tie.Need-slice-aggregate-fill
+slice-aggregate-fill c = search needs
+
+fill-requires : tie.Need-fill-requires
+fill-requires c κs =
+    let w = c .before .before .before .before .before .before .before .before .before .before .before in
+    whole-fills (w .pre .0) refl
+
 slice-aggregate-run-block : tie.Need-slice-aggregate-run-block
 slice-aggregate-run-block c = search needs
 
+slice-aggregate-run-block-2 : tie.Need-slice-aggregate-run-block-2
+slice-aggregate-run-block-2 c = search needs
+
 run-block-requires : tie.Need-run-block-requires
 run-block-requires c κs =
-    let w = c .before .before .before .before .before .before .before .before .before .before .before in
-    whole-entered (w .pre .0) (search needs)
+    let w = c .before .before .before .before .before .before .before .before .before .before .before .before .before .before .before in
+    whole-entered (w .pre .0) (c .before .before .before .fill .ensures) (search needs)
 
 same-length : tie.Need-same-length
 same-length c = search needs
 
 returns : tie.Need-returns
 returns c =
-    let w = c .before .before .before .before .before .before in
+    let w = c .before .before .before .before .before .before .before .before .before .before in
     let v = w .before .before .before .before .before .before .before .before .before in
     stop-late (v .pre .0) (c .before .before .before .run-block .ensures) (w .load-variables .ensures) (c .if1 .taken)
 
@@ -42,14 +47,21 @@ slice-aggregate-store c = search needs
 store-requires : tie.Need-store-requires
 store-requires c κs =
     let w = c .before .before .before .before .before .before .before in
-    let v = w .before .before .before .before .before .before .before .before .before .before .before .before in
-    (record { cells = search needs; variables = lent (v .pre .0) .variables; levels = lent (v .pre .0) .levels; marks = lent (v .pre .0) .marks }, left-bytes (stop-left (v .pre .0) (w .run-block .ensures) (w .before .before .before .load-variables .ensures)) (zeros-bytes 8))
+    let v = w .before .before .before .before .before .before .before in
+    let u = v .before .before .before .before .before .before .before .before .before in (
+      record { cells = w .run-block .kept .1 .1 .1 .1 .1 .1 .1 .1 .0 ∙ v .load-variables .kept .0; variables = lent (u .pre .0) .variables; levels = lent (u .pre .0) .levels; marks = lent (u .pre .0) .marks },
+      left-bytes (stop-left (u .pre .0) (w .run-block .ensures) (v .load-variables .ensures)) (zeros-bytes 8),
+    )
 
 slice-aggregate-store-image : tie.Need-slice-aggregate-store-image
 slice-aggregate-store-image c = search needs
 
 store-image-requires : tie.Need-store-image-requires
-store-image-requires c κs = search needs
+store-image-requires c κs =
+    let w = c .before .before .before .before .before .before .before .before .before .before .before .before .before .before .before .before in
+    let v = w .before .before .before .before .before .before .before in
+    let u = v .before .before .before .before .before .before .before .before .before in
+    (w .run-block .kept .1 .1 .1 .1 .1 .1 .1 .1 .0 ∙ v .load-variables .kept .0, u .pre .1)
 
 same-length-2 : tie.Need-same-length-2
 same-length-2 c = search needs
@@ -67,7 +79,7 @@ returns-2 : tie.Need-returns-2
 returns-2 c =
     let w = c .before .before .before .before .before .before .before .before .before .before .before in
     let v = w .before .before .before .before .before in
-    let u = v .before .before .before .before .before .before in
+    let u = v .before .before .before .before .before .before .before .before .before .before in
     let q = u .before .before .before .before .before .before .before .before .before in
     stop-done (q .pre .0) (v .before .before .before .run-block .ensures) (u .load-variables .ensures) (v .if1 .left) (w .store .ensures) (c .before .before .store-image .ensures)
 
@@ -77,7 +89,10 @@ run-until-ready-spec =
     (tie.spec
     slice-aggregate-load-variables
     load-variables-requires
+    slice-aggregate-fill
+    fill-requires
     slice-aggregate-run-block
+    slice-aggregate-run-block-2
     run-block-requires
     same-length
     returns

@@ -1,7 +1,7 @@
 use mathlib.Core.Path.{sym, subst}
 use lib.Seq.{length-take-le}
 use borrow.Author.Needs.{needs}
-use Rattle.rehearsal.specs.Rehearsing.{set}
+use Rattle.model.specs.Rehearsal.{set}
 use Rattle.rehearsal.specs.Contracts.{Prepares}
 use Rattle.rehearsal.proofs.Preparing.{good-sets, rehearse-refused, file-fits, rehearse-bad, rehearse-done}
 use Rattle.rehearsal.proofs.rehearse.Statement.{statement}

@@ -48,67 +48,67 @@ use Rattle.machine.proofs.blocks.+run_block+run_branch+run_statement+ru
   close,
 }
 
-abbrev μ-run-block : Measures 3 run-block-kinds.ps ℕ
+abbrev μ-run-block : Measures 4 run-block-kinds.ps ℕ
 μ-run-block κs a = 4 * (a .1 .1 .0 - a .1 .0) + 3
 
-abbrev μ-run-branch : Measures 3 run-branch-kinds.ps ℕ
+abbrev μ-run-branch : Measures 4 run-branch-kinds.ps ℕ
 μ-run-branch κs a = 4 * (a .1 .1 .0 - a .1 .0) + 1
 
-abbrev μ-run-statement : Measures 3 run-statement-kinds.ps ℕ
+abbrev μ-run-statement : Measures 4 run-statement-kinds.ps ℕ
 μ-run-statement κs a = 4 * (a .1 .1 .0 - a .1 .0) + 2
 
-abbrev μ-run-times : Measures 3 run-times-kinds.ps ℕ
+abbrev μ-run-times : Measures 4 run-times-kinds.ps ℕ
 μ-run-times κs a = 4 * (a .1 .1 .0 - a .1 .0) + 1
 
-abbrev μ-run-while : Measures 3 run-while-kinds.ps ℕ
+abbrev μ-run-while : Measures 4 run-while-kinds.ps ℕ
 μ-run-while κs a = 4 * (a .1 .1 .0 - a .1 .0) + 1
 
-abbrev run-block-at : ℕ → In 3 run-block-kinds.ps
-run-block-at t = and 3 run-block-kinds.ps (is 3 run-block-kinds.ps μ-run-block t) run-block.Pre
+abbrev run-block-at : ℕ → In 4 run-block-kinds.ps
+run-block-at t = and 4 run-block-kinds.ps (is 4 run-block-kinds.ps μ-run-block t) run-block.Pre
 
-abbrev run-block-below : ℕ → In 3 run-block-kinds.ps
+abbrev run-block-below : ℕ → In 4 run-block-kinds.ps
 run-block-below t =
-    and 3 run-block-kinds.ps (falls 3 run-block-kinds.ps _<_ μ-run-block t) run-block.Pre
+    and 4 run-block-kinds.ps (falls 4 run-block-kinds.ps _<_ μ-run-block t) run-block.Pre
 
-abbrev run-branch-at : ℕ → In 3 run-branch-kinds.ps
+abbrev run-branch-at : ℕ → In 4 run-branch-kinds.ps
 run-branch-at t =
-    and 3 run-branch-kinds.ps (is 3 run-branch-kinds.ps μ-run-branch t) run-branch.Pre
+    and 4 run-branch-kinds.ps (is 4 run-branch-kinds.ps μ-run-branch t) run-branch.Pre
 
-abbrev run-branch-below : ℕ → In 3 run-branch-kinds.ps
+abbrev run-branch-below : ℕ → In 4 run-branch-kinds.ps
 run-branch-below t =
-    and 3 run-branch-kinds.ps (falls 3 run-branch-kinds.ps _<_ μ-run-branch t) run-branch.Pre
+    and 4 run-branch-kinds.ps (falls 4 run-branch-kinds.ps _<_ μ-run-branch t) run-branch.Pre
 
-abbrev run-statement-at : ℕ → In 3 run-statement-kinds.ps
+abbrev run-statement-at : ℕ → In 4 run-statement-kinds.ps
 run-statement-at t =
-    and 3 run-statement-kinds.ps (is 3 run-statement-kinds.ps μ-run-statement t) run-statement.Pre
+    and 4 run-statement-kinds.ps (is 4 run-statement-kinds.ps μ-run-statement t) run-statement.Pre
 
-abbrev run-statement-below : ℕ → In 3 run-statement-kinds.ps
+abbrev run-statement-below : ℕ → In 4 run-statement-kinds.ps
 run-statement-below t =
     and
-    3
+    4
     run-statement-kinds.ps
-    (falls 3 run-statement-kinds.ps _<_ μ-run-statement t)
+    (falls 4 run-statement-kinds.ps _<_ μ-run-statement t)
     run-statement.Pre
 
-abbrev run-times-at : ℕ → In 3 run-times-kinds.ps
-run-times-at t = and 3 run-times-kinds.ps (is 3 run-times-kinds.ps μ-run-times t) run-times.Pre
+abbrev run-times-at : ℕ → In 4 run-times-kinds.ps
+run-times-at t = and 4 run-times-kinds.ps (is 4 run-times-kinds.ps μ-run-times t) run-times.Pre
 
-abbrev run-times-below : ℕ → In 3 run-times-kinds.ps
+abbrev run-times-below : ℕ → In 4 run-times-kinds.ps
 run-times-below t =
-    and 3 run-times-kinds.ps (falls 3 run-times-kinds.ps _<_ μ-run-times t) run-times.Pre
+    and 4 run-times-kinds.ps (falls 4 run-times-kinds.ps _<_ μ-run-times t) run-times.Pre
 
-abbrev run-while-at : ℕ → In 3 run-while-kinds.ps
-run-while-at t = and 3 run-while-kinds.ps (is 3 run-while-kinds.ps μ-run-while t) run-while.Pre
+abbrev run-while-at : ℕ → In 4 run-while-kinds.ps
+run-while-at t = and 4 run-while-kinds.ps (is 4 run-while-kinds.ps μ-run-while t) run-while.Pre
 
-abbrev run-while-below : ℕ → In 3 run-while-kinds.ps
+abbrev run-while-below : ℕ → In 4 run-while-kinds.ps
 run-while-below t =
-    and 3 run-while-kinds.ps (falls 3 run-while-kinds.ps _<_ μ-run-while t) run-while.Pre
+    and 4 run-while-kinds.ps (falls 4 run-while-kinds.ps _<_ μ-run-while t) run-while.Pre
 
 abbrev run-block-Inv-loop : run-block-lts.InvT-loop
-run-block-Inv-loop s from to n inputs limit tick cells₀ at₀ next₀ cells at next = Running s from to n inputs limit at₀ cells₀ cells at next
+run-block-Inv-loop s from to ends n inputs limit tick cells₀ at₀ next₀ cells at next = Running s from to ends n inputs limit at₀ cells₀ cells at next
 
 abbrev run-block-μ-loop : run-block-lts.MeasureT-loop
-run-block-μ-loop s from to n inputs limit tick cells₀ at₀ next₀ cells at next = to - next
+run-block-μ-loop s from to ends n inputs limit tick cells₀ at₀ next₀ cells at next = to - next
 
 abbrev run-block-claims : ℕ → run-block-lts.Claims
 run-block-claims t = (kind-at-reads.Asked, kind-at-reads.Learnt, closes-reads.Asked, closes-reads.Learnt, going-reads.Asked, going-reads.Learnt, run-statement-below t, run-statement.Post, ended-reads.Asked, ended-reads.Learnt)
@@ -126,7 +126,9 @@ abbrev run-while-claims : ℕ → run-while-lts.Claims
 run-while-claims t = (behind-reads.Asked, behind-reads.Learnt, cut-off-reads.Asked, cut-off-reads.Learnt, test-holds-reads.Asked, test-holds-reads.Learnt, going-reads.Asked, going-reads.Learnt, run-block-below t, run-block.Post, ended-reads.Asked, ended-reads.Learnt, run-last-test-reads.Asked, run-last-test-reads.Learnt)
 
 run-block-loop-holds : (t : ℕ) → run-block-lts.Need-loop-holds (run-block-claims t) (run-block-at t) run-block.Post run-block-Inv-loop run-block-μ-loop
-run-block-loop-holds t c = running-start (c .before .before .before .pre .1)
+run-block-loop-holds t c =
+    let w = c .before .before .before .before in
+    running-start (w .pre .1)
 
 run-block-kind-at-requires : (t : ℕ) → run-block-lts.Need-kind-at-requires (run-block-claims t) (run-block-at t) run-block.Post run-block-Inv-loop run-block-μ-loop
 run-block-kind-at-requires t c κs = omega (arith, c .before .loop .inv .rest .file .inside)
@@ -148,7 +150,7 @@ run-block-returns t c =
 run-block-run-statement-requires : (t : ℕ) → run-block-lts.Need-run-statement-requires (run-block-claims t) (run-block-at t) run-block.Post run-block-Inv-loop run-block-μ-loop
 run-block-run-statement-requires t c κs =
     let w = c .before .before .before .before in
-    let v = w .before .before .before .before .before in
+    let v = w .before .before .before .before .before .before in
     (omega (arith, v .pre .0, w .before .loop .inv .on), statement-next (w .before .loop .inv) (w .loop-test .taken) (closing-told (c .before .before .before .kind-at .ensures) (c .before .before .closes .ensures) (c .before .if1 .left)))
 
 run-block-ended-requires : (t : ℕ) → run-block-lts.Need-ended-requires (run-block-claims t) (run-block-at t) run-block.Post run-block-Inv-loop run-block-μ-loop
@@ -189,18 +191,18 @@ run-branch-cut-off-requires t c κs = search needs
 
 run-branch-returns : (t : ℕ) → run-branch-lts.Need-returns (run-branch-claims t) (run-branch-at t) run-branch.Post
 run-branch-returns t c =
-    let w = c .before .before .before .before .before in
+    let w = c .before .before .before .before .before .before in
     branch-cut (w .pre .1 .0) (w .pre .1 .2) (c .before .if1 .taken) (c .cut-off .ensures)
 
 run-branch-test-holds-requires : (t : ℕ) → run-branch-lts.Need-test-holds-requires (run-branch-claims t) (run-branch-at t) run-branch.Post
 run-branch-test-holds-requires t c κs =
-    let w = c .before .before .before .before .before in
+    let w = c .before .before .before .before .before .before in
     (w .pre .1 .0 .entered .lent .cells, test-there (w .pre .1 .0) (w .pre .1 .1) (ap opensBlock (w .pre .1 .2)))
 
 run-branch-side-requires : (t : ℕ) → run-branch-lts.Need-side-requires (run-branch-claims t) (run-branch-at t) run-branch.Post
 run-branch-side-requires t c κs =
-    let w = c .before .before .before .before .before .before in
-    record { before = w .pre .1 .0 .inside; inside = w .pre .1 .0 .entered .file .inside }
+    let w = c .before .before .before .before .before .before .before in
+    record { before = w .pre .1 .0 .inside; inside = w .pre .1 .0 .entered .file .inside; table = w .pre .1 .0 .entered .table }
 
 run-branch-add-run-block : (t : ℕ) → run-branch-lts.Need-add-run-block (run-branch-claims t) (run-branch-at t) run-branch.Post
 run-branch-add-run-block t c = search needs
@@ -208,7 +210,7 @@ run-branch-add-run-block t c = search needs
 run-branch-run-block-requires : (t : ℕ) → run-branch-lts.Need-run-block-requires (run-branch-claims t) (run-branch-at t) run-branch.Post
 run-branch-run-block-requires t c κs =
     let w = c .before .before .before .before in
-    let v = w .before .before .before .before in
+    let v = w .before .before .before .before .before in
     (omega (arith, v .pre .0, v .pre .1 .0 .inside, c .before .side .ensures, side-after (v .pre .1 .0) (v .pre .1 .2) (c .before .before .test-holds .result)), side-entered (v .pre .1 .0) (v .pre .1 .2) (w .if1 .left) (v .pre .1 .1) (c .before .before .test-holds .ensures) (c .before .side .ensures))
 
 run-branch-ended-requires : (t : ℕ) → run-branch-lts.Need-ended-requires (run-branch-claims t) (run-branch-at t) run-branch.Post
@@ -221,14 +223,14 @@ run-branch-returns-2 : (t : ℕ) → run-branch-lts.Need-returns-2 (run-branch-c
 run-branch-returns-2 t c =
     let w = c .before .before .before .before in
     let v = w .before .before .before .before .before in
-    let u = v .before .before .before .before in
+    let u = v .before .before .before .before .before in
     branch-halted (u .pre .1 .0) (u .pre .1 .2) (v .if1 .left) (u .pre .1 .1) (w .before .before .before .test-holds .ensures) (w .before .before .side .ensures) (w .run-block .ensures) (sym (c .before .ended .ensures) ∙ c .if2 .taken)
 
 run-branch-past-requires : (t : ℕ) → run-branch-lts.Need-past-requires (run-branch-claims t) (run-branch-at t) run-branch.Post
 run-branch-past-requires t c κs =
     let w = c .before .before .before .before in
     let v = w .before .before .before .before .before in
-    let u = v .before .before .before .before in
+    let u = v .before .before .before .before .before in
     side-ends (u .pre .1 .0) (u .pre .1 .2) (v .if1 .left) (u .pre .1 .1) (w .before .before .before .test-holds .ensures) (w .before .before .side .ensures) (w .run-block .ensures) (sym (c .before .ended .ensures) ∙ c .if2 .left)
 
 run-branch-going-requires : (t : ℕ) → run-branch-lts.Need-going-requires (run-branch-claims t) (run-branch-at t) run-branch.Post
@@ -241,15 +243,17 @@ run-branch-returns-3 : (t : ℕ) → run-branch-lts.Need-returns-3 (run-branch-c
 run-branch-returns-3 t c =
     let w = c .before .before .before .before .before .before in
     let v = w .before .before .before .before .before in
-    let u = v .before .before .before .before in
+    let u = v .before .before .before .before .before in
     branch-ran (u .pre .1 .0) (u .pre .1 .2) (v .if1 .left) (u .pre .1 .1) (w .before .before .before .test-holds .ensures) (w .before .before .side .ensures) (w .run-block .ensures) (sym (c .before .before .before .ended .ensures) ∙ c .before .before .if2 .left) (c .before .past .ensures) (c .going .ensures)
 
 run-statement-record-at-requires : (t : ℕ) → run-statement-lts.Need-record-at-requires (run-statement-claims t) (run-statement-at t) run-statement.Post
-run-statement-record-at-requires t c κs = omega (arith, c .before .before .before .pre .1 .inside, c .before .before .before .pre .1 .entered .file .inside)
+run-statement-record-at-requires t c κs =
+    let w = c .before .before .before .before in
+    omega (arith, w .pre .1 .inside, w .pre .1 .entered .file .inside)
 
 run-statement-run-branch-requires : (t : ℕ) → run-statement-lts.Need-run-branch-requires (run-statement-claims t) (run-statement-at t) run-statement.Post
 run-statement-run-branch-requires t c κs =
-    let w = c .before .before .before .before .before .before .before in
+    let w = c .before .before .before .before .before .before .before .before in
     (omega (arith, w .pre .0), (w .pre .1, c .before .before .before .record-at .ensures, kind-there (c .before .before .before .record-at .ensures) (c .before .if1 .taken)))
 
 run-statement-same-length : (t : ℕ) → run-statement-lts.Need-same-length (run-statement-claims t) (run-statement-at t) run-statement.Post
@@ -261,7 +265,7 @@ run-statement-returns t c = c .before .before .run-branch .ensures
 run-statement-run-while-requires : (t : ℕ) → run-statement-lts.Need-run-while-requires (run-statement-claims t) (run-statement-at t) run-statement.Post
 run-statement-run-while-requires t c κs =
     let w = c .before .before .before .before .before in
-    let v = w .before .before .before .before in
+    let v = w .before .before .before .before .before in
     (omega (arith, v .pre .0), (v .pre .1, w .record-at .ensures, kind-there (w .record-at .ensures) (c .before .if2 .taken)))
 
 run-statement-same-length-2 : (t : ℕ) → run-statement-lts.Need-same-length-2 (run-statement-claims t) (run-statement-at t) run-statement.Post
@@ -273,7 +277,7 @@ run-statement-returns-2 t c = c .before .before .run-while .ensures
 run-statement-run-times-requires : (t : ℕ) → run-statement-lts.Need-run-times-requires (run-statement-claims t) (run-statement-at t) run-statement.Post
 run-statement-run-times-requires t c κs =
     let w = c .before .before .before .before .before .before .before in
-    let v = w .before .before .before .before in
+    let v = w .before .before .before .before .before in
     (omega (arith, v .pre .0), (v .pre .1, w .record-at .ensures, kind-there (w .record-at .ensures) (c .before .if3 .taken)))
 
 run-statement-same-length-3 : (t : ℕ) → run-statement-lts.Need-same-length-3 (run-statement-claims t) (run-statement-at t) run-statement.Post
@@ -288,7 +292,7 @@ run-statement-step-ticks-requires t c κs = search needs
 run-statement-run-step-requires : (t : ℕ) → run-statement-lts.Need-run-step-requires (run-statement-claims t) (run-statement-at t) run-statement.Post
 run-statement-run-step-requires t c κs =
     let w = c .before .before .before .before .before .before .before .before in
-    let v = w .before .before .before .before in
+    let v = w .before .before .before .before .before in
     (v .pre .1 .entered .lent, fields-fit (v .pre .1) (w .record-at .ensures), omega (arith, v .pre .1 .inside, v .pre .1 .entered .few), v .pre .1 .entered .early)
 
 run-statement-same-length-4 : (t : ℕ) → run-statement-lts.Need-same-length-4 (run-statement-claims t) (run-statement-at t) run-statement.Post
@@ -298,34 +302,38 @@ run-statement-returns-4 : (t : ℕ) → run-statement-lts.Need-returns-4 (run-st
 run-statement-returns-4 t c =
     let w = c .before .before .before .before in
     let v = w .before .before .before .before .before in
-    let u = v .before .before .before .before .before .before in
+    let u = v .before .before .before .before .before .before .before in
     step-ran (u .pre .1) (v .before .before .record-at .ensures) (v .if1 .left) (w .before .before .before .if2 .left) (w .before .if3 .left) (w .step-ticks .ensures) (c .before .before .run-step .ensures)
 
 abbrev run-times-Inv-loop : run-times-lts.InvT-loop
-run-times-Inv-loop s i to r n inputs limit tick cells₀ body next last at₀ round₀ cells at round = Turning s i to (recordOf r) n inputs limit at₀ cells₀ cells at last round next
+run-times-Inv-loop s i to ends r n inputs limit tick cells₀ body next last at₀ round₀ cells at round = Turning s i to ends (recordOf r) n inputs limit at₀ cells₀ cells at last round next
 
 abbrev run-times-μ-loop : run-times-lts.MeasureT-loop
-run-times-μ-loop s i to r n inputs limit tick cells₀ body next last at₀ round₀ cells at round = last - round
+run-times-μ-loop s i to ends r n inputs limit tick cells₀ body next last at₀ round₀ cells at round = last - round
 
 run-times-add-body : (t : ℕ) → run-times-lts.Need-add-body (run-times-claims t) (run-times-at t) run-times.Post run-times-Inv-loop run-times-μ-loop
-run-times-add-body t c = omega (arith, c .before .before .before .pre .1 .0 .inside, c .before .before .before .pre .1 .0 .entered .few)
+run-times-add-body t c =
+    let w = c .before .before .before .before in
+    omega (arith, w .pre .1 .0 .inside, w .pre .1 .0 .entered .few)
 
 run-times-behind-requires : (t : ℕ) → run-times-lts.Need-behind-requires (run-times-claims t) (run-times-at t) run-times.Post run-times-Inv-loop run-times-μ-loop
-run-times-behind-requires t c κs = record { before = c .before .before .before .pre .1 .0 .inside; inside = c .before .before .before .pre .1 .0 .entered .file .inside }
+run-times-behind-requires t c κs =
+    let w = c .before .before .before .before in
+    record { before = w .pre .1 .0 .inside; inside = w .pre .1 .0 .entered .file .inside; table = w .pre .1 .0 .entered .table }
 
 run-times-rounds-requires : (t : ℕ) → run-times-lts.Need-rounds-requires (run-times-claims t) (run-times-at t) run-times.Post run-times-Inv-loop run-times-μ-loop
 run-times-rounds-requires t c κs =
-    let w = c .before .before .before .before in
+    let w = c .before .before .before .before .before in
     omega (arith, body-before (w .pre .1 .0) (ap opensBlock (w .pre .1 .2)) (λ e. omega (arith, e, w .pre .1 .2)), w .pre .1 .0 .entered .file .inside)
 
 run-times-loop-holds : (t : ℕ) → run-times-lts.Need-loop-holds (run-times-claims t) (run-times-at t) run-times.Post run-times-Inv-loop run-times-μ-loop
 run-times-loop-holds t c =
-    let w = c .before .before .before .before .before in
+    let w = c .before .before .before .before .before .before in
     turning-start (w .pre .1 .0) (w .pre .1 .2) (w .pre .1 .1) (c .before .behind .ensures) (c .rounds .ensures)
 
 run-times-run-block-requires : (t : ℕ) → run-times-lts.Need-run-block-requires (run-times-claims t) (run-times-at t) run-times.Post run-times-Inv-loop run-times-μ-loop
 run-times-run-block-requires t c κs =
-    let w = c .before .before .before .before .before .before .before .before in
+    let w = c .before .before .before .before .before .before .before .before .before in
     (omega (arith, w .pre .0, w .pre .1 .0 .inside), turning-entered (c .before .before .loop .inv) (c .before .loop-test .taken))
 
 run-times-ended-requires : (t : ℕ) → run-times-lts.Need-ended-requires (run-times-claims t) (run-times-at t) run-times.Post run-times-Inv-loop run-times-μ-loop
@@ -352,7 +360,7 @@ run-times-loop-again t c =
 
 run-times-run-last-test-requires : (t : ℕ) → run-times-lts.Need-run-last-test-requires (run-times-claims t) (run-times-at t) run-times.Post run-times-Inv-loop run-times-μ-loop
 run-times-run-last-test-requires t c κs =
-    let w = c .before .before .before .before .before .before .before .before in
+    let w = c .before .before .before .before .before .before .before .before .before in
     (c .before .before .loop .inv .lent, test-there (w .pre .1 .0) (w .pre .1 .1) (ap opensBlock (w .pre .1 .2)), c .before .before .loop .inv .early)
 
 run-times-same-length-2 : (t : ℕ) → run-times-lts.Need-same-length-2 (run-times-claims t) (run-times-at t) run-times.Post run-times-Inv-loop run-times-μ-loop
@@ -362,20 +370,24 @@ run-times-returns-2 : (t : ℕ) → run-times-lts.Need-returns-2 (run-times-clai
 run-times-returns-2 t c = turning-last (c .before .before .before .loop .inv) (c .before .before .loop-test .left) (c .run-last-test .ensures)
 
 abbrev run-while-Inv-loop : run-while-lts.InvT-loop
-run-while-Inv-loop s i to r n inputs limit tick cells₀ body next at₀ round₀ cells at round = Spinning s i to (recordOf r) n inputs limit at₀ cells₀ cells at round next
+run-while-Inv-loop s i to ends r n inputs limit tick cells₀ body next at₀ round₀ cells at round = Spinning s i to ends (recordOf r) n inputs limit at₀ cells₀ cells at round next
 
 abbrev run-while-μ-loop : run-while-lts.MeasureT-loop
-run-while-μ-loop s i to r n inputs limit tick cells₀ body next at₀ round₀ cells at round = r .count - round
+run-while-μ-loop s i to ends r n inputs limit tick cells₀ body next at₀ round₀ cells at round = r .count - round
 
 run-while-add-body : (t : ℕ) → run-while-lts.Need-add-body (run-while-claims t) (run-while-at t) run-while.Post run-while-Inv-loop run-while-μ-loop
-run-while-add-body t c = omega (arith, c .before .before .before .pre .1 .0 .inside, c .before .before .before .pre .1 .0 .entered .few)
+run-while-add-body t c =
+    let w = c .before .before .before .before in
+    omega (arith, w .pre .1 .0 .inside, w .pre .1 .0 .entered .few)
 
 run-while-behind-requires : (t : ℕ) → run-while-lts.Need-behind-requires (run-while-claims t) (run-while-at t) run-while.Post run-while-Inv-loop run-while-μ-loop
-run-while-behind-requires t c κs = record { before = c .before .before .before .pre .1 .0 .inside; inside = c .before .before .before .pre .1 .0 .entered .file .inside }
+run-while-behind-requires t c κs =
+    let w = c .before .before .before .before in
+    record { before = w .pre .1 .0 .inside; inside = w .pre .1 .0 .entered .file .inside; table = w .pre .1 .0 .entered .table }
 
 run-while-loop-holds : (t : ℕ) → run-while-lts.Need-loop-holds (run-while-claims t) (run-while-at t) run-while.Post run-while-Inv-loop run-while-μ-loop
 run-while-loop-holds t c =
-    let w = c .before .before .before .before in
+    let w = c .before .before .before .before .before in
     spinning-start (w .pre .1 .0) (w .pre .1 .2) (w .pre .1 .1) (c .behind .ensures)
 
 run-while-cut-off-requires : (t : ℕ) → run-while-lts.Need-cut-off-requires (run-while-claims t) (run-while-at t) run-while.Post run-while-Inv-loop run-while-μ-loop
@@ -395,7 +407,7 @@ run-while-add-at t c = search needs
 run-while-test-holds-requires : (t : ℕ) → run-while-lts.Need-test-holds-requires (run-while-claims t) (run-while-at t) run-while.Post run-while-Inv-loop run-while-μ-loop
 run-while-test-holds-requires t c κs =
     let w = c .before .before .before .before in
-    let v = w .before .before .before .before .before in
+    let v = w .before .before .before .before .before .before in
     (w .loop .inv .lent, test-there (v .pre .1 .0) (v .pre .1 .1) (ap opensBlock (v .pre .1 .2)))
 
 run-while-going-requires : (t : ℕ) → run-while-lts.Need-going-requires (run-while-claims t) (run-while-at t) run-while.Post run-while-Inv-loop run-while-μ-loop
@@ -412,7 +424,7 @@ run-while-returns-2 t c =
 run-while-run-block-requires : (t : ℕ) → run-while-lts.Need-run-block-requires (run-while-claims t) (run-while-at t) run-while.Post run-while-Inv-loop run-while-μ-loop
 run-while-run-block-requires t c κs =
     let w = c .before .before .before .before in
-    let v = w .before .before .before .before .before .before .before .before in
+    let v = w .before .before .before .before .before .before .before .before .before in
     (omega (arith, v .pre .0, v .pre .1 .0 .inside), spinning-entered (w .before .before .before .loop .inv) (w .before .if1 .taken) (w .if2 .left))
 
 run-while-ended-requires : (t : ℕ) → run-while-lts.Need-ended-requires (run-while-claims t) (run-while-at t) run-while.Post run-while-Inv-loop run-while-μ-loop
@@ -441,7 +453,7 @@ run-while-loop-again t c =
 
 run-while-run-last-test-requires : (t : ℕ) → run-while-lts.Need-run-last-test-requires (run-while-claims t) (run-while-at t) run-while.Post run-while-Inv-loop run-while-μ-loop
 run-while-run-last-test-requires t c κs =
-    let w = c .before .before .before .before .before .before .before .before in
+    let w = c .before .before .before .before .before .before .before .before .before in
     (c .before .before .before .loop .inv .lent, test-there (w .pre .1 .0) (w .pre .1 .1) (ap opensBlock (w .pre .1 .2)), c .before .before .before .loop .inv .early)
 
 run-while-same-length-4 : (t : ℕ) → run-while-lts.Need-same-length-4 (run-while-claims t) (run-while-at t) run-while.Post run-while-Inv-loop run-while-μ-loop

@@ -1,5 +1,5 @@
-use borrow.Author.Needs.{needs}
 use Rattle.machine.proofs.Turns.{past-else, past-end}
+use borrow.Author.Needs.{needs}
 use Rattle.machine.proofs.blocks.past.Statement.{statement}
 use Rattle.machine.proofs.blocks.past.Tie as tie
 
@@ -17,8 +17,8 @@ add-result c = search needs
 
 returns-2 : tie.Need-returns-2
 returns-2 c =
-    let a = c .before .before .before .args in
-    past-end (a .s .now) (a .k) (a .to) _ (c .before .kind-at .ensures) (c .if1 .left)
+    let w = c .before .before .before .before in
+    past-end (w .args .s .now) (w .args .k) (w .args .to) _ (c .before .kind-at .ensures) (c .if1 .left)
 
 pub past-spec : {M : Type 1} → statement M
 past-spec = tie.close (tie.spec kind-at-requires behind-requires returns add-result returns-2)

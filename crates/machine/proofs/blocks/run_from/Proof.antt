@@ -7,13 +7,15 @@ use Rattle.machine.proofs.blocks.run_from.Statement.{statement}
 use Rattle.machine.proofs.blocks.run_from.Tie as tie
 
 abbrev Inv-loop : tie.InvT-loop
-Inv-loop s from to n inputs limit tick cells₀ at₀ next₀ cells at next = TakingUp s from to n inputs limit at₀ cells₀ cells at next
+Inv-loop s from to ends n inputs limit tick cells₀ at₀ next₀ cells at next = TakingUp s from to ends n inputs limit at₀ cells₀ cells at next
 
 abbrev μ-loop : tie.MeasureT-loop
-μ-loop s from to n inputs limit tick cells₀ at₀ next₀ cells at next = to - next
+μ-loop s from to ends n inputs limit tick cells₀ at₀ next₀ cells at next = to - next
 
 loop-holds : tie.Need-loop-holds Inv-loop μ-loop
-loop-holds c = taking-up (c .before .before .before .pre)
+loop-holds c =
+    let w = c .before .before .before .before in
+    taking-up (w .pre)
 
 run-block-requires : tie.Need-run-block-requires Inv-loop μ-loop
 run-block-requires c κs = block-next (c .before .before .loop .inv)
@@ -39,22 +41,20 @@ returns-2 c =
 
 past-requires : tie.Need-past-requires Inv-loop μ-loop
 past-requires c κs =
-    let w = c .before .before .before .before .before .before in
-    closing-there (w .before .before .before .loop .inv) (c .if2 .left)
+    let w = c .before .before .before .before .before .before .before .before .before in
+    closing-there (w .loop .inv) (c .if2 .left)
 
 loop-less : tie.Need-loop-less Inv-loop μ-loop
 loop-less c =
     let w = c .before .before .before .before in
     let v = w .before .before .before .before .before in
-    let e = sym (w .ended .ensures) ∙ c .before .before .before .if1 .left in
-    omega (arith, taking-on (v .before .loop .inv) (w .before .before .before .run-block .ensures) e (c .past .ensures), v .loop-test .taken)
+    omega (arith, taking-on (v .before .loop .inv) (w .before .before .before .run-block .ensures) (sym (w .ended .ensures) ∙ c .before .before .before .if1 .left) (c .past .ensures), v .loop-test .taken)
 
 loop-again : tie.Need-loop-again Inv-loop μ-loop
 loop-again c =
     let w = c .before .before .before .before in
     let v = w .before .before .before .before .before .before in
-    let e = sym (w .ended .ensures) ∙ c .before .before .before .if1 .left in
-    taking-next (v .loop .inv) (w .before .before .before .run-block .ensures) e (c .past .ensures) (c .before .if2 .left) (search needs)
+    taking-next (v .loop .inv) (w .before .before .before .run-block .ensures) (sym (w .ended .ensures) ∙ c .before .before .before .if1 .left) (c .past .ensures) (c .before .if2 .left) (search needs)
 
 going-requires : tie.Need-going-requires Inv-loop μ-loop
 going-requires c κs = search needs

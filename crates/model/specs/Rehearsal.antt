@@ -1,4 +1,4 @@
--- The chain of calls that a rehearsal makes, as one composition of the model's replies.
+-- The chain of calls as `rehearse` makes it: one composition of the replies, and what demand 3 says of it.
 use Prim.Native.Nat.{ℕ, _*_, _-_, _<_}
 use mathlib.Core.Path.{_≡_}
 use mathlib.Core.Logic.{_↔_}
@@ -6,22 +6,15 @@ use mathlib.Core.Bool.{Bool, true, false, not, _||_, _&&_}
 use mathlib.Core.List.{List, [], _∷_}
 use lib.Dec.{eqb}
 use lib.ListN.{length, replicate}
 use Rattle.model.specs.Settings.{settingsOf}
 use Rattle.model.specs.Runs.{Buffers}
-use Rattle.model.specs.Answers.{Verdict, finished, refused, bit, refusal}
+use Rattle.model.specs.Answers.{Verdict, finished, refused, bit, rehearsed}
 use Rattle.model.specs.Replies.{turnDown, Loan, stepsOf, runReply, stopReply}
 use Rattle.model.specs.Timeline.{endedBy, lastSaveEnd}
 use Rattle.model.specs.Chain.{isFinished, valueAt, Set, Outputs, Chain, LentSet, equalising, layingOut, plainLoan, wholeLoan, stoppedLoan}
 use Rattle.model.specs.Chain.{hasImage, takingUp, takenUpBuffers, imageTick, End, endOf, runEnd, plainEndOne, plainEndTwo}
-use Rattle.rehearsal.specs.declared.Rehearsed.{Rehearsed}
-use Rattle.rehearsal.specs.declared.Stop.{Stop}
-
--- The values for each case: whether the ends are alike, the laid length and total, and the end tick; of a stopped run also the stop
--- tick, whether there is an image and its tick, and the ticks run twice.
-abbrev pub rehearsed : Rehearsed → Verdict
-rehearsed (Rehearsed.Whole a n t e) = finished (bit a ∷ n ∷ t ∷ e ∷ [])
-rehearsed (Rehearsed.Stopped a n t e c i u x) = finished (bit a ∷ n ∷ t ∷ e ∷ c ∷ bit i ∷ u ∷ x ∷ [])
-rehearsed (Rehearsed.Refused x) = refusal x
+use Rattle.model.specs.declared.Rehearsed.{Rehearsed}
+use Rattle.model.specs.declared.Stop.{Stop}
 
 -- the first refusal in a chain of calls
 abbrev pub andThen : Verdict → Verdict → Verdict
