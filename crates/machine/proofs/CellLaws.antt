@@ -34,7 +34,8 @@ held-output w p x h =
     let e : 24 + p ≡ 16 + (8 + p) = omega arith in
     let variables : take 16 (set v (24 + p) 1) ≡ take 16 w = take-set-le 16 v (24 + p) 1 (omega arith) ∙ take-set-le 16 w (16 + p) x (omega arith) in
     let levels : take 8 (drop 16 (set v (24 + p) 1)) ≡ set (take 8 (drop 16 w)) p x = rw e (part-after 8 16 v (8 + p) 1 (omega arith)) ∙ part-inside 8 16 w p x h in
-    let marks : take 8 (drop 24 (set v (24 + p) 1)) ≡ set (take 8 (drop 24 w)) p 1 = part-inside 8 24 v p 1 h ∙ ap (λ (l : List ℕ). set (take 8 l) p 1) (drop-set-lt 24 w (16 + p) x (omega arith)) in
+    let marks : take 8 (drop 24 (set v (24 + p) 1)) ≡ set (take 8 (drop 24 w)) p 1 = part-inside 8 24 v p 1 h ∙ ap (λ (l : List ℕ). set (take 8 l) p 1)
+    (drop-set-lt 24 w (16 + p) x (omega arith)) in
     let image : drop 32 (set v (24 + p) 1) ≡ drop 32 w = drop-set-lt 32 v (24 + p) 1 (omega arith) ∙ drop-set-lt 32 w (16 + p) x (omega arith) in
     rw (variables, levels, marks, image)
 

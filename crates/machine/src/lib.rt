@@ -192,17 +192,8 @@ fn resume_ready(
     let to = file.len() / 12;
     let mut ends: [u16; 5462] = [0; 5462];
     fill(file, to, &mut ends);
-    let last = run_from(
-        file,
-        index,
-        to,
-        &ends,
-        n,
-        inputs,
-        tick + n.period,
-        tick,
-        &mut cells,
-    );
+    let limit = tick + n.period;
+    let last = run_from(file, index, to, &ends, n, inputs, limit, tick, &mut cells);
     store(&cells, variables, levels, marks);
     Resumed::Ended {
         tick: last.tick,

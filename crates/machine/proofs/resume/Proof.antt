@@ -25,8 +25,12 @@ enum-known-r-2 c = search needs
 resume-ready-requires : tie.Need-resume-ready-requires
 resume-ready-requires c κs =
     let w = c .before .before .before .before in
-    let v = w .before .before .before .before .before .before .before .before .before .before .before in
-    (is-ready _ _ _ _ _ _ _ _ (w .before .before .before .bad-buffers .ensures) (subst (Readies _ _ _ _) (w .r2 .given .1) (w .before .before .ready .ensures)), image-lent (v .args .settings .now) (v .args .form) (v .args .file .now) (v .args .variables .now) (v .args .inputs .now) (v .args .levels .now) (v .args .marks .now) (v .args .image .now) (w .before .before .before .bad-buffers .ensures) (subst (Readies _ _ _ _) (w .r2 .given .1) (w .before .before .ready .ensures)))
+    let v = w .before .before .before .before .before .before .before .before .before .before .before in (
+      is-ready _ _ _ _ _ _ _ _ (w .before .before .before .bad-buffers .ensures) (subst (Readies _ _ _ _) (w .r2 .given .1) (w .before .before .ready .ensures)),
+      image-lent
+          (v .args .settings .now) (v .args .form) (v .args .file .now) (v .args .variables .now) (v .args .inputs .now) (v .args .levels .now) (v .args .marks .now) (v .args .image .now)
+          (w .before .before .before .bad-buffers .ensures) (subst (Readies _ _ _ _) (w .r2 .given .1) (w .before .before .ready .ensures)),
+    )
 
 returns : tie.Need-returns
 returns c =
@@ -46,7 +50,8 @@ returns-2 : tie.Need-returns-2
 returns-2 c =
     let w = c .before .before .before .before .before .before in
     let v = w .before .before .before .before .before in
-    resume-finished _ _ _ _ _ _ _ _ (v .before .before .before .bad-buffers .ensures) (subst (Readies _ _ _ _) (v .r2 .given .1) (v .before .before .ready .ensures)) (w .resume-ready .ensures)
+    resume-finished _ _ _ _ _ _ _ _ (v .before .before .before .bad-buffers .ensures) (subst (Readies _ _ _ _) (v .r2 .given .1) (v .before .before .ready .ensures))
+    (w .resume-ready .ensures)
 
 pub resume-spec : {M : Type 1} → statement M
 resume-spec =

@@ -1,10 +1,10 @@
+use Prim.Native.Nat.{ℕ}
 use native.Mathlib.Omega.{arith}
 use mathlib.Core.Path.{ap, _∙_}
+use lib.ListN.{length-replicate}
 use borrow.Author.Needs.{needs}
 use Rattle.machine.specs.Buffers.{withOutputs}
 use Rattle.machine.proofs.Whole.{lent, index-small, whole-fills, words-stray, words-late, words-take, words-bytes, words-ran}
-use Prim.Native.Nat.{ℕ}
-use lib.ListN.{length-replicate}
 use Rattle.machine.proofs.resume_ready.Statement.{statement}
 use Rattle.machine.proofs.resume_ready.Tie as tie
 
@@ -20,7 +20,13 @@ array-read-index c = search needs
 cast-index : tie.Need-cast-index
 cast-index c =
     let w = c .before .before .before .before .before .before .before .before .before in
-    record { fits = omega (arith, index-small (c .before .load-words .last .1 .0) (w .args .image .now) (c .before .load-words .ensures) (λ i. c .before .before .before .shared-slice-known3 .given i .fits)) }
+    record {
+      fits = omega (
+        arith,
+        index-small (c .before .load-words .last .1 .0) (w .args .image .now) (c .before .load-words .ensures)
+            (λ i. c .before .before .before .shared-slice-known3 .given i .fits),
+      );
+    }
 
 array-read-tick : tie.Need-array-read-tick
 array-read-tick c = search needs
@@ -67,17 +73,18 @@ slice-aggregate-fill c = search needs
 
 fill-requires : tie.Need-fill-requires
 fill-requires c κs =
-    let w = c .before .before .before .before .before .before .before .before .before .before .before .before .before .before .before .before .before .before .before .before .before .before .before .before in
+    let v = c .before .before .before .before .before .before .before .before .before .before .before .before in
+    let w = v .before .before .before .before .before .before .before .before .before .before .before .before in
     whole-fills (w .pre .0) (length-replicate {A = ℕ} 5462 0)
+
+add-limit : tie.Need-add-limit
+add-limit c =
+    let w = c .before .before .before .before .before .before .before .before .before .before .before .before .before .before in
+    let v = w .before .before .before .before .before .before .before .before .before .before .before .before .before in
+    omega (arith, v .pre .0 .short, w .if2 .left)
 
 slice-aggregate-run-from : tie.Need-slice-aggregate-run-from
 slice-aggregate-run-from c = search needs
-
-add-run-from : tie.Need-add-run-from
-add-run-from c =
-    let w = c .before .before .before .before .before .before .before .before .before .before .before .before .before .before .before in
-    let v = w .before .before .before .before .before .before .before .before .before .before .before .before .before in
-    omega (arith, v .pre .0 .short, w .if2 .left)
 
 slice-aggregate-run-from-2 : tie.Need-slice-aggregate-run-from-2
 slice-aggregate-run-from-2 c = search needs
@@ -100,8 +107,16 @@ store-requires c κs =
     let u = v .before .before .before .before .before in
     let q = u .before .before .before .before in
     let p = q .before .before .before .before .before in
-    let o = p .before .before .before .before .before .before .before .before in
-    (record { cells = w .run-from .kept .1 .1 .1 .1 .1 .1 .1 .1 .0 ∙ v .load-outputs .kept .0 ∙ u .load-variables .kept .0; variables = lent (o .pre .0) .variables; levels = lent (o .pre .0) .levels; marks = lent (o .pre .0) .marks }, words-bytes (o .pre .0) (p .load-words .last .1 .0) (q .before .before .before .after-save .ensures) (q .before .before .if1 .left) (q .if2 .left) (w .run-from .ensures) (v .load-outputs .ensures ∙ ap (withOutputs _ _) (u .load-variables .ensures)) (λ i. p .before .before .before .slice-known3 .given i .fits))
+    let o = p .before .before .before .before .before .before .before .before in (
+      record {
+        cells = w .run-from .kept .1 .1 .1 .1 .1 .1 .1 .1 .0 ∙ v .load-outputs .kept .0 ∙ u .load-variables .kept .0;
+        variables = lent (o .pre .0) .variables;
+        levels = lent (o .pre .0) .levels;
+        marks = lent (o .pre .0) .marks;
+      },
+      words-bytes (o .pre .0) (p .load-words .last .1 .0) (q .before .before .before .after-save .ensures) (q .before .before .if1 .left)
+          (q .if2 .left) (w .run-from .ensures) (v .load-outputs .ensures ∙ ap (withOutputs _ _) (u .load-variables .ensures)) (λ i. p .before .before .before .slice-known3 .given i .fits),
+    )
 
 same-length : tie.Need-same-length
 same-length c = search needs
@@ -121,7 +136,8 @@ returns-3 c =
     let p = q .before .before .before .before in
     let o = p .before .before .before .before .before in
     let n = o .before .before .before .before .before .before .before .before in
-    words-ran (n .pre .0) (o .load-words .last .1 .0) (p .before .before .before .after-save .ensures) (p .before .before .if1 .left) (p .if2 .left) (v .run-from .ensures) (u .load-outputs .ensures ∙ ap (withOutputs _ _) (q .load-variables .ensures)) (o .load-words .ensures) (w .store .ensures)
+    words-ran (n .pre .0) (o .load-words .last .1 .0) (p .before .before .before .after-save .ensures) (p .before .before .if1 .left) (p .if2 .left) (v .run-from .ensures)
+    (u .load-outputs .ensures ∙ ap (withOutputs _ _) (q .load-variables .ensures)) (o .load-words .ensures) (w .store .ensures)
 
 pub resume-ready-spec : {M : Type 1} → statement M
 resume-ready-spec =
@@ -144,8 +160,8 @@ resume-ready-spec =
     load-outputs-requires
     slice-aggregate-fill
     fill-requires
+    add-limit
     slice-aggregate-run-from
-    add-run-from
     slice-aggregate-run-from-2
     run-from-requires
     slice-aggregate-store

@@ -25,8 +25,12 @@ enum-known-r-2 c = search needs
 run-until-ready-requires : tie.Need-run-until-ready-requires
 run-until-ready-requires c κs =
     let w = c .before .before .before .before .before in
-    let v = w .before .before .before .before .before .before .before .before .before .before .before in
-    (is-ready _ _ _ _ _ _ _ _ (w .before .before .before .bad-buffers .ensures) (subst (Readies _ _ _ _) (w .r2 .given .1) (w .before .before .ready .ensures)), image-lent (v .args .settings .now) (v .args .form) (v .args .file .now) (v .args .variables .now) (v .args .inputs .now) (v .args .levels .now) (v .args .marks .now) (v .args .image .now) (w .before .before .before .bad-buffers .ensures) (subst (Readies _ _ _ _) (w .r2 .given .1) (w .before .before .ready .ensures)))
+    let v = w .before .before .before .before .before .before .before .before .before .before .before in (
+      is-ready _ _ _ _ _ _ _ _ (w .before .before .before .bad-buffers .ensures) (subst (Readies _ _ _ _) (w .r2 .given .1) (w .before .before .ready .ensures)),
+      image-lent
+          (v .args .settings .now) (v .args .form) (v .args .file .now) (v .args .variables .now) (v .args .inputs .now) (v .args .levels .now) (v .args .marks .now) (v .args .image .now)
+          (w .before .before .before .bad-buffers .ensures) (subst (Readies _ _ _ _) (w .r2 .given .1) (w .before .before .ready .ensures)),
+    )
 
 returns : tie.Need-returns
 returns c =
@@ -49,7 +53,8 @@ returns-2 : tie.Need-returns-2
 returns-2 c =
     let w = c .before .before .before .before .before .before .before .before in
     let v = w .before .before .before .before .before .before in
-    until-finished _ _ _ _ _ _ _ _ (v .before .before .before .bad-buffers .ensures) _ (subst (Readies _ _ _ _) (v .r2 .given .1) (v .before .before .ready .ensures)) (w .run-until-ready .ensures)
+    until-finished _ _ _ _ _ _ _ _ (v .before .before .before .bad-buffers .ensures) _ (subst (Readies _ _ _ _) (v .r2 .given .1) (v .before .before .ready .ensures))
+    (w .run-until-ready .ensures)
 
 pub run-until-spec : {M : Type 1} → statement M
 run-until-spec =

@@ -49,7 +49,13 @@ store-requires c κs =
     let w = c .before .before .before .before .before .before .before in
     let v = w .before .before .before .before .before .before .before in
     let u = v .before .before .before .before .before .before .before .before .before in (
-      record { cells = w .run-block .kept .1 .1 .1 .1 .1 .1 .1 .1 .0 ∙ v .load-variables .kept .0; variables = lent (u .pre .0) .variables; levels = lent (u .pre .0) .levels; marks = lent (u .pre .0) .marks },
+      record {
+        cells = w .run-block .kept .1 .1 .1 .1 .1 .1 .1 .1 .0 ∙ v .load-variables .kept .0;
+        variables = lent (u .pre .0) .variables;
+        levels = lent (u .pre .0) .levels;
+        marks = lent
+            (u .pre .0) .marks;
+      },
       left-bytes (stop-left (u .pre .0) (w .run-block .ensures) (v .load-variables .ensures)) (zeros-bytes 8),
     )
 

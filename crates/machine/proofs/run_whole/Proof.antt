@@ -50,7 +50,8 @@ store-requires c κs =
     let u = v .before .before .before .before .before in
     let q = u .before .before .before .before .before .before .before .before in (
       record { cells = search needs; variables = lent (q .pre) .variables; levels = lent (q .pre) .levels; marks = lent (q .pre) .marks },
-      left-bytes (run-left (q .pre) (w .run-block .ensures) (v .load-outputs .ensures ∙ ap (withOutputs _ _) (u .load-variables .ensures))) (λ i. u .before .before .before .slice-known3 .given i .fits),
+      left-bytes (run-left (q .pre) (w .run-block .ensures) (v .load-outputs .ensures ∙ ap (withOutputs _ _) (u .load-variables .ensures)))
+          (λ i. u .before .before .before .slice-known3 .given i .fits),
     )
 
 same-length : tie.Need-same-length

@@ -111,19 +111,84 @@ abbrev run-block-μ-loop : run-block-lts.MeasureT-loop
 run-block-μ-loop s from to ends n inputs limit tick cells₀ at₀ next₀ cells at next = to - next
 
 abbrev run-block-claims : ℕ → run-block-lts.Claims
-run-block-claims t = (kind-at-reads.Asked, kind-at-reads.Learnt, closes-reads.Asked, closes-reads.Learnt, going-reads.Asked, going-reads.Learnt, run-statement-below t, run-statement.Post, ended-reads.Asked, ended-reads.Learnt)
+run-block-claims t = (
+  kind-at-reads.Asked,
+  kind-at-reads.Learnt,
+  closes-reads.Asked,
+  closes-reads.Learnt,
+  going-reads.Asked,
+  going-reads.Learnt,
+  run-statement-below t,
+  run-statement.Post,
+  ended-reads.Asked,
+  ended-reads.Learnt,
+)
 
 abbrev run-branch-claims : ℕ → run-branch-lts.Claims
-run-branch-claims t = (cut-off-reads.Asked, cut-off-reads.Learnt, test-holds-reads.Asked, test-holds-reads.Learnt, side-reads.Asked, side-reads.Learnt, run-block-below t, run-block.Post, ended-reads.Asked, ended-reads.Learnt, past-reads.Asked, past-reads.Learnt, going-reads.Asked, going-reads.Learnt)
+run-branch-claims t = (
+  cut-off-reads.Asked,
+  cut-off-reads.Learnt,
+  test-holds-reads.Asked,
+  test-holds-reads.Learnt,
+  side-reads.Asked,
+  side-reads.Learnt,
+  run-block-below t,
+  run-block.Post,
+  ended-reads.Asked,
+  ended-reads.Learnt,
+  past-reads.Asked,
+  past-reads.Learnt,
+  going-reads.Asked,
+  going-reads.Learnt,
+)
 
 abbrev run-statement-claims : ℕ → run-statement-lts.Claims
-run-statement-claims t = (record-at-reads.Asked, record-at-reads.Learnt, run-branch-below t, run-branch.Post, run-while-below t, run-while.Post, run-times-below t, run-times.Post, step-ticks-reads.Asked, step-ticks-reads.Learnt, run-step-reads.Asked, run-step-reads.Learnt)
+run-statement-claims t = (
+  record-at-reads.Asked,
+  record-at-reads.Learnt,
+  run-branch-below t,
+  run-branch.Post,
+  run-while-below t,
+  run-while.Post,
+  run-times-below t,
+  run-times.Post,
+  step-ticks-reads.Asked,
+  step-ticks-reads.Learnt,
+  run-step-reads.Asked,
+  run-step-reads.Learnt,
+)
 
 abbrev run-times-claims : ℕ → run-times-lts.Claims
-run-times-claims t = (behind-reads.Asked, behind-reads.Learnt, rounds-reads.Asked, rounds-reads.Learnt, run-block-below t, run-block.Post, ended-reads.Asked, ended-reads.Learnt, run-last-test-reads.Asked, run-last-test-reads.Learnt)
+run-times-claims t = (
+  behind-reads.Asked,
+  behind-reads.Learnt,
+  rounds-reads.Asked,
+  rounds-reads.Learnt,
+  run-block-below t,
+  run-block.Post,
+  ended-reads.Asked,
+  ended-reads.Learnt,
+  run-last-test-reads.Asked,
+  run-last-test-reads.Learnt,
+)
 
 abbrev run-while-claims : ℕ → run-while-lts.Claims
-run-while-claims t = (behind-reads.Asked, behind-reads.Learnt, cut-off-reads.Asked, cut-off-reads.Learnt, test-holds-reads.Asked, test-holds-reads.Learnt, going-reads.Asked, going-reads.Learnt, run-block-below t, run-block.Post, ended-reads.Asked, ended-reads.Learnt, run-last-test-reads.Asked, run-last-test-reads.Learnt)
+run-while-claims t = (
+  behind-reads.Asked,
+  behind-reads.Learnt,
+  cut-off-reads.Asked,
+  cut-off-reads.Learnt,
+  test-holds-reads.Asked,
+  test-holds-reads.Learnt,
+  going-reads.Asked,
+  going-reads.Learnt,
+  run-block-below t,
+  run-block.Post,
+  ended-reads.Asked,
+  ended-reads.Learnt,
+  run-last-test-reads.Asked,
+  run-last-test-reads.Learnt,
+)
 
 run-block-loop-holds : (t : ℕ) → run-block-lts.Need-loop-holds (run-block-claims t) (run-block-at t) run-block.Post run-block-Inv-loop run-block-μ-loop
 run-block-loop-holds t c =
@@ -150,8 +215,11 @@ run-block-returns t c =
 run-block-run-statement-requires : (t : ℕ) → run-block-lts.Need-run-statement-requires (run-block-claims t) (run-block-at t) run-block.Post run-block-Inv-loop run-block-μ-loop
 run-block-run-statement-requires t c κs =
     let w = c .before .before .before .before in
-    let v = w .before .before .before .before .before .before in
-    (omega (arith, v .pre .0, w .before .loop .inv .on), statement-next (w .before .loop .inv) (w .loop-test .taken) (closing-told (c .before .before .before .kind-at .ensures) (c .before .before .closes .ensures) (c .before .if1 .left)))
+    let v = w .before .before .before .before .before .before in (
+      omega (arith, v .pre .0, w .before .loop .inv .on),
+      statement-next (w .before .loop .inv) (w .loop-test .taken)
+          (closing-told (c .before .before .before .kind-at .ensures) (c .before .before .closes .ensures) (c .before .if1 .left)),
+    )
 
 run-block-ended-requires : (t : ℕ) → run-block-lts.Need-ended-requires (run-block-claims t) (run-block-at t) run-block.Post run-block-Inv-loop run-block-μ-loop
 run-block-ended-requires t c κs = search needs
@@ -163,19 +231,27 @@ run-block-returns-2 : (t : ℕ) → run-block-lts.Need-returns-2 (run-block-clai
 run-block-returns-2 t c =
     let w = c .before .before .before .before in
     let v = w .before .before .before .before in
-    running-halted (v .before .before .loop .inv) (v .before .loop-test .taken) (closing-told (v .kind-at .ensures) (w .before .before .before .closes .ensures) (w .before .before .if1 .left)) (w .run-statement .ensures) (sym (c .before .ended .ensures) ∙ c .if2 .taken)
+    running-halted (v .before .before .loop .inv) (v .before .loop-test .taken)
+    (closing-told (v .kind-at .ensures) (w .before .before .before .closes .ensures) (w .before .before .if1 .left)) (w .run-statement .ensures)
+    (sym (c .before .ended .ensures) ∙ c .if2 .taken)
 
 run-block-loop-less : (t : ℕ) → run-block-lts.Need-loop-less (run-block-claims t) (run-block-at t) run-block.Post run-block-Inv-loop run-block-μ-loop
 run-block-loop-less t c =
     let w = c .before .before .before .before in
     let v = w .before .before .before .before in
-    omega (arith, running-on (v .before .before .loop .inv) (v .before .loop-test .taken) (closing-told (v .kind-at .ensures) (w .before .before .before .closes .ensures) (w .before .before .if1 .left)) (w .run-statement .ensures) (sym (c .before .ended .ensures) ∙ c .if2 .left))
+    omega (
+      arith,
+      running-on (v .before .before .loop .inv) (v .before .loop-test .taken)
+          (closing-told (v .kind-at .ensures) (w .before .before .before .closes .ensures) (w .before .before .if1 .left)) (w .run-statement .ensures)
+          (sym (c .before .ended .ensures) ∙ c .if2 .left),
+    )
 
 run-block-loop-again : (t : ℕ) → run-block-lts.Need-loop-again (run-block-claims t) (run-block-at t) run-block.Post run-block-Inv-loop run-block-μ-loop
 run-block-loop-again t c =
     let w = c .before .before .before .before in
     let v = w .before .before .before .before in
-    running-next (v .before .before .loop .inv) (v .before .loop-test .taken) (closing-told (v .kind-at .ensures) (w .before .before .before .closes .ensures) (w .before .before .if1 .left)) (w .run-statement .ensures) (sym (c .before .ended .ensures) ∙ c .if2 .left) (search needs)
+    running-next (v .before .before .loop .inv) (v .before .loop-test .taken) (closing-told (v .kind-at .ensures) (w .before .before .before .closes .ensures) (w .before .before .if1 .left))
+    (w .run-statement .ensures) (sym (c .before .ended .ensures) ∙ c .if2 .left) (search needs)
 
 run-block-going-requires-2 : (t : ℕ) → run-block-lts.Need-going-requires-2 (run-block-claims t) (run-block-at t) run-block.Post run-block-Inv-loop run-block-μ-loop
 run-block-going-requires-2 t c κs = search needs
@@ -210,8 +286,11 @@ run-branch-add-run-block t c = search needs
 run-branch-run-block-requires : (t : ℕ) → run-branch-lts.Need-run-block-requires (run-branch-claims t) (run-branch-at t) run-branch.Post
 run-branch-run-block-requires t c κs =
     let w = c .before .before .before .before in
-    let v = w .before .before .before .before .before in
-    (omega (arith, v .pre .0, v .pre .1 .0 .inside, c .before .side .ensures, side-after (v .pre .1 .0) (v .pre .1 .2) (c .before .before .test-holds .result)), side-entered (v .pre .1 .0) (v .pre .1 .2) (w .if1 .left) (v .pre .1 .1) (c .before .before .test-holds .ensures) (c .before .side .ensures))
+    let v = w .before .before .before .before .before in (
+      omega (arith, v .pre .0, v .pre .1 .0 .inside, c .before .side .ensures, side-after (v .pre .1 .0) (v .pre .1 .2) (c .before .before .test-holds .result)),
+      side-entered (v .pre .1 .0)
+          (v .pre .1 .2) (w .if1 .left) (v .pre .1 .1) (c .before .before .test-holds .ensures) (c .before .side .ensures),
+    )
 
 run-branch-ended-requires : (t : ℕ) → run-branch-lts.Need-ended-requires (run-branch-claims t) (run-branch-at t) run-branch.Post
 run-branch-ended-requires t c κs = search needs
@@ -224,14 +303,16 @@ run-branch-returns-2 t c =
     let w = c .before .before .before .before in
     let v = w .before .before .before .before .before in
     let u = v .before .before .before .before .before in
-    branch-halted (u .pre .1 .0) (u .pre .1 .2) (v .if1 .left) (u .pre .1 .1) (w .before .before .before .test-holds .ensures) (w .before .before .side .ensures) (w .run-block .ensures) (sym (c .before .ended .ensures) ∙ c .if2 .taken)
+    branch-halted (u .pre .1 .0) (u .pre .1 .2) (v .if1 .left) (u .pre .1 .1) (w .before .before .before .test-holds .ensures) (w .before .before .side .ensures) (w .run-block .ensures)
+    (sym (c .before .ended .ensures) ∙ c .if2 .taken)
 
 run-branch-past-requires : (t : ℕ) → run-branch-lts.Need-past-requires (run-branch-claims t) (run-branch-at t) run-branch.Post
 run-branch-past-requires t c κs =
     let w = c .before .before .before .before in
     let v = w .before .before .before .before .before in
     let u = v .before .before .before .before .before in
-    side-ends (u .pre .1 .0) (u .pre .1 .2) (v .if1 .left) (u .pre .1 .1) (w .before .before .before .test-holds .ensures) (w .before .before .side .ensures) (w .run-block .ensures) (sym (c .before .ended .ensures) ∙ c .if2 .left)
+    side-ends (u .pre .1 .0) (u .pre .1 .2) (v .if1 .left) (u .pre .1 .1) (w .before .before .before .test-holds .ensures) (w .before .before .side .ensures) (w .run-block .ensures)
+    (sym (c .before .ended .ensures) ∙ c .if2 .left)
 
 run-branch-going-requires : (t : ℕ) → run-branch-lts.Need-going-requires (run-branch-claims t) (run-branch-at t) run-branch.Post
 run-branch-going-requires t c κs = search needs
@@ -244,7 +325,8 @@ run-branch-returns-3 t c =
     let w = c .before .before .before .before .before .before in
     let v = w .before .before .before .before .before in
     let u = v .before .before .before .before .before in
-    branch-ran (u .pre .1 .0) (u .pre .1 .2) (v .if1 .left) (u .pre .1 .1) (w .before .before .before .test-holds .ensures) (w .before .before .side .ensures) (w .run-block .ensures) (sym (c .before .before .before .ended .ensures) ∙ c .before .before .if2 .left) (c .before .past .ensures) (c .going .ensures)
+    branch-ran (u .pre .1 .0) (u .pre .1 .2) (v .if1 .left) (u .pre .1 .1) (w .before .before .before .test-holds .ensures) (w .before .before .side .ensures) (w .run-block .ensures)
+    (sym (c .before .before .before .ended .ensures) ∙ c .before .before .if2 .left) (c .before .past .ensures) (c .going .ensures)
 
 run-statement-record-at-requires : (t : ℕ) → run-statement-lts.Need-record-at-requires (run-statement-claims t) (run-statement-at t) run-statement.Post
 run-statement-record-at-requires t c κs =
@@ -303,7 +385,8 @@ run-statement-returns-4 t c =
     let w = c .before .before .before .before in
     let v = w .before .before .before .before .before in
     let u = v .before .before .before .before .before .before .before in
-    step-ran (u .pre .1) (v .before .before .record-at .ensures) (v .if1 .left) (w .before .before .before .if2 .left) (w .before .if3 .left) (w .step-ticks .ensures) (c .before .before .run-step .ensures)
+    step-ran (u .pre .1) (v .before .before .record-at .ensures) (v .if1 .left) (w .before .before .before .if2 .left) (w .before .if3 .left) (w .step-ticks .ensures)
+    (c .before .before .run-step .ensures)
 
 abbrev run-times-Inv-loop : run-times-lts.InvT-loop
 run-times-Inv-loop s i to ends r n inputs limit tick cells₀ body next last at₀ round₀ cells at round = Turning s i to ends (recordOf r) n inputs limit at₀ cells₀ cells at last round next
@@ -437,7 +520,8 @@ run-while-returns-3 : (t : ℕ) → run-while-lts.Need-returns-3 (run-while-clai
 run-while-returns-3 t c =
     let w = c .before .before .before .before in
     let v = w .before .before .before .before .before in
-    spinning-halted (v .before .before .before .loop .inv) (v .before .if1 .taken) (v .if2 .left) (w .before .before .before .test-holds .ensures) (w .before .before .if3 .left) (w .run-block .ensures) (sym (c .before .ended .ensures) ∙ c .if4 .taken)
+    spinning-halted (v .before .before .before .loop .inv) (v .before .if1 .taken) (v .if2 .left) (w .before .before .before .test-holds .ensures) (w .before .before .if3 .left)
+    (w .run-block .ensures) (sym (c .before .ended .ensures) ∙ c .if4 .taken)
 
 run-while-add-round : (t : ℕ) → run-while-lts.Need-add-round (run-while-claims t) (run-while-at t) run-while.Post run-while-Inv-loop run-while-μ-loop
 run-while-add-round t c = search needs
@@ -449,7 +533,8 @@ run-while-loop-again : (t : ℕ) → run-while-lts.Need-loop-again (run-while-cl
 run-while-loop-again t c =
     let w = c .before .before .before .before in
     let v = w .before .before .before .before .before in
-    spinning-next (v .before .before .before .loop .inv) (v .before .if1 .taken) (v .if2 .left) (w .before .before .before .test-holds .ensures) (w .before .before .if3 .left) (w .run-block .ensures) (sym (c .before .ended .ensures) ∙ c .if4 .left) (search needs)
+    spinning-next (v .before .before .before .loop .inv) (v .before .if1 .taken) (v .if2 .left) (w .before .before .before .test-holds .ensures) (w .before .before .if3 .left)
+    (w .run-block .ensures) (sym (c .before .ended .ensures) ∙ c .if4 .left) (search needs)
 
 run-while-run-last-test-requires : (t : ℕ) → run-while-lts.Need-run-last-test-requires (run-while-claims t) (run-while-at t) run-while.Post run-while-Inv-loop run-while-μ-loop
 run-while-run-last-test-requires t c κs =
