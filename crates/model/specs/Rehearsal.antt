@@ -1,4 +1,4 @@
--- The chain of calls as `rehearse` makes it: one composition of the replies, and what demand 3 says of it.
+-- Document 01, "Stopping and taking up", its second paragraph: the chain of calls as `rehearse` makes it, and what demand 3 says of it.
 use Prim.Native.Nat.{ℕ, _*_, _-_, _<_}
 use mathlib.Core.Path.{_≡_}
 use mathlib.Core.Logic.{_↔_}
