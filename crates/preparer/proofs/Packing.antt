@@ -4,12 +4,13 @@ use native.Mathlib.Omega.{arith}
 use mathlib.Core.Path.{_≡_, refl, ap, sym, _∙_}
 use mathlib.Core.List.{List, [], _∷_}
 use Rattle.model.specs.declared.Refusal.{Refusal}
-use Rattle.model.specs.declared.LaidOut.{LaidOut}
+use Rattle.model.specs.declared.Form.{Form}
 use Rattle.model.specs.Trees.{size}
-use Rattle.model.specs.Answers.{Verdict, refusal, laidOut}
-use Rattle.model.specs.Replies.{laidTree, layOutReply}
-use Rattle.theory.proofs.Accepted.{lay-out-accepted}
-use Rattle.preparer.specs.Words.{numberIn, valueIn, refusedWord, packed}
+use Rattle.model.specs.Runs.{Buffers}
+use Rattle.model.specs.Answers.{Verdict, finished, refused, refusal}
+use Rattle.model.specs.Replies.{equalisedTree, equaliseReply, laidTree, layOutReply}
+use Rattle.theory.proofs.Accepted.{equalise-accepted, lay-out-accepted}
+use Rattle.preparer.specs.Words.{numberIn, valueIn, firstIn, refusedWord, runWord, packed}
 
 -- a refusal, for every call alike
 pub refused-packed : (word : List ℕ → ℕ) (x : Refusal) → refusedWord (numberIn (refusal x)) (valueIn (refusal x)) ≡ packed word (refusal x)
@@ -26,14 +27,22 @@ refused-packed word Refusal.BadBuffers = refl
 refused-packed word Refusal.BadImage = refl
 refused-packed word Refusal.LateStop = refl
 
--- WHAT LAYING OUT ANSWERS, once it is known which case that is
-
-pub laid-packed : (word : List ℕ → ℕ) {v : Verdict} {r q : LaidOut} → r ≡ q → laidOut r ≡ v → packed word (laidOut q) ≡ packed word v
-laid-packed word is e = ap (λ (x : LaidOut). packed word (laidOut x)) (sym is) ∙ ap (packed word) e
-
--- the bytes written have room in bits 0 to 23
-pub few-bytes : (s file : List ℕ) (room : ℕ) {n t : ℕ} {r : LaidOut} → r ≡ LaidOut.Written n t → laidOut r ≡ layOutReply s file room → n ≤ 65532
-few-bytes s file room {n} {t} is e =
-    let a = lay-out-accepted s file room (n ∷ t ∷ []) (sym e ∙ ap laidOut is) in
-    let bytes : 12 * size (laidTree s file) ≡ n = cc (a .answers) in
+-- The bytes written have room in bits 0 to 23.
+pub equalised-few : (s file : List ℕ) (room : ℕ) (v : Verdict) → v ≡ equaliseReply s file room → firstIn v ≤ 65532
+equalised-few s file room (finished xs) e =
+    let a = equalise-accepted s file room xs (sym e) in
+    let bytes : 12 * size (equalisedTree s file) ≡ firstIn (finished xs) = ap (λ (ys : List ℕ). firstIn (finished ys)) (a .answers) in
     omega (arith, a .has-room .few)
+equalised-few s file room (refused n xs) e = omega arith
+
+pub laid-few : (s file : List ℕ) (room : ℕ) (v : Verdict) → v ≡ layOutReply s file room → firstIn v ≤ 65532
+laid-few s file room (finished xs) e =
+    let a = lay-out-accepted s file room xs (sym e) in
+    let bytes : 12 * size (laidTree s file) ≡ firstIn (finished xs) = ap (λ (ys : List ℕ). firstIn (finished ys)) (a .answers) in
+    omega (arith, a .has-room .few)
+laid-few s file room (refused n xs) e = omega arith
+
+-- A call on a file whose form came as a number.
+pub by-form : (reply : Form → Verdict) (left : Form → Buffers) {f g : Form} {v : Verdict} {b : Buffers} {r : ℕ}
+    → f ≡ g → v ≡ reply f → b ≡ left f → r ≡ packed runWord v → (r ≡ packed runWord (reply g)) × (b ≡ left g)
+by-form reply left e answer leaves packs = (packs ∙ ap (packed runWord) (answer ∙ ap reply e), leaves ∙ ap left e)

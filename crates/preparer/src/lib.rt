@@ -1,69 +1,44 @@
 // The calls as C makes them. Each answers one number, in which specs/Words.antt packs what the paper returns.
+mod answers;
+mod words;
+
 ghost use mathlib.Core.Path.{_≡_};
-ghost use Prim.Native.Nat.{_≤_};
 ghost use lib.ListN.{length};
-ghost use Rattle.model.specs.Answers.{refusal};
-ghost use Rattle.model.specs.Replies.{layOutReply, layOutOut};
-ghost use Rattle.preparer.specs.Words.{numberIn, valueIn, refusedWord, fileWord, packed};
+ghost use Rattle.model.specs.Replies.{timeReply, equaliseReply, equaliseOut, layOutReply, layOutOut, loan, buffersOf};
+ghost use Rattle.model.specs.Replies.{runReply, runBuffers, stopReply, stopBuffers, stopImage, resumeReply, resumeBuffers, restartReply, restartBuffers};
+ghost use Rattle.preparer.specs.Words.{formOf, fileWord, runWord, packed};
+use answers::equalised_word;
+use answers::laid_word;
+use answers::ran_word;
+use answers::resumed_word;
+use answers::stopped_word;
+use answers::time_word;
+use equaliser::equalise;
 use layout::lay_out;
-use model::LaidOut;
-use model::Refusal;
+use machine::restart;
+use machine::resume;
+use machine::run;
+use machine::run_until;
+use timing::time_file;
+use words::form_of;
 
-// Where a refusal's mark and its number stand, and a file's second value.
-const REFUSED: u64 = 1 << 63;
-
-const NUMBER: u64 = 1 << 56;
-
-const SECOND: u64 = 1 << 24;
-
-fn number(x: Refusal) -> u64
-    ensures { λ r. ⌜ (r ≡ numberIn (refusal x)) × (r ≤ 12) ⌝ }
+// timing::time_file
+#[no_mangle]
+pub extern "C" fn rack_time(settings: &[u8], form: u8, file: &[u8]) -> u64
+    ensures { λ r. ⌜ r ≡ packed fileWord (timeReply (now (settings .entry)) (formOf form) (now (file .entry))) ⌝ }
 {
-    match x {
-        Refusal::BadLength(_) => 1,
-        Refusal::BadKind(_) => 2,
-        Refusal::BadField(_) => 3,
-        Refusal::BadStructure(_) => 4,
-        Refusal::TooDeep(_) => 5,
-        Refusal::BadSettings => 6,
-        Refusal::ShortWindow => 7,
-        Refusal::OverPeriod => 8,
-        Refusal::NoRoom => 9,
-        Refusal::BadBuffers => 10,
-        Refusal::BadImage => 11,
-        Refusal::LateStop => 12,
-    }
+    let timed = time_file(settings, form_of(form), file);
+    time_word(timed)
 }
 
-fn value(x: Refusal) -> usize
-    ensures { λ r. ⌜ r ≡ valueIn (refusal x) ⌝ }
+// equaliser::equalise
+#[no_mangle]
+pub extern "C" fn rack_equalise(settings: &[u8], task: &[u8], out: &mut [u8]) -> u64
+    ensures { λ r. ⌜ (r ≡ packed fileWord (equaliseReply (now (settings .entry)) (now (task .entry)) (length (now (out .entry)))))
+        × (now (out .exit) ≡ equaliseOut (now (settings .entry)) (now (task .entry)) (now (out .entry))) ⌝ }
 {
-    match x {
-        Refusal::BadLength(n) => n,
-        Refusal::BadKind(i) => i,
-        Refusal::BadField(i) => i,
-        Refusal::BadStructure(i) => i,
-        Refusal::TooDeep(i) => i,
-        Refusal::BadSettings => 0,
-        Refusal::ShortWindow => 0,
-        Refusal::OverPeriod => 0,
-        Refusal::NoRoom => 0,
-        Refusal::BadBuffers => 0,
-        Refusal::BadImage => 0,
-        Refusal::LateStop => 0,
-    }
-}
-
-// A refusal, which every call packs alike.
-fn refused(x: Refusal) -> u64
-    ensures { λ r. ⌜ r ≡ refusedWord (numberIn (refusal x)) (valueIn (refusal x)) ⌝ }
-{
-    let head = REFUSED + NUMBER * number(x);
-    let value = value(x) as u64;
-    if value < NUMBER {
-        return head + value;
-    }
-    head + (NUMBER - 1)
+    let made = equalise(settings, task, out);
+    equalised_word(made)
 }
 
 // layout::lay_out
@@ -73,8 +48,118 @@ pub extern "C" fn rack_lay_out(settings: &[u8], equalised: &[u8], out: &mut [u8]
         × (now (out .exit) ≡ layOutOut (now (settings .entry)) (now (equalised .entry)) (now (out .entry))) ⌝ }
 {
     let laid = lay_out(settings, equalised, out);
-    match laid {
-        LaidOut::Written { bytes, total } => bytes as u64 + SECOND * total as u64,
-        LaidOut::Refused(x) => refused(x),
-    }
+    laid_word(laid)
+}
+
+// machine::run
+#[no_mangle]
+pub extern "C" fn rack_run(
+    settings: &[u8],
+    form: u8,
+    file: &[u8],
+    variables: &mut [u32],
+    inputs: &[u32],
+    levels: &mut [u32],
+    marks: &mut [u8],
+) -> u64
+    ensures { λ r. ⌜ (let c = loan (now (settings .entry)) (formOf form) (now (file .entry)) (now (variables .entry)) (now (inputs .entry)) (now (levels .entry)) (now (marks .entry)) in
+        ((r ≡ packed runWord (runReply c)) × (buffersOf (now (variables .exit)) (now (levels .exit)) (now (marks .exit)) ≡ runBuffers c))) ⌝ }
+{
+    let end = run(
+        settings,
+        form_of(form),
+        file,
+        variables,
+        inputs,
+        levels,
+        marks,
+    );
+    ran_word(end)
+}
+
+// machine::run_until
+#[no_mangle]
+pub extern "C" fn rack_run_until(
+    settings: &[u8],
+    form: u8,
+    file: &[u8],
+    variables: &mut [u32],
+    inputs: &[u32],
+    levels: &mut [u32],
+    marks: &mut [u8],
+    image: &mut [u8],
+    stop: u32,
+) -> u64
+    ensures { λ r. ⌜ (let c = loan (now (settings .entry)) (formOf form) (now (file .entry)) (now (variables .entry)) (now (inputs .entry)) (now (levels .entry)) (now (marks .entry)) in
+        ((r ≡ packed runWord (stopReply c (now (image .entry)) stop))
+        × (buffersOf (now (variables .exit)) (now (levels .exit)) (now (marks .exit)) ≡ stopBuffers c (now (image .entry)) stop)
+        × (now (image .exit) ≡ stopImage c (now (image .entry)) stop))) ⌝ }
+{
+    let end = run_until(
+        settings,
+        form_of(form),
+        file,
+        variables,
+        inputs,
+        levels,
+        marks,
+        image,
+        stop,
+    );
+    stopped_word(end)
+}
+
+// machine::resume
+#[no_mangle]
+pub extern "C" fn rack_resume(
+    settings: &[u8],
+    form: u8,
+    file: &[u8],
+    image: &[u8],
+    variables: &mut [u32],
+    inputs: &[u32],
+    levels: &mut [u32],
+    marks: &mut [u8],
+) -> u64
+    ensures { λ r. ⌜ (let c = loan (now (settings .entry)) (formOf form) (now (file .entry)) (now (variables .entry)) (now (inputs .entry)) (now (levels .entry)) (now (marks .entry)) in
+        ((r ≡ packed runWord (resumeReply c (now (image .entry))))
+        × (buffersOf (now (variables .exit)) (now (levels .exit)) (now (marks .exit)) ≡ resumeBuffers c (now (image .entry))))) ⌝ }
+{
+    let end = resume(
+        settings,
+        form_of(form),
+        file,
+        variables,
+        inputs,
+        levels,
+        marks,
+        image,
+    );
+    resumed_word(end)
+}
+
+// machine::restart
+#[no_mangle]
+pub extern "C" fn rack_restart(
+    settings: &[u8],
+    form: u8,
+    file: &[u8],
+    variables: &mut [u32],
+    inputs: &[u32],
+    levels: &mut [u32],
+    marks: &mut [u8],
+) -> u64
+    ensures { λ r. ⌜ (let c = loan (now (settings .entry)) (formOf form) (now (file .entry)) (now (variables .entry)) (now (inputs .entry)) (now (levels .entry)) (now (marks .entry)) in
+        ((r ≡ packed runWord (restartReply c)) × (buffersOf (now (variables .exit)) (now (levels .exit)) (now (marks .exit)) ≡ restartBuffers c))) ⌝ }
+{
+    let end = restart(
+        settings,
+        form_of(form),
+        file,
+        variables,
+        inputs,
+        levels,
+        marks,
+    );
+    resumed_word(end)
 }
