@@ -1,18 +1,85 @@
 // The rack task preparer, for C. Link with libpreparer.a.
+//
+// Document 01 decides what each call does; README.md has the formats and the refusals in tables. A call keeps nothing, uses no heap, and
+// ends whatever it is handed.
+//
+// A call answers one number.
+// Finished: bit 63 is 0. Bits 0 to 23 hold the first value, bits 24 to 55 the second, and bits 56 to 62 the flags: RACK_OVERRAN and
+// RACK_SAVED. What a call does not name is 0.
+// Refused: bit 63 is 1, bits 56 to 62 hold the refusal's number, and bits 0 to 55 the record index (2 to 5) or the length in bytes (1)
+// that is returned with it, 2^56 - 1 for any length above that, 0 where the number is returned alone. No byte that was lent is changed.
+//
+// Slices are a pointer and a number of elements. A pointer is not null, also where the number is 0, and leads to as many elements. The
+// buffers of one call do not overlap. A call needs up to 16 KB of stack.
 #ifndef RACK_H
 #define RACK_H
 
 #include <stddef.h>
 #include <stdint.h>
 
-// A call answers one number.
-// Finished: bit 63 is 0, and the other bits hold what the call says.
-// Refused: bit 63 is 1, bits 56 to 62 hold the refusal's number, and bits 0 to 55 the record index or the length in bytes that is
-// returned with it, 2^56 - 1 for any length above that, 0 where the number is returned alone. No byte that was lent is changed.
-// A pointer is not null, and leads to as many bytes as the length after it says. The buffers of one call do not overlap.
+#ifdef __cplusplus
+extern "C" {
+#endif
 
-// Lays out the equalised file into out. Bits 0 to 23 hold the bytes written and bits 24 to 55 the total in ticks.
+// The form of a file. 3 and up are reserved, and taken as laid.
+enum { RACK_TASK = 0, RACK_EQUALISED = 1, RACK_LAID = 2 };
+
+// The flags of a finished run.
+enum { RACK_OVERRAN = 1, RACK_SAVED = 2 };
+
+// Lengths that the table asks for, and the bytes of the longest file.
+enum { RACK_SETTINGS = 12, RACK_VARIABLES = 16, RACK_PORTS = 8, RACK_IMAGE = 72, RACK_LONGEST = 65532 };
+
+// The parts of an answer.
+static inline int rack_refused(uint64_t answer) { return (int)(answer >> 63); }
+static inline unsigned rack_number(uint64_t answer) { return (unsigned)(answer >> 56 & 127); }
+static inline uint64_t rack_value(uint64_t answer) { return answer & 0xffffffffffffff; }
+static inline uint32_t rack_first(uint64_t answer) { return (uint32_t)(answer & 0xffffff); }
+static inline uint32_t rack_second(uint64_t answer) { return (uint32_t)(answer >> 24 & 0xffffffff); }
+static inline unsigned rack_flags(uint64_t answer) { return (unsigned)(answer >> 56 & 127); }
+
+// The time of a file. First value: the time in ticks. Refusals 6, 1 to 5 and 8.
+uint64_t rack_time(const uint8_t *settings, size_t settings_length, uint8_t form, const uint8_t *file, size_t file_length);
+
+// Writes the equalised task over the front of out; what follows it there stays. First value: the bytes written, second: the time in
+// ticks. Refusals 6, 1 to 5, 8 and 9.
+uint64_t rack_equalise(const uint8_t *settings, size_t settings_length, const uint8_t *task, size_t task_length, uint8_t *out,
+                       size_t out_length);
+
+// Lays out an equalised file over the front of out; what follows it there stays. First value: the bytes written, second: the total in
+// ticks. Refusals 6, 1 to 5, 7, 8 and 9.
 uint64_t rack_lay_out(const uint8_t *settings, size_t settings_length, const uint8_t *equalised, size_t equalised_length, uint8_t *out,
                       size_t out_length);
+
+// Runs a file of any form from its first record, with levels and marks set to 0 first. variables, levels and marks show how it ended.
+// First value: the end tick; flag RACK_OVERRAN. Refusals 6, 1 to 5, 8 and 10.
+uint64_t rack_run(const uint8_t *settings, size_t settings_length, uint8_t form, const uint8_t *file, size_t file_length,
+                  uint32_t *variables, size_t variables_length, const uint32_t *inputs, size_t inputs_length, uint32_t *levels,
+                  size_t levels_length, uint8_t *marks, size_t marks_length);
+
+// As rack_run, stopped at a tick before its end. variables, levels and marks show the state after the last step done, and image the last
+// finished checkpoint. First value: the stop tick; flag RACK_SAVED where there is an image, without which the image buffer is untouched.
+// Refusals 6, 1 to 5, 8, 10 and 12.
+// rack_restart needs the first variables: keep a copy, since this call writes over them.
+uint64_t rack_run_until(const uint8_t *settings, size_t settings_length, uint8_t form, const uint8_t *file, size_t file_length,
+                        uint32_t *variables, size_t variables_length, const uint32_t *inputs, size_t inputs_length, uint32_t *levels,
+                        size_t levels_length, uint8_t *marks, size_t marks_length, uint8_t *image, size_t image_length, uint32_t stop);
+
+// Takes a stopped run up from its image, with the same file and inputs and with levels and marks as the stop left them. Whatever
+// variables held before, they begin as the image has them. First value: the end tick, counted on from the image's; flag RACK_OVERRAN.
+// Refusals 6, 1 to 5, 8, 10 and 11.
+uint64_t rack_resume(const uint8_t *settings, size_t settings_length, uint8_t form, const uint8_t *file, size_t file_length,
+                     const uint8_t *image, size_t image_length, uint32_t *variables, size_t variables_length, const uint32_t *inputs,
+                     size_t inputs_length, uint32_t *levels, size_t levels_length, uint8_t *marks, size_t marks_length);
+
+// Takes a stopped run up where no checkpoint was finished: from the first record and the first variables, with levels and marks as the
+// stop left them. First value: the end tick; flag RACK_OVERRAN. Refusals 6, 1 to 5, 8 and 10.
+uint64_t rack_restart(const uint8_t *settings, size_t settings_length, uint8_t form, const uint8_t *file, size_t file_length,
+                      uint32_t *variables, size_t variables_length, const uint32_t *inputs, size_t inputs_length, uint32_t *levels,
+                      size_t levels_length, uint8_t *marks, size_t marks_length);
+
+#ifdef __cplusplus
+}
+#endif
 
 #endif

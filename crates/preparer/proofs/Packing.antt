@@ -10,7 +10,8 @@ use Rattle.model.specs.Runs.{Buffers}
 use Rattle.model.specs.Answers.{Verdict, finished, refused, refusal}
 use Rattle.model.specs.Replies.{equalisedTree, equaliseReply, laidTree, layOutReply}
 use Rattle.theory.proofs.Accepted.{equalise-accepted, lay-out-accepted}
-use Rattle.preparer.specs.Words.{numberIn, valueIn, firstIn, refusedWord, runWord, packed}
+use Rattle.refusals.specs.Numbers.{numberIn, valueIn}
+use Rattle.preparer.specs.Words.{firstIn, refusedWord, runWord, packed}
 
 -- a refusal, for every call alike
 pub refused-packed : (word : List ℕ → ℕ) (x : Refusal) → refusedWord (numberIn (refusal x)) (valueIn (refusal x)) ≡ packed word (refusal x)

@@ -12,15 +12,6 @@ use Rattle.model.specs.Answers.{Verdict, finished, refused}
 abbrev pub formOf : ℕ → Form
 formOf x = cond (eqb x 0) Task (cond (eqb x 1) Equalised Laid)
 
--- a refusal's number, and the value returned with it; 0 where there is none
-abbrev pub numberIn : Verdict → ℕ
-numberIn (finished xs) = 0
-numberIn (refused n xs) = n
-
-abbrev pub valueIn : Verdict → ℕ
-valueIn (finished xs) = 0
-valueIn (refused n xs) = getD xs 0 0
-
 -- the first value of a finished result; 0 where there is none
 abbrev pub firstIn : Verdict → ℕ
 firstIn (finished xs) = getD xs 0 0
