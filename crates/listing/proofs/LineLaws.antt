@@ -41,8 +41,15 @@ two r O l h = go (eqb (r .kind) READ) refl
 
 none : (r : Rec) → Others (r .kind) → (r .kind ≡ READ → ⊥) → (r .kind ≡ WRITE → ⊥) → numbersOf r ≡ []
 none r O x y =
-    simp (ne-eqb (r .kind) SKIP (O .no-skip), ne-eqb (r .kind) BEAT (O .no-beat), ne-eqb (r .kind) READ x, ne-eqb (r .kind) WRITE y,
-    ne-eqb (r .kind) SET (λ e. O .no-four (inl e)), ne-eqb (r .kind) IF (λ e. O .no-four (inr (inl e))), ne-eqb (r .kind) CHECK (λ e. O .no-four (inr (inr e))))
+    simp (
+      ne-eqb (r .kind) SKIP (O .no-skip),
+      ne-eqb (r .kind) BEAT (O .no-beat),
+      ne-eqb (r .kind) READ x,
+      ne-eqb (r .kind) WRITE y,
+      ne-eqb (r .kind) SET (λ e. O .no-four (inl e)),
+      ne-eqb (r .kind) IF (λ e. O .no-four (inr (inl e))),
+      ne-eqb (r .kind) CHECK (λ e. O .no-four (inr (inr e))),
+    )
 
 module _ (t : ℕ) (r : Rec) where
   abbrev Listed : ℕ → List ℕ → Type 0

@@ -7,7 +7,7 @@ use lib.ListN.{length, getD, drop}
 use lib.Seq.{sets, sets-eq, length-sets, drop-cons}
 use Rattle.model.specs.declared.Settings.{Settings}
 use Rattle.model.specs.Records.{Rec, recordAt, firstRecords, IF, SKIP, END, ELSE, bytes}
-use Rattle.model.specs.Trees.{Act, set, read, write, check, beat, save, Block, nil, skip, act, branch, while, times, size, testRec, actRec, skipRec, elseRec, endRec, flatten}
+use Rattle.model.specs.Trees.{Act, set, read, write, check, beat, save, Block, nil, skip, act, branch, while, times, size, actRec, elseRec, endRec, flatten}
 use Rattle.model.specs.Times.{time, ticks}
 use Rattle.model.specs.Listing.{Line, line, actLine, testNumbers, lines}
 use Rattle.model.specs.Placement.{LoopFree}
@@ -64,7 +64,8 @@ module _ (σ : Settings) where
     pub records-there : recordsAt laid 0 (size b) ≡ flatten b
     records-there = rw (e, ← length-flatten b) (first-bytes (flatten b) rest)
 
-    pub listed-lines : (old w : List ℕ) → LoopFree b → w ≡ sets old 0 (starts σ b 0) → length (starts σ b 0) ≡ size b → size b ≤ length old → linesIn laid w 0 (size b) ≡ lines σ b 0
+    pub listed-lines : (old w : List ℕ) → LoopFree b → w ≡ sets old 0 (starts σ b 0) → length (starts σ b 0) ≡ size b → size b ≤ length old
+        → linesIn laid w 0 (size b) ≡ lines σ b 0
     listed-lines old w l f n h =
         let us = drop (length (starts σ b 0)) old in
         let k : 0 + length (starts σ b 0) ≡ length (starts σ b 0) = omega arith in

@@ -3,14 +3,14 @@ use Prim.Native.Nat.{ℕ, suc, _+_, max}
 use native.Mathlib.Omega.{arith}
 use mathlib.Core.Path.{_≡_, refl, ap, sym, _∙_}
 use mathlib.Core.Bool.{false≢true}
-use mathlib.Core.List.{List, [], _∷_, _++_, map, map-append, append-assoc}
+use mathlib.Core.List.{List, [], _∷_, _++_, map-append, append-assoc}
 use lib.ListN.{length, length-append, set as setAt}
 use lib.Seq.{sets}
 use Rattle.model.specs.declared.Form.the-variants.{Laid}
 use Rattle.model.specs.declared.Settings.{Settings}
 use Rattle.model.specs.Trees.{Test, Act, set, read, write, check, beat, save, Block, nil, skip, act, branch, while, times, size}
 use Rattle.model.specs.Times.{ticks, time}
-use Rattle.model.specs.Listing.{Line, actLine, lines}
+use Rattle.model.specs.Listing.{actLine}
 use Rattle.model.proofs.Sound.{OfForm}
 use Rattle.reading.specs.Ranges.{firstSize, afterFirst}
 use Rattle.timing.specs.Blocks.{firstTime}

@@ -2,8 +2,6 @@
 pub mod lines;
 mod starts;
 
-ghost use mathlib.Core.Path.{_≡_};
-ghost use lib.ListN.{length};
 ghost use Rattle.listing.specs.Listing.{Lists};
 use model::LaidOut;
 use preparation::prepare;
@@ -11,8 +9,12 @@ use records::settings::Decoded;
 use starts::start_block;
 
 // The laid file, the tick at which each of its records starts, and the bytes and the total; or the refusal.
-pub fn list_task(settings: &[u8], task: &[u8], laid: &mut [u8], starts: &mut [u32]) -> LaidOut
-    requires { ⌜ (length (now laid) ≡ 65532) × (length (now starts) ≡ 5461) ⌝ }
+pub fn list_task(
+    settings: &[u8],
+    task: &[u8],
+    laid: &mut [u8; 65532],
+    starts: &mut [u32; 5461],
+) -> LaidOut
     ensures { λ r. ⌜ Lists (now (settings .entry)) (now (task .entry)) (now (laid .exit)) (now (starts .exit)) r ⌝ }
 {
     let mut equalised: [u8; 65532] = [0; 65532];

@@ -1,5 +1,4 @@
 // The line of a record: its start tick, its kind and the numbers that are printed after its name.
-ghost use mathlib.Core.Path.{_≡_};
 ghost use Prim.Native.Nat.{_+_, _*_, _≤_, _<_};
 ghost use lib.ListN.{length};
 ghost use Rattle.records.specs.Records.{recordOf};

@@ -5,7 +5,7 @@ use mathlib.Core.Path.{ap, sym, _∙_}
 use lib.ListN.{length-set}
 use borrow.Author.Needs.{needs}
 use Rattle.model.specs.Records.{Rec}
-use Rattle.reading.specs.Closing.{closesBlock}
+use Rattle.reading.proofs.Standing.{closing-told}
 use Rattle.listing.proofs.StartingBlocks.{step-early, step-started, Starting, starting-start, starting-closed, starting-ended, statement-next, starting-on, starting-next}
 use Rattle.listing.proofs.StartingBranches.{sides-early, one-entered, middle-after, middle-inside, middle-room, two-entered, last-inside, last-kept, last-room, branch-started}
 use borrow.Fn.Kinds.{In}
@@ -88,112 +88,168 @@ abbrev start-statement-claims : ℕ → start-statement-lts.Claims
 start-statement-claims t = (record-at-reads.Asked, record-at-reads.Learnt, start-branch-below t, start-branch.Post, step-ticks-reads.Asked, step-ticks-reads.Learnt)
 
 start-block-loop-holds : (t : ℕ) → start-block-lts.Need-loop-holds (start-block-claims t) (start-block-at t) start-block.Post start-block-Inv-loop start-block-μ-loop
-start-block-loop-holds t c = starting-start ((c .before .before .pre) .1)
+start-block-loop-holds t c = starting-start (c .before .before .pre .1)
 
 start-block-kind-at-requires : (t : ℕ) → start-block-lts.Need-kind-at-requires (start-block-claims t) (start-block-at t) start-block.Post start-block-Inv-loop start-block-μ-loop
-start-block-kind-at-requires t c κs = omega (arith, (c .before .loop) .inv .rest .file .inside)
+start-block-kind-at-requires t c κs = omega (arith, c .before .loop .inv .rest .file .inside)
 
 start-block-closes-requires : (t : ℕ) → start-block-lts.Need-closes-requires (start-block-claims t) (start-block-at t) start-block.Post start-block-Inv-loop start-block-μ-loop
 start-block-closes-requires t c κs = search needs
 
 start-block-same-length : (t : ℕ) → start-block-lts.Need-same-length (start-block-claims t) (start-block-at t) start-block.Post start-block-Inv-loop start-block-μ-loop
-start-block-same-length t c = omega (arith, (c .before .before .before .before .loop) .inv .kept)
+start-block-same-length t c =
+    let w = c .before .before .before .before in
+    omega (arith, w .loop .inv .kept)
 
 start-block-returns : (t : ℕ) → start-block-lts.Need-returns (start-block-claims t) (start-block-at t) start-block.Post start-block-Inv-loop start-block-μ-loop
-start-block-returns t c = starting-closed ((c .before .before .before .before .loop) .inv) (ap closesBlock (sym ((c .before .before .kind-at) .ensures)) ∙ sym ((c .before .closes) .ensures) ∙ (c .if1) .taken)
+start-block-returns t c =
+    let w = c .before .before .before .before in
+    starting-closed (w .loop .inv) (closing-told (c .before .before .kind-at .ensures) (c .before .closes .ensures) (c .if1 .taken))
 
 start-block-start-statement-requires : (t : ℕ) → start-block-lts.Need-start-statement-requires (start-block-claims t) (start-block-at t) start-block.Post start-block-Inv-loop start-block-μ-loop
-start-block-start-statement-requires t c κs = (omega (arith, (c .before .before .before .before .before .before .before .before .pre) .0, (c .before .before .before .before .before .loop) .inv .on), statement-next ((c .before .before .before .before .before .loop) .inv) ((c .before .before .before .before .loop-test) .taken) (ap closesBlock (sym ((c .before .before .before .kind-at) .ensures)) ∙ sym ((c .before .before .closes) .ensures) ∙ (c .before .if1) .left))
+start-block-start-statement-requires t c κs =
+    let w = c .before .before .before .before in
+    let v = w .before .before .before .before in
+    let k = closing-told (c .before .before .before .kind-at .ensures) (c .before .before .closes .ensures) (c .before .if1 .left) in
+    (omega (arith, v .pre .0, w .before .loop .inv .on), statement-next (w .before .loop .inv) (w .loop-test .taken) k)
 
 start-block-loop-less : (t : ℕ) → start-block-lts.Need-loop-less (start-block-claims t) (start-block-at t) start-block.Post start-block-Inv-loop start-block-μ-loop
-start-block-loop-less t c = omega (arith, starting-on ((c .before .before .before .before .before .before .before .before .loop) .inv) ((c .before .before .before .before .before .before .before .loop-test) .taken) (ap closesBlock (sym ((c .before .before .before .before .before .before .kind-at) .ensures)) ∙ sym ((c .before .before .before .before .before .closes) .ensures) ∙ (c .before .before .before .before .if1) .left) ((c .before .before .start-statement) .ensures))
+start-block-loop-less t c =
+    let w = c .before .before .before .before in
+    let v = w .before .before .before in
+    let k = closing-told (w .before .before .kind-at .ensures) (w .before .closes .ensures) (w .if1 .left) in
+    omega (arith, starting-on (v .before .loop .inv) (v .loop-test .taken) k (c .before .before .start-statement .ensures))
 
 start-block-loop-again : (t : ℕ) → start-block-lts.Need-loop-again (start-block-claims t) (start-block-at t) start-block.Post start-block-Inv-loop start-block-μ-loop
-start-block-loop-again t c = starting-next ((c .before .before .before .before .before .before .before .before .loop) .inv) ((c .before .before .before .before .before .before .before .loop-test) .taken) (ap closesBlock (sym ((c .before .before .before .before .before .before .kind-at) .ensures)) ∙ sym ((c .before .before .before .before .before .closes) .ensures) ∙ (c .before .before .before .before .if1) .left) ((c .before .before .start-statement) .ensures)
+start-block-loop-again t c =
+    let w = c .before .before .before .before in
+    let v = w .before .before .before in
+    let k = closing-told (w .before .before .kind-at .ensures) (w .before .closes .ensures) (w .if1 .left) in
+    starting-next (v .before .loop .inv) (v .loop-test .taken) k (c .before .before .start-statement .ensures)
 
 start-block-same-length-2 : (t : ℕ) → start-block-lts.Need-same-length-2 (start-block-claims t) (start-block-at t) start-block.Post start-block-Inv-loop start-block-μ-loop
-start-block-same-length-2 t c = omega (arith, (c .before .loop) .inv .kept)
+start-block-same-length-2 t c = omega (arith, c .before .loop .inv .kept)
 
 start-block-returns-2 : (t : ℕ) → start-block-lts.Need-returns-2 (start-block-claims t) (start-block-at t) start-block.Post start-block-Inv-loop start-block-μ-loop
-start-block-returns-2 t c = starting-ended ((c .before .loop) .inv) ((c .loop-test) .left)
+start-block-returns-2 t c = starting-ended (c .before .loop .inv) (c .loop-test .left)
 
 start-branch-add-inside : (t : ℕ) → start-branch-lts.Need-add-inside (start-branch-claims t) (start-branch-at t) start-branch.Post
-start-branch-add-inside t c = omega (arith, sides-early ((c .before .before .pre) .1 .0) ((c .before .before .pre) .1 .1))
+start-branch-add-inside t c = omega (arith, sides-early (c .before .before .pre .1 .0) (c .before .before .pre .1 .1))
 
 start-branch-mul-out : (t : ℕ) → start-branch-lts.Need-mul-out (start-branch-claims t) (start-branch-at t) start-branch.Post
-start-branch-mul-out t c = omega (arith, (c .before .before .pre) .1 .0 .inside, (c .before .before .pre) .1 .0 .entered .room)
+start-branch-mul-out t c = omega (arith, c .before .before .pre .1 .0 .inside, c .before .before .pre .1 .0 .entered .room)
 
 start-branch-slice-write-out : (t : ℕ) → start-branch-lts.Need-slice-write-out (start-branch-claims t) (start-branch-at t) start-branch.Post
-start-branch-slice-write-out t c = omega (arith, (c .before .before .pre) .1 .0 .inside, (c .before .before .pre) .1 .0 .entered .room)
+start-branch-slice-write-out t c = omega (arith, c .before .before .pre .1 .0 .inside, c .before .before .pre .1 .0 .entered .room)
 
 start-branch-add-start-block : (t : ℕ) → start-branch-lts.Need-add-start-block (start-branch-claims t) (start-branch-at t) start-branch.Post
-start-branch-add-start-block t c = omega (arith, (c .before .before .pre) .1 .0 .inside, (c .before .before .pre) .1 .0 .entered .room)
+start-branch-add-start-block t c = omega (arith, c .before .before .pre .1 .0 .inside, c .before .before .pre .1 .0 .entered .room)
 
 start-branch-start-block-requires : (t : ℕ) → start-branch-lts.Need-start-block-requires (start-branch-claims t) (start-branch-at t) start-branch.Post
-start-branch-start-block-requires t c κs = (omega (arith, (c .before .before .before .pre) .0, (c .before .before .before .pre) .1 .0 .inside), one-entered ((c .before .before .before .pre) .1 .0) ((c .before .before .before .pre) .1 .1))
+start-branch-start-block-requires t c κs =
+    let w = c .before .before .before in
+    (omega (arith, w .pre .0, w .pre .1 .0 .inside), one-entered (w .pre .1 .0) (w .pre .1 .1))
 
 start-branch-mul-out-2 : (t : ℕ) → start-branch-lts.Need-mul-out-2 (start-branch-claims t) (start-branch-at t) start-branch.Post
-start-branch-mul-out-2 t c = omega (arith, middle-inside ((c .before .before .before .before .before .before .pre) .1 .0) ((c .before .before .before .before .before .before .pre) .1 .1) ((c .before .before .start-block) .ensures), (c .before .before .before .before .before .before .pre) .1 .0 .entered .room)
+start-branch-mul-out-2 t c =
+    let w = c .before .before .before .before .before .before in
+    omega (arith, middle-inside (w .pre .1 .0) (w .pre .1 .1) (c .before .before .start-block .ensures), w .pre .1 .0 .entered .room)
 
 start-branch-slice-write-out-2 : (t : ℕ) → start-branch-lts.Need-slice-write-out-2 (start-branch-claims t) (start-branch-at t) start-branch.Post
-start-branch-slice-write-out-2 t c = omega (arith, middle-room ((c .before .before .before .before .before .before .pre) .1 .0) ((c .before .before .before .before .before .before .pre) .1 .1) ((c .before .before .start-block) .ensures))
+start-branch-slice-write-out-2 t c =
+    let w = c .before .before .before .before .before .before in
+    omega (arith, middle-room (w .pre .1 .0) (w .pre .1 .1) (c .before .before .start-block .ensures))
 
 start-branch-add-start-block-2 : (t : ℕ) → start-branch-lts.Need-add-start-block-2 (start-branch-claims t) (start-branch-at t) start-branch.Post
-start-branch-add-start-block-2 t c = omega (arith, middle-inside ((c .before .before .before .before .before .before .pre) .1 .0) ((c .before .before .before .before .before .before .pre) .1 .1) ((c .before .before .start-block) .ensures))
+start-branch-add-start-block-2 t c =
+    let w = c .before .before .before .before .before .before in
+    omega (arith, middle-inside (w .pre .1 .0) (w .pre .1 .1) (c .before .before .start-block .ensures))
 
 start-branch-start-block-requires-2 : (t : ℕ) → start-branch-lts.Need-start-block-requires-2 (start-branch-claims t) (start-branch-at t) start-branch.Post
-start-branch-start-block-requires-2 t c κs = (omega (arith, (c .before .before .before .before .before .before .before .pre) .0, (c .before .before .before .before .before .before .before .pre) .1 .0 .inside, middle-after ((c .before .before .before .before .before .before .before .pre) .1 .0) ((c .before .before .before .before .before .before .before .pre) .1 .1) ((c .before .before .before .start-block) .ensures), middle-inside ((c .before .before .before .before .before .before .before .pre) .1 .0) ((c .before .before .before .before .before .before .before .pre) .1 .1) ((c .before .before .before .start-block) .ensures)), two-entered ((c .before .before .before .before .before .before .before .pre) .1 .0) ((c .before .before .before .before .before .before .before .pre) .1 .1) ((c .before .before .before .start-block) .ensures))
+start-branch-start-block-requires-2 t c κs =
+    let w = c .before .before .before .before .before .before .before in
+    let e = c .before .before .before .start-block .ensures in
+    let i = middle-after (w .pre .1 .0) (w .pre .1 .1) e in
+    let j = middle-inside (w .pre .1 .0) (w .pre .1 .1) e in
+    (omega (arith, w .pre .0, w .pre .1 .0 .inside), two-entered (w .pre .1 .0) (w .pre .1 .1) e)
 
 start-branch-later-requires : (t : ℕ) → start-branch-lts.Need-later-requires (start-branch-claims t) (start-branch-at t) start-branch.Post
 start-branch-later-requires t c κs = search needs
 
 start-branch-mul-out-3 : (t : ℕ) → start-branch-lts.Need-mul-out-3 (start-branch-claims t) (start-branch-at t) start-branch.Post
-start-branch-mul-out-3 t c = omega (arith, last-inside ((c .before .before .before .before .before .before .before .before .before .before .before .pre) .1 .0) ((c .before .before .before .before .before .before .before .before .before .before .before .pre) .1 .1) ((c .before .before .before .before .before .before .before .start-block) .ensures) ((c .before .before .before .start-block2) .ensures), (c .before .before .before .before .before .before .before .before .before .before .before .pre) .1 .0 .entered .room)
+start-branch-mul-out-3 t c =
+    let w = c .before .before .before .before .before .before .before in
+    let v = w .before .before .before .before in
+    omega (arith, last-inside (v .pre .1 .0) (v .pre .1 .1) (w .start-block .ensures) (c .before .before .before .start-block2 .ensures), v .pre .1 .0 .entered .room)
 
 start-branch-slice-write-out-3 : (t : ℕ) → start-branch-lts.Need-slice-write-out-3 (start-branch-claims t) (start-branch-at t) start-branch.Post
-start-branch-slice-write-out-3 t c = omega (arith, last-room ((c .before .before .before .before .before .before .before .before .before .before .before .pre) .1 .0) ((c .before .before .before .before .before .before .before .before .before .before .before .pre) .1 .1) ((c .before .before .before .before .before .before .before .start-block) .ensures) ((c .before .before .before .start-block2) .ensures))
+start-branch-slice-write-out-3 t c =
+    let w = c .before .before .before .before .before .before .before in
+    let v = w .before .before .before .before in
+    omega (arith, last-room (v .pre .1 .0) (v .pre .1 .1) (w .start-block .ensures) (c .before .before .before .start-block2 .ensures))
 
 start-branch-add-t13 : (t : ℕ) → start-branch-lts.Need-add-t13 (start-branch-claims t) (start-branch-at t) start-branch.Post
-start-branch-add-t13 t c = omega (arith, last-inside ((c .before .before .before .before .before .before .before .before .before .before .before .pre) .1 .0) ((c .before .before .before .before .before .before .before .before .before .before .before .pre) .1 .1) ((c .before .before .before .before .before .before .before .start-block) .ensures) ((c .before .before .before .start-block2) .ensures))
+start-branch-add-t13 t c =
+    let w = c .before .before .before .before .before .before .before in
+    let v = w .before .before .before .before in
+    omega (arith, last-inside (v .pre .1 .0) (v .pre .1 .1) (w .start-block .ensures) (c .before .before .before .start-block2 .ensures))
 
 start-branch-same-length : (t : ℕ) → start-branch-lts.Need-same-length (start-branch-claims t) (start-branch-at t) start-branch.Post
-start-branch-same-length t c = simp length-set (last-kept ((c .before .before .before .before .before .before .before .before .before .before .before .pre) .1 .0) ((c .before .before .before .before .before .before .before .before .before .before .before .pre) .1 .1) ((c .before .before .before .before .before .before .before .start-block) .ensures) ((c .before .before .before .start-block2) .ensures))
+start-branch-same-length t c =
+    let w = c .before .before .before .before .before .before .before in
+    let v = w .before .before .before .before in
+    simp length-set (last-kept (v .pre .1 .0) (v .pre .1 .1) (w .start-block .ensures) (c .before .before .before .start-block2 .ensures))
 
 start-branch-returns : (t : ℕ) → start-branch-lts.Need-returns (start-branch-claims t) (start-branch-at t) start-branch.Post
-start-branch-returns t c = branch-started ((c .before .before .before .before .before .before .before .before .before .before .before .pre) .1 .0) ((c .before .before .before .before .before .before .before .before .before .before .before .pre) .1 .1) ((c .before .before .before .before .before .before .before .start-block) .ensures) ((c .before .before .before .start-block2) .ensures) ((c .later) .ensures)
+start-branch-returns t c =
+    let w = c .before .before .before .before .before .before .before in
+    let v = w .before .before .before .before in
+    branch-started (v .pre .1 .0) (v .pre .1 .1) (w .start-block .ensures) (c .before .before .before .start-block2 .ensures) (c .later .ensures)
 
 start-statement-record-at-requires : (t : ℕ) → start-statement-lts.Need-record-at-requires (start-statement-claims t) (start-statement-at t) start-statement.Post
-start-statement-record-at-requires t c κs = omega (arith, (c .before .before .pre) .1 .inside, (c .before .before .pre) .1 .entered .file .inside)
+start-statement-record-at-requires t c κs = omega (arith, c .before .before .pre .1 .inside, c .before .before .pre .1 .entered .file .inside)
 
 start-statement-start-branch-requires : (t : ℕ) → start-statement-lts.Need-start-branch-requires (start-statement-claims t) (start-statement-at t) start-statement.Post
-start-statement-start-branch-requires t c κs = (omega (arith, (c .before .before .before .before .before .before .pre) .0), ((c .before .before .before .before .before .before .pre) .1, ap (λ (x : Rec). x .kind) (sym ((c .before .before .before .record-at) .ensures)) ∙ (c .before .if1) .taken))
+start-statement-start-branch-requires t c κs =
+    let w = c .before .before .before .before .before .before in
+    (omega (arith, w .pre .0), (w .pre .1, ap (λ (x : Rec). x .kind) (sym (c .before .before .before .record-at .ensures)) ∙ c .before .if1 .taken))
 
 start-statement-same-length : (t : ℕ) → start-statement-lts.Need-same-length (start-statement-claims t) (start-statement-at t) start-statement.Post
 start-statement-same-length t c = search needs
 
 start-statement-returns : (t : ℕ) → start-statement-lts.Need-returns (start-statement-claims t) (start-statement-at t) start-statement.Post
-start-statement-returns t c = (c .before .before .start-branch) .ensures
+start-statement-returns t c = c .before .before .start-branch .ensures
 
 start-statement-mul-out : (t : ℕ) → start-statement-lts.Need-mul-out (start-statement-claims t) (start-statement-at t) start-statement.Post
-start-statement-mul-out t c = omega (arith, (c .before .before .before .before .before .pre) .1 .inside, (c .before .before .before .before .before .pre) .1 .entered .room)
+start-statement-mul-out t c =
+    let w = c .before .before .before .before .before in
+    omega (arith, w .pre .1 .inside, w .pre .1 .entered .room)
 
 start-statement-slice-write-out : (t : ℕ) → start-statement-lts.Need-slice-write-out (start-statement-claims t) (start-statement-at t) start-statement.Post
-start-statement-slice-write-out t c = omega (arith, (c .before .before .before .before .before .pre) .1 .inside, (c .before .before .before .before .before .pre) .1 .entered .room)
+start-statement-slice-write-out t c =
+    let w = c .before .before .before .before .before in
+    omega (arith, w .pre .1 .inside, w .pre .1 .entered .room)
 
 start-statement-step-ticks-requires : (t : ℕ) → start-statement-lts.Need-step-ticks-requires (start-statement-claims t) (start-statement-at t) start-statement.Post
 start-statement-step-ticks-requires t c κs = search needs
 
 start-statement-add-t14 : (t : ℕ) → start-statement-lts.Need-add-t14 (start-statement-claims t) (start-statement-at t) start-statement.Post
-start-statement-add-t14 t c = omega (arith, step-early ((c .before .before .before .before .before .before .pre) .1) ((c .before .before .before .record-at) .ensures) ((c .before .if1) .left) ((c .step-ticks) .ensures))
+start-statement-add-t14 t c =
+    let w = c .before .before .before .before .before .before in
+    omega (arith, step-early (w .pre .1) (c .before .before .before .record-at .ensures) (c .before .if1 .left) (c .step-ticks .ensures))
 
 start-statement-add-t11 : (t : ℕ) → start-statement-lts.Need-add-t11 (start-statement-claims t) (start-statement-at t) start-statement.Post
-start-statement-add-t11 t c = omega (arith, (c .before .before .before .before .before .before .pre) .1 .inside, (c .before .before .before .before .before .before .pre) .1 .entered .room)
+start-statement-add-t11 t c =
+    let w = c .before .before .before .before .before .before in
+    omega (arith, w .pre .1 .inside, w .pre .1 .entered .room)
 
 start-statement-same-length-2 : (t : ℕ) → start-statement-lts.Need-same-length-2 (start-statement-claims t) (start-statement-at t) start-statement.Post
 start-statement-same-length-2 t c = simp length-set
 
 start-statement-returns-2 : (t : ℕ) → start-statement-lts.Need-returns-2 (start-statement-claims t) (start-statement-at t) start-statement.Post
-start-statement-returns-2 t c = step-started ((c .before .before .before .before .before .before .pre) .1) ((c .before .before .before .record-at) .ensures) ((c .before .if1) .left) ((c .step-ticks) .ensures)
+start-statement-returns-2 t c =
+    let w = c .before .before .before .before .before .before in
+    step-started (w .pre .1) (c .before .before .before .record-at .ensures) (c .before .if1 .left) (c .step-ticks .ensures)
 
 pub +start-block+start-branch+start-statement-spec : {M : Type 1} → statement M
 +start-block+start-branch+start-statement-spec =
