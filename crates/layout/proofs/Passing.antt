@@ -54,10 +54,6 @@ module _ {σ : Settings} {c : Block} {j : ℕ} {s : State} {r : Passage} where
   pub passed-late : σ .period < s .tick + time σ c → σ .period < r .state .tick → Passes σ c j s r
   passed-late h l = record { late = λ x. l; after = λ x. absurd (omega arith); goes = λ x. absurd (omega arith) }
 
--- what the test of a record's kind says of the record at an index
-pub closing-told : {k m : ℕ} {o b : Bool} → k ≡ m → o ≡ closesBlock k → o ≡ b → closesBlock m ≡ b
-closing-told e f g = ap closesBlock (sym e) ∙ sym f ∙ g
-
 -- a state within P from which laying out goes on
 pub laying-on : {σ : Settings} {c : Block} {s r : State} → Laying σ s → After σ c s r → r .tick ≤ σ .period → Laying σ r
 laying-on L A h = record { settings = L .settings; shows = A .shows; within = h }

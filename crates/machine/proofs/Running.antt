@@ -28,10 +28,6 @@ both-false : (a b : Bool) → (a || b) ≡ false → (a ≡ false) × (b ≡ fal
 both-false true b e = let z : _≡_ {A = ℕ} 0 1 = cc in absurd (omega arith)
 both-false false b e = (refl, e)
 
--- what the test of a record's kind says of the record at an index
-pub closing-told : {k m : ℕ} {o b : Bool} → k ≡ m → o ≡ closesBlock k → o ≡ b → closesBlock m ≡ b
-closing-told e f g = ap closesBlock (sym e) ∙ sym f ∙ g
-
 -- a machine that has not halted goes on
 pub reached-going : (r : Progress) (w : List ℕ) → halted r ≡ false → reached r w ≡ going (r .tick) w
 reached-going r w e = let p = both-false (r .cut) (r .overran) e in rw (p .0, p .1)

@@ -3,7 +3,7 @@ use Prim.Native.Nat.{ℕ, zero, suc, _+_, _*_, _/_, _%_, _≤_, _<_}
 use native.Mathlib.Nat.{add-zero, add-assoc}
 use native.Mathlib.Omega.{arith}
 use mathlib.Core.Path.{_≡_, refl, ap, ap₂, sym, _∙_}
-use mathlib.Core.List.{List, [], _∷_, _++_}
+use mathlib.Core.List.{List, [], _∷_, _++_, append-nil}
 use lib.ListN.{length, getD, drop, length-drop}
 use lib.Seq.{getD-drop, drop-drop, drop-cons}
 use Rattle.model.specs.Records.{Rec, wordBytes, recordAt, firstRecords, records, recordBytes, bytes}
@@ -16,14 +16,17 @@ unfolding bytes
 length-bytes [] = refl
 length-bytes (r ∷ rs) = omega (arith, length-bytes rs)
 
-first-bytes : (rs : List Rec) → firstRecords (length rs) (bytes rs) ≡ rs
+-- whatever stands behind them
+pub first-bytes : (rs : List Rec) (rest : List ℕ) → firstRecords (length rs) (bytes rs ++ rest) ≡ rs
 unfolding bytes firstRecords
-first-bytes [] = refl
-first-bytes (r ∷ rs) = rw (word-back (r .value), word-back (r .count), first-bytes rs)
+first-bytes [] rest = refl
+first-bytes (r ∷ rs) rest = rw (word-back (r .value), word-back (r .count), first-bytes rs rest)
 
 pub records-bytes : (rs : List Rec) → records (bytes rs) ≡ rs
 unfolding records
-records-bytes rs = let e : length (bytes rs) / 12 ≡ length rs = omega (arith, length-bytes rs) in rw e (first-bytes rs)
+records-bytes rs =
+    let e : length (bytes rs) / 12 ≡ length rs = omega (arith, length-bytes rs) in
+    rw (e, ← append-nil (bytes rs)) (first-bytes rs [])
 
 -- a list of bytes
 abbrev pub Bytes : List ℕ → Type 0

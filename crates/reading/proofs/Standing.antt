@@ -36,6 +36,10 @@ closes s i e h = ap (λ (r : Rec). closesBlock (r .kind)) e ∙ h
 closes-at : (s : List ℕ) (i j : ℕ) → i ≡ j → closesBlock (kindAt s i) ≡ true → closesBlock (kindAt s j) ≡ true
 closes-at s i j e h = subst (λ (k : ℕ). closesBlock (kindAt s k) ≡ true) e h
 
+-- what the test of a record's kind says of the record at an index
+pub closing-told : {k m : ℕ} {o b : Bool} → k ≡ m → o ≡ closesBlock k → o ≡ b → closesBlock m ≡ b
+closing-told e f g = ap closesBlock (sym e) ∙ sym f ∙ g
+
 -- a block that is at i, and ends where one is closed or with the records
 pub standing-at : {f : Form} {s : List ℕ} {i to : ℕ} (b : Block) → At s i b → OfForm f b → i + size b ≤ to
     → (i + size b < to → closesBlock (kindAt s (i + size b)) ≡ true) → Stands f s i to b

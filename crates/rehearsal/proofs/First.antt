@@ -13,7 +13,7 @@ use Rattle.model.specs.Chain.{End, endOf, runEnd}
 use Rattle.model.specs.declared.Stop.{Stop}
 use Rattle.model.specs.Rehearsal.{andThen, wholeOf, stoppedOf}
 use Rattle.rehearsal.specs.Contracts.{secondOf}
-use Rattle.rehearsal.proofs.Chaining.{refused-first}
+use Rattle.preparation.proofs.Chaining.{refused-first}
 
 -- the call was lent a copy v of the set u, as c says
 module _ (c : List ℕ → Loan) {u v : List ℕ} (same : v ≡ u) where

@@ -1,5 +1,4 @@
 -- The laws of a rehearsal.
-pub mod Chaining
 pub mod Alike
 pub mod SecondLaws
 pub mod First

@@ -1,42 +1,25 @@
--- From the calls that prepare the task, and what the runs come to, to what a rehearsal answers.
-use Prim.Native.Nat.{ℕ, _*_, _≤_}
+-- From what preparing the task answers, and what the runs come to, to what a rehearsal answers.
+use Prim.Native.Nat.{ℕ, _≤_}
 use native.Mathlib.Omega.{arith}
 use mathlib.Core.Path.{_≡_, refl, ap, sym, subst, _∙_}
 use mathlib.Core.Bool.{Bool, true, false, not, _||_}
 use mathlib.Core.List.{List, [], _∷_}
 use lib.Dec.{eqb}
 use borrow.Author.Tests.{eqb-true}
-use lib.ListN.{length, getD, take, replicate}
+use lib.ListN.{length, take, replicate}
 use Rattle.model.specs.declared.Refusal.{Refusal}
 use Rattle.model.specs.declared.LaidOut.{LaidOut}
-use Rattle.model.specs.Trees.{size}
-use Rattle.model.specs.Answers.{Verdict, finished, refusal, laidOut, rehearsed}
-use Rattle.model.specs.Replies.{turnDown, equaliseReply, equaliseOut, equalisedTree, layOutReply, layOutOut, laidTree, runReply}
+use Rattle.model.specs.Answers.{Verdict, finished, rehearsed}
+use Rattle.model.specs.Replies.{turnDown, layOutOut, runReply}
 use Rattle.model.specs.Chain.{valueAt, Set, Chain, equalising, equalisedFile, layingOut, laidFile, plainLoan, plainEndOne}
-use Rattle.theory.proofs.Accepted.{equalise-accepted, lay-out-accepted}
 use Rattle.model.specs.declared.Stop.{Stop}
 use Rattle.model.specs.declared.Rehearsed.{Rehearsed}
 use Rattle.model.specs.Rehearsal.{andThen, room, zeroOutputs, chain, second, badSets, rehearsal, Unseen, Rehearses}
-use Rattle.rehearsal.specs.Contracts.{laidLoan, secondOf, equalisedBy, Prepares}
-use Rattle.rehearsal.proofs.Chaining.{never-finished, refused-first, refused-second, both-done, second-done}
+use Rattle.preparation.specs.Contracts.{Prepares}
+use Rattle.preparation.proofs.Chaining.{refused-second, both-done, second-done}
+use Rattle.preparation.proofs.Preparing.{value-is, laid-fits}
+use Rattle.rehearsal.specs.Contracts.{laidLoan, secondOf}
 use Rattle.rehearsal.proofs.Theorem.{unseen}
-
--- the first value of an answer
-value-is : {xs : List ℕ} {v : Verdict} → finished xs ≡ v → valueAt 0 v ≡ getD xs 0 0
-value-is e = ap (valueAt 0) (sym e)
-
--- what is written fits its buffer
-equalised-fits : (s task : List ℕ) (m : ℕ) {n t : ℕ} → finished (n ∷ t ∷ []) ≡ equaliseReply s task m → n ≤ m
-equalised-fits s task m {n} {t} e =
-    let A = equalise-accepted s task m (n ∷ t ∷ []) (sym e) in
-    let q : 12 * size (equalisedTree s task) ≡ n = ap (λ (xs : List ℕ). getD xs 0 0) (A .answers) in
-    omega (arith, A .has-room .fits-buffer)
-
-laid-fits : (s file : List ℕ) (m : ℕ) {n t : ℕ} → finished (n ∷ t ∷ []) ≡ layOutReply s file m → n ≤ m
-laid-fits s file m {n} {t} e =
-    let A = lay-out-accepted s file m (n ∷ t ∷ []) (sym e) in
-    let q : 12 * size (laidTree s file) ≡ n = ap (λ (xs : List ℕ). getD xs 0 0) (A .answers) in
-    omega (arith, A .has-room .fits-buffer)
 
 -- both sets have 16 variables
 pub good-sets : {x y : ℕ} {o : Bool} → o ≡ badSets x y → o ≡ false → (x ≡ 16) × (y ≡ 16)
@@ -46,28 +29,6 @@ good-sets {x} {y} {o} e h = go (eqb x 16) refl (eqb y 16) refl (sym e ∙ h)
     go true p true q f = (eqb-true x 16 p, eqb-true y 16 q)
     go true p false q f = let z : _≡_ {A = ℕ} 0 1 = cc in absurd (omega arith)
     go false p b q f = let z : _≡_ {A = ℕ} 0 1 = cc in absurd (omega arith)
-
--- THE TASK IS PREPARED
-
-module _ (s task eq laid : List ℕ) where
-  pub prepare-refused : (x : Refusal) → refusal x ≡ equaliseReply s task (length eq) → Prepares s task eq laid laid (LaidOut.Refused x)
-  prepare-refused x e = record {
-    reply = refused-first x (layOutReply s (equalisedBy s task eq) (length laid)) e;
-    leaves = λ xs f. never-finished x xs f;
-  }
-
-  module _ {n t : ℕ} (e : finished (n ∷ t ∷ []) ≡ equaliseReply s task (length eq)) {eq′ : List ℕ} (w : eq′ ≡ equaliseOut s task eq) where
-    pub prepare-fits : length eq′ ≡ length eq → n ≤ length eq′
-    prepare-fits h = omega (arith, equalised-fits s task (length eq) e)
-
-    written : take n eq′ ≡ equalisedBy s task eq
-    written = ap (take n) w ∙ ap (λ (m : ℕ). take m (equaliseOut s task eq)) (sym (value-is e))
-
-    pub prepare-laid : {r : LaidOut} {laid′ : List ℕ} → laidOut r ≡ layOutReply s (take n eq′) (length laid) → laid′ ≡ layOutOut s (take n eq′) laid → Prepares s task eq laid laid′ r
-    prepare-laid p q = record {
-      reply = p ∙ ap (λ (f : List ℕ). layOutReply s f (length laid)) written ∙ ap (λ (v : Verdict). andThen v (layOutReply s (equalisedBy s task eq) (length laid))) e;
-      leaves = λ xs f. q ∙ ap (λ (g : List ℕ). layOutOut s g laid) written;
-    }
 
 -- THE WHOLE CHAIN
 

@@ -19,7 +19,7 @@ use Rattle.model.specs.Replies.{Loan, runReply, runBuffers, stopReply, stopBuff
 use Rattle.model.specs.Chain.{valueAt, Outputs, lend, End, endOf}
 use Rattle.model.specs.Rehearsal.{andThen, sameEnd, wholeOf, takenOf, stoppedOf}
 use Rattle.rehearsal.specs.Contracts.{laidLoan}
-use Rattle.rehearsal.proofs.Chaining.{refused-first}
+use Rattle.preparation.proofs.Chaining.{refused-first}
 
 -- ANY CALL
 

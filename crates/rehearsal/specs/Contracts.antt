@@ -2,16 +2,15 @@
 use Prim.Native.Nat.{ℕ}
 use mathlib.Core.Path.{_≡_}
 use mathlib.Core.List.{List}
-use lib.ListN.{length, take, replicate}
+use lib.ListN.{length, replicate}
 use Rattle.model.specs.declared.Form.the-variants.{Laid}
-use Rattle.model.specs.declared.LaidOut.{LaidOut}
-use Rattle.model.specs.Answers.{Verdict, finished, bit, laidOut}
-use Rattle.model.specs.Replies.{Loan, equaliseReply, equaliseOut, layOutReply, layOutOut}
-use Rattle.model.specs.Chain.{valueAt, Outputs, lend, End}
+use Rattle.model.specs.Answers.{Verdict, bit}
+use Rattle.model.specs.Replies.{Loan}
+use Rattle.model.specs.Chain.{Outputs, lend, End}
 use Rattle.model.specs.declared.Stop.{Stop}
 use Rattle.rehearsal.specs.declared.ends.Final.{Final}
 use Rattle.rehearsal.specs.declared.second.Left.{Left}
-use Rattle.model.specs.Rehearsal.{andThen, zeroOutputs, wholeOf, stoppedOf}
+use Rattle.model.specs.Rehearsal.{zeroOutputs, wholeOf, stoppedOf}
 
 -- an end, and the lengths of its arrays
 abbrev pub endIn : Final → End
@@ -39,11 +38,3 @@ pub record FullLeft (x : Left) : Type 0 where
   pub levels : length (x .levels) ≡ 8
   pub marks : length (x .marks) ≡ 8
   pub image : length (x .image) ≡ 72
-
--- a task is equalised into one lent buffer and laid out into another
-abbrev pub equalisedBy : List ℕ → List ℕ → List ℕ → List ℕ
-equalisedBy s task out = take (valueAt 0 (equaliseReply s task (length out))) (equaliseOut s task out)
-
-pub record Prepares (s task equalised laid laid′ : List ℕ) (r : LaidOut) : Type 0 where
-  pub reply : laidOut r ≡ andThen (equaliseReply s task (length equalised)) (layOutReply s (equalisedBy s task equalised) (length laid))
-  pub leaves : (xs : List ℕ) → laidOut r ≡ finished xs → laid′ ≡ layOutOut s (equalisedBy s task equalised) laid

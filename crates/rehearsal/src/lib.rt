@@ -10,32 +10,19 @@ ghost use Rattle.model.specs.Replies.{runReply};
 ghost use Rattle.model.specs.Chain.{lend, runEnd};
 ghost use Rattle.model.specs.Answers.{rehearsed};
 ghost use Rattle.model.specs.Rehearsal.{andThen, zeroOutputs, set, badSets, Rehearses};
-ghost use Rattle.rehearsal.specs.Contracts.{laidLoan, secondOf, Prepares};
+ghost use Rattle.rehearsal.specs.Contracts.{laidLoan, secondOf};
 use ends::Final;
-use equaliser::equalise;
-use layout::lay_out;
 use machine::run;
-use model::Equalised;
 use model::Form;
 use model::LaidOut;
 use model::Ran;
 use model::Refusal;
 use model::Rehearsed;
 use model::Stop;
+use preparation::prepare;
 use records::words::copy;
 use second::stopped;
 use second::whole;
-
-// The task equalised into one lent buffer and laid out into another.
-fn prepare(settings: &[u8], task: &[u8], equalised: &mut [u8], laid: &mut [u8]) -> LaidOut
-    ensures { λ r. ⌜ Prepares (now (settings .entry)) (now (task .entry)) (now (equalised .entry)) (now (laid .entry)) (now (laid .exit)) r ⌝ }
-{
-    let r = equalise(settings, task, equalised);
-    match r {
-        Equalised::Refused(x) => LaidOut::Refused(x),
-        Equalised::Written { bytes, time: _ } => lay_out(settings, &equalised[..bytes], laid),
-    }
-}
 
 // The task on the first set and the laid file on the second.
 fn rehearse_laid(

@@ -2,14 +2,14 @@ use mathlib.Core.Path.{sym, subst}
 use lib.Seq.{length-take-le}
 use borrow.Author.Needs.{needs}
 use Rattle.model.specs.Rehearsal.{set}
-use Rattle.rehearsal.specs.Contracts.{Prepares}
+use Rattle.preparation.specs.Contracts.{Prepares}
 use Rattle.rehearsal.proofs.Preparing.{good-sets, rehearse-refused, file-fits, rehearse-bad, rehearse-done}
 use Rattle.rehearsal.proofs.rehearse.Statement.{statement}
 use Rattle.rehearsal.proofs.rehearse.Tie as tie
 use Rattle.rehearsal.proofs.rehearse.Reads as reads
 use Rattle.rehearsal.proofs.rehearse.Lts as lts
 use Rattle.rehearsal.proofs.bad_sets.Reads as bad-sets-reads
-use Rattle.rehearsal.proofs.prepare.Reads as prepare-reads
+use Rattle.preparation.proofs.prepare.Reads as prepare-reads
 use Rattle.rehearsal.proofs.rehearse_laid.Reads as rehearse-laid-reads
 
 slice-aggregate-prepare : tie.Need-slice-aggregate-prepare

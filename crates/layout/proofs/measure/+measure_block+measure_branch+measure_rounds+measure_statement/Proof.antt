@@ -4,7 +4,8 @@ use native.Mathlib.Omega.{arith}
 use mathlib.Core.Path.{sym, subst}
 use borrow.Author.Needs.{needs}
 use Rattle.layout.specs.Measured.{Entered}
-use Rattle.layout.proofs.Passing.{closing-told, Passing, passing-start, passing-closed, passing-ended, statement-next, passing-late, passing-on, passing-next}
+use Rattle.reading.proofs.Standing.{closing-told}
+use Rattle.layout.proofs.Passing.{Passing, passing-start, passing-closed, passing-ended, statement-next, passing-late, passing-on, passing-next}
 use Rattle.layout.proofs.PassingSteps.{kind-there, count-there, skip-passed, step-short, act-passed}
 use Rattle.layout.proofs.PassingRounds.{rounds-there, body-inside, PassingRounds, rounding-start, body-entered, rounding-late, rounding-next, at-end, rounds-passed}
 use Rattle.layout.proofs.PassingBranches.{passed-from, both-inside, test-late, one-entered, one-late, one-goes, two-entered, two-late, two-goes, meeting, branch-passed}

@@ -8,7 +8,7 @@ use Rattle.model.specs.Trees.{testRec}
 use Rattle.records.proofs.Over.{part-length}
 use Rattle.reading.specs.Ranges.{testOf}
 use Rattle.placing.proofs.Writing.{writing-upto, writing-at}
-use Rattle.layout.proofs.Passing.{closing-told}
+use Rattle.reading.proofs.Standing.{closing-told}
 use Rattle.layout.proofs.PassingSteps.{kind-there, count-there, step-short}
 use Rattle.layout.proofs.PassingRounds.{rounds-there, body-inside, at-end}
 use Rattle.layout.proofs.PassingBranches.{both-inside}

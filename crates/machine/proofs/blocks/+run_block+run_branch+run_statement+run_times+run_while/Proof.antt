@@ -5,7 +5,8 @@ use mathlib.Core.Path.{ap, sym, _∙_}
 use borrow.Author.Needs.{needs}
 use Rattle.records.specs.Records.{recordOf}
 use Rattle.reading.specs.Closing.{opensBlock}
-use Rattle.machine.proofs.Running.{closing-told, Running, running-start, running-closed, running-ended, statement-next, running-halted, running-on, running-next}
+use Rattle.reading.proofs.Standing.{closing-told}
+use Rattle.machine.proofs.Running.{Running, running-start, running-closed, running-ended, statement-next, running-halted, running-on, running-next}
 use Rattle.machine.proofs.RunningSteps.{fields-fit, test-there, kind-there, step-ran}
 use Rattle.machine.proofs.RunningBranches.{side-after, branch-cut, side-entered, branch-halted, side-ends, branch-ran}
 use Rattle.machine.proofs.RunningLoops.{body-before, Spinning, spinning-start, spinning-last, spinning-cut, spinning-over, spinning-entered, spinning-halted, spinning-next}

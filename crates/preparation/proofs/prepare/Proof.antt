@@ -2,11 +2,11 @@ use mathlib.Core.Path.{ap, sym, _∙_}
 use lib.Seq.{length-take-le}
 use borrow.Author.Needs.{needs}
 use Rattle.model.specs.Answers.{equalised}
-use Rattle.rehearsal.proofs.Preparing.{prepare-refused, prepare-fits, prepare-laid}
-use Rattle.rehearsal.proofs.prepare.Statement.{statement}
-use Rattle.rehearsal.proofs.prepare.Tie as tie
-use Rattle.rehearsal.proofs.prepare.Reads as reads
-use Rattle.rehearsal.proofs.prepare.Lts as lts
+use Rattle.preparation.proofs.Preparing.{prepare-refused, prepare-fits, prepare-laid}
+use Rattle.preparation.proofs.prepare.Statement.{statement}
+use Rattle.preparation.proofs.prepare.Tie as tie
+use Rattle.preparation.proofs.prepare.Reads as reads
+use Rattle.preparation.proofs.prepare.Lts as lts
 use Rattle.equaliser.proofs.equalise.Reads as equalise-reads
 use Rattle.layout.proofs.lay_out.Reads as lay-out-reads
 

@@ -1,0 +1,161 @@
+-- The starts of a block, statement by statement.
+use Prim.Native.Nat.{ℕ, _+_, _≤_, _<_}
+use native.Mathlib.Omega.{arith}
+use mathlib.Core.Path.{_≡_, refl, ap, sym, subst, _∙_}
+use mathlib.Core.Bool.{true, false, false≢true}
+use mathlib.Core.List.{List, [], _∷_}
+use lib.ListN.{length, set as setAt}
+use lib.Seq.{sets, length-sets}
+use Rattle.model.specs.declared.Form.the-variants.{Laid}
+use Rattle.model.specs.declared.Settings.{Settings}
+use Rattle.model.specs.Records.{Rec, kindAt, recordAt, IF}
+use Rattle.model.specs.Trees.{Block, nil, skip, act, branch, while, times, size}
+use Rattle.model.specs.Times.{time}
+use Rattle.reading.specs.Closing.{closesBlock}
+use Rattle.reading.specs.Ranges.{Stands, firstSize, afterFirst}
+use Rattle.reading.proofs.Filled.{size-first}
+use Rattle.reading.proofs.Standing.{stands-once, stands-closed, stands-end, stands-some, stands-after}
+use Rattle.timing.specs.Times.{stepTicks}
+use Rattle.timing.specs.Blocks.{firstTime}
+use Rattle.timing.proofs.Firsts.{time-first, act-ticks}
+use Rattle.listing.specs.declared.starts.Place.{Place}
+use Rattle.listing.specs.Starts.{starts, firstStarts, Stored, Entered, Statement, BlockStarted, StatementStarted}
+use Rattle.listing.proofs.Starting.{stored-on, first-length, starts-first}
+
+abbrev pub place : ℕ → ℕ → Place
+place t j = record { tick = t; next = j }
+
+-- A STATEMENT
+
+module _ {s : List ℕ} {i to : ℕ} {σ : Settings} {t : ℕ} {out : List ℕ} (S : Statement s i to σ t out) where
+  abbrev pub block : Block
+  block = S .entered .file .block
+
+  pub stands : Stands Laid s i to block
+  stands = S .entered .file .stands
+
+  some : 1 ≤ firstSize block
+  some = stands-some block stands (S .inside) (S .goes-on)
+
+  -- what holds of the block that was asked about holds of every block at its place
+  pub told : {new : List ℕ} {r : Place} → Stored (firstStarts σ block t) (firstTime σ block) (firstSize block) i t out new r → StatementStarted s i to σ t out new r
+  told {new} {r} A = record {
+    right = λ b B. subst (λ (x : Block). Stored (firstStarts σ x t) (firstTime σ x) (firstSize x) i t out new r) (stands-once block b stands B) A;
+  }
+
+  -- a record that opens no block: a laid file has no loop
+  record Plain (b : Block) : Type 0 where
+    starts-there : firstStarts σ b t ≡ t ∷ []
+    lasts : stepTicks σ (recordAt s i) ≡ firstTime σ b
+    alone : firstSize b ≡ 1
+
+  plain : (b : Block) → Stands Laid s i to b → 1 ≤ firstSize b → (kindAt s i ≡ IF → ⊥) → Plain b
+  plain nil B h x = absurd (omega arith)
+  plain (skip n b) B h x = record { starts-there = refl; lasts = ap (stepTicks σ) (B .fills .stands .0); alone = refl }
+  plain (act p b) B h x = record { starts-there = refl; lasts = ap (stepTicks σ) (B .fills .stands .0) ∙ act-ticks σ p; alone = refl }
+  plain (branch q a d b) B h x = absurd (x (ap (λ (r : Rec). r .kind) (B .fills .stands .0 .is)))
+  plain (while q n a b) B h x = absurd (false≢true (B .fills .of-form .0 .kind))
+  plain (times q n a b) B h x = absurd (false≢true (B .fills .of-form .0 .kind))
+
+  module _ {r : Rec} (h : r ≡ recordAt s i) (x : r .kind ≡ IF → ⊥) {d : ℕ} (l : d ≡ stepTicks σ r) where
+    is-plain : Plain block
+    is-plain = plain block stands some (λ e. x (ap (λ (y : Rec). y .kind) h ∙ e))
+
+    takes : d ≡ firstTime σ block
+    takes = l ∙ ap (stepTicks σ) h ∙ is-plain .lasts
+
+    pub step-early : t + d ≤ 1000000
+    step-early = omega (arith, takes, time-first σ block, S .entered .early)
+
+    pub step-started : StatementStarted s i to σ t out (setAt out i t) (place (t + d) (i + 1))
+    step-started =
+        told (record {
+          table = ap (sets out i) (sym (is-plain .starts-there));
+          tick = ap (λ (m : ℕ). t + m) takes;
+          next = omega (arith, is-plain .alone);
+        })
+
+-- THE TURNS OF THE LOOP
+
+-- of the block at `from`, which starts at tick t₀, the records from `next` on are left at tick t
+pub record Starting (s : List ℕ) (from to : ℕ) (σ : Settings) (t₀ : ℕ) (old w : List ℕ) (t next : ℕ) : Type 0 where
+  pub all : Entered s from to σ t₀ old
+  pub rest : Entered s next to σ t w
+  pub on : from ≤ next
+  pub kept : length w ≡ length old
+  pub counts : next + size (rest .file .block) ≡ from + size (all .file .block)
+  pub lasts : t + time σ (rest .file .block) ≡ t₀ + time σ (all .file .block)
+  pub same : sets w next (starts σ (rest .file .block) t) ≡ sets old from (starts σ (all .file .block) t₀)
+
+pub starting-start : {s : List ℕ} {from to : ℕ} {σ : Settings} {t : ℕ} {out : List ℕ} → Entered s from to σ t out → Starting s from to σ t out out t from
+starting-start E = record { all = E; rest = E; on = omega arith; kept = refl; counts = refl; lasts = refl; same = refl }
+
+module _ {s : List ℕ} {from to : ℕ} {σ : Settings} {t₀ : ℕ} {old w : List ℕ} {t next : ℕ} (P : Starting s from to σ t₀ old w t next) where
+  abbrev whole : Block
+  whole = P .all .file .block
+
+  abbrev left : Block
+  left = P .rest .file .block
+
+  -- nothing is left
+  done : left ≡ nil → w ≡ sets old from (starts σ whole t₀)
+  unfolding starts
+  done e = ap (λ (b : Block). sets w next (starts σ b t)) (sym e) ∙ P .same
+
+  ended : left ≡ nil → BlockStarted s from to σ t₀ old w (place t next)
+  ended e =
+      let A : Stored (starts σ whole t₀) (time σ whole) (size whole) from t₀ old w (place t next) = record {
+        table = done e;
+        tick = omega (arith, P .lasts, ap (time σ) e);
+        next = omega (arith, P .counts, ap size e);
+      } in
+      record {
+        right = λ b B. subst (λ (x : Block). Stored (starts σ x t₀) (time σ x) (size x) from t₀ old w (place t next)) (stands-once whole b (P .all .file .stands) B) A;
+      }
+
+  pub starting-closed : closesBlock (kindAt s next) ≡ true → BlockStarted s from to σ t₀ old w (place t next)
+  starting-closed k = ended (stands-closed left (P .rest .file .stands) k)
+
+  pub starting-ended : to ≤ next → BlockStarted s from to σ t₀ old w (place t next)
+  starting-ended l = ended (stands-end left (P .rest .file .stands) l)
+
+  -- a statement is left
+  module _ (l : next < to) (k : closesBlock (kindAt s next) ≡ false) where
+    pub statement-next : Statement s next to σ t w
+    statement-next = record { entered = P .rest; inside = l; goes-on = k }
+
+    module _ {new : List ℕ} {r : Place} (S : StatementStarted s next to σ t w new r) where
+      step : Stored (firstStarts σ left t) (firstTime σ left) (firstSize left) next t w new r
+      step = S .right left (P .rest .file .stands)
+
+      pub starting-on : next < r .next
+      starting-on = omega (arith, step .next, stands-some left (P .rest .file .stands) l k)
+
+      follows : sets new (r .next) (starts σ (afterFirst left) (r .tick)) ≡ sets w next (starts σ left t)
+      follows =
+          let f = P .rest .file .stands .fills .of-form in
+          ap (λ (u : ℕ). sets new (r .next) (starts σ (afterFirst left) u)) (step .tick)
+          ∙ stored-on w next (firstStarts σ left t) (starts σ (afterFirst left) (t + firstTime σ left)) (step .table) (omega (arith, first-length σ left t f, step .next)) refl
+          ∙ ap (sets w next) (sym (starts-first σ left t f))
+
+      same-room : length new ≡ length w
+      same-room = ap length (step .table) ∙ length-sets w next (firstStarts σ left t)
+
+      pub starting-next : Starting s from to σ t₀ old new (r .tick) (r .next)
+      starting-next = record {
+        all = P .all;
+        rest = record {
+          file = record {
+            block = afterFirst left;
+            stands = subst (λ (j : ℕ). Stands Laid s j to (afterFirst left)) (sym (step .next)) (stands-after left (P .rest .file .stands) l k);
+            inside = P .rest .file .inside;
+          };
+          room = omega (arith, P .rest .room, same-room);
+          early = omega (arith, P .rest .early, step .tick, time-first σ left);
+        };
+        on = omega (arith, P .on, starting-on);
+        kept = same-room ∙ P .kept;
+        counts = omega (arith, P .counts, step .next, size-first left);
+        lasts = omega (arith, P .lasts, step .tick, time-first σ left);
+        same = follows ∙ P .same;
+      }

@@ -1,0 +1,4 @@
+-- What the contracts of listing cite beside the model's definitions.
+pub mod Starts
+pub mod Lines
+pub mod Listing

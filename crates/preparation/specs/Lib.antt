@@ -1,0 +1,2 @@
+-- What preparing a task answers.
+pub mod Contracts
