@@ -1,0 +1,4 @@
+// The list program, run on case C, the factorial.
+fn main() {
+    printing::print_listing();
+}

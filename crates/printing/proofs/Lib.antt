@@ -1,0 +1,2 @@
+-- What the proofs on text cite.
+pub mod Digits
