@@ -68,46 +68,48 @@ module _ {s : List ℕ} {i to : ℕ} {σ : Settings} {t : ℕ} {out : List ℕ} 
     two-stands : Stands Laid s (e .next + 1) to two
     two-stands = subst (λ (j : ℕ). Stands Laid s (j + 1) to two) (sym (first .next)) two-there
 
-    pub two-entered : Entered s (e .next + 1) to σ (t + 1) (setAt w (e .next) (t + 1))
-    two-entered = record {
-      file = record { block = two; stands = two-stands; inside = S .entered .file .inside };
-      room = omega (arith, S .entered .room, same-room, length-set w (e .next) (t + 1));
-      early = omega (arith, sides-early);
-    }
+    -- the table once ELSE is stored
+    module _ {u : List ℕ} (kept : length u ≡ length w) where
+      pub two-entered : Entered s (e .next + 1) to σ (t + 1) u
+      two-entered = record {
+        file = record { block = two; stands = two-stands; inside = S .entered .file .inside };
+        room = omega (arith, S .entered .room, same-room, kept);
+        early = omega (arith, sides-early);
+      }
 
-    module _ {v : List ℕ} {f : Place} (T : BlockStarted s (e .next + 1) to σ (t + 1) (setAt w (e .next) (t + 1)) v f) where
-      second : Stored (starts σ two (t + 1)) (time σ two) (size two) (e .next + 1) (t + 1) (setAt w (e .next) (t + 1)) v f
-      second = T .right two two-stands
+      module _ {v : List ℕ} {f : Place} (T : BlockStarted s (e .next + 1) to σ (t + 1) u v f) where
+        second : Stored (starts σ two (t + 1)) (time σ two) (size two) (e .next + 1) (t + 1) u v f
+        second = T .right two two-stands
 
-      pub last-inside : f .next < to
-      last-inside = omega (arith, first .next, second .next, inside)
+        pub last-inside : f .next < to
+        last-inside = omega (arith, first .next, second .next, inside)
 
-      pub last-kept : length v ≡ length out
-      last-kept = ap length (second .table) ∙ length-sets (setAt w (e .next) (t + 1)) (e .next + 1) (starts σ two (t + 1)) ∙ length-set w (e .next) (t + 1) ∙ same-room
+        pub last-kept : length v ≡ length out
+        last-kept = ap length (second .table) ∙ length-sets u (e .next + 1) (starts σ two (t + 1)) ∙ kept ∙ same-room
 
-      pub last-room : f .next < length v
-      last-room = omega (arith, last-inside, last-kept, S .entered .room)
+        pub last-room : f .next < length v
+        last-room = omega (arith, last-inside, last-kept, S .entered .room)
 
-      module _ {end : ℕ} (m : end ≡ max (e .tick) (f .tick)) where
-        meets : end ≡ t + 1 + max (time σ one) (time σ two)
-        meets = omega (arith, m, first .tick, second .tick)
+        module _ (stored : u ≡ setAt w (e .next) (t + 1)) {end : ℕ} (m : end ≡ max (e .tick) (f .tick)) where
+          meets : end ≡ t + 1 + max (time σ one) (time σ two)
+          meets = omega (arith, m, first .tick, second .tick)
 
-        all-stored : setAt v (f .next) end ≡ sets out i (firstStarts σ (branch (testOf (recordAt s i)) one two (afterFirst (block S))) t)
-        all-stored =
-            let a = starts-length σ one (t + 1) (one-there .fills .of-form) in
-            let d = starts-length σ two (t + 1) (two-there .fills .of-form) in
-            let A = t ∷ starts σ one (t + 1) in
-            let B = A ++ (t + 1) ∷ [] in
-            let D = starts σ two (t + 1) in
-            let p1 = stored-on out i (t ∷ []) (starts σ one (t + 1)) refl refl (first .table) in
-            let p2 = stored-on out i A ((t + 1) ∷ []) {j = e .next} p1 (omega (arith, a, first .next)) refl in
-            let p3 = stored-on out i B D p2 (simp length-append (omega (arith, a, first .next))) (second .table) in
-            let p4 = stored-on out i (B ++ D) (end ∷ []) {j = f .next} p3 (simp length-append (omega (arith, a, d, first .next, second .next))) refl in
-            let ends : B ++ D ++ end ∷ [] ≡ t ∷ (starts σ one (t + 1) ++ (t + 1) ∷ (D ++ (t + 1 + max (time σ one) (time σ two)) ∷ [])) =
-            simp append-assoc (ap (λ (u : ℕ). t ∷ (starts σ one (t + 1) ++ (t + 1) ∷ (D ++ u ∷ []))) meets) in
-            p4 ∙ ap (sets out i) ends
+          all-stored : setAt v (f .next) end ≡ sets out i (firstStarts σ (branch (testOf (recordAt s i)) one two (afterFirst (block S))) t)
+          all-stored =
+              let a = starts-length σ one (t + 1) (one-there .fills .of-form) in
+              let d = starts-length σ two (t + 1) (two-there .fills .of-form) in
+              let A = t ∷ starts σ one (t + 1) in
+              let B = A ++ (t + 1) ∷ [] in
+              let D = starts σ two (t + 1) in
+              let p1 = stored-on out i (t ∷ []) (starts σ one (t + 1)) refl refl (first .table) in
+              let p2 = stored-on out i A ((t + 1) ∷ []) {j = e .next} p1 (omega (arith, a, first .next)) stored in
+              let p3 = stored-on out i B D p2 (simp length-append (omega (arith, a, first .next))) (second .table) in
+              let p4 = stored-on out i (B ++ D) (end ∷ []) {j = f .next} p3 (simp length-append (omega (arith, a, d, first .next, second .next))) refl in
+              let ends : B ++ D ++ end ∷ [] ≡ t ∷ (starts σ one (t + 1) ++ (t + 1) ∷ (D ++ (t + 1 + max (time σ one) (time σ two)) ∷ [])) =
+              simp append-assoc (ap (λ (x : ℕ). t ∷ (starts σ one (t + 1) ++ (t + 1) ∷ (D ++ x ∷ []))) meets) in
+              p4 ∙ ap (sets out i) ends
 
-        pub branch-started : StatementStarted s i to σ t out (setAt v (f .next) end) (place end (f .next + 1))
-        branch-started =
-            told S (subst (λ (b : Block). Stored (firstStarts σ b t) (firstTime σ b) (firstSize b) i t out (setAt v (f .next) end) (place end (f .next + 1))) (sym is-if)
-            (record { table = all-stored; tick = omega (arith, meets); next = omega (arith, first .next, second .next) }))
+          pub branch-started : StatementStarted s i to σ t out (setAt v (f .next) end) (place end (f .next + 1))
+          branch-started =
+              told S (subst (λ (b : Block). Stored (firstStarts σ b t) (firstTime σ b) (firstSize b) i t out (setAt v (f .next) end) (place end (f .next + 1))) (sym is-if)
+              (record { table = all-stored; tick = omega (arith, meets); next = omega (arith, first .next, second .next) }))

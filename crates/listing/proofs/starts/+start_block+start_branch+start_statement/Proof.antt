@@ -1,7 +1,7 @@
 -- The table of starts is filled statement by statement; the laws of proofs/Starting*.antt say what each turn and each answer comes to.
 use Prim.Native.Nat.{ℕ, _+_, _*_, _-_, _<_}
 use native.Mathlib.Omega.{arith}
-use mathlib.Core.Path.{ap, sym, _∙_}
+use mathlib.Core.Path.{refl, ap, sym, _∙_}
 use lib.ListN.{length-set}
 use borrow.Author.Needs.{needs}
 use Rattle.model.specs.Records.{Rec}
@@ -171,7 +171,7 @@ start-branch-start-block-requires-2 t c κs =
     let e = c .before .before .before .start-block .ensures in
     let i = middle-after (w .pre .1 .0) (w .pre .1 .1) e in
     let j = middle-inside (w .pre .1 .0) (w .pre .1 .1) e in
-    (omega (arith, w .pre .0, w .pre .1 .0 .inside), two-entered (w .pre .1 .0) (w .pre .1 .1) e)
+    (omega (arith, w .pre .0, w .pre .1 .0 .inside), two-entered (w .pre .1 .0) (w .pre .1 .1) e (simp length-set))
 
 start-branch-later-requires : (t : ℕ) → start-branch-lts.Need-later-requires (start-branch-claims t) (start-branch-at t) start-branch.Post
 start-branch-later-requires t c κs = search needs
@@ -180,31 +180,31 @@ start-branch-mul-out-3 : (t : ℕ) → start-branch-lts.Need-mul-out-3 (start-br
 start-branch-mul-out-3 t c =
     let w = c .before .before .before .before .before .before .before in
     let v = w .before .before .before .before in
-    omega (arith, last-inside (v .pre .1 .0) (v .pre .1 .1) (w .start-block .ensures) (c .before .before .before .start-block2 .ensures), v .pre .1 .0 .entered .room)
+    omega (arith, last-inside (v .pre .1 .0) (v .pre .1 .1) (w .start-block .ensures) (simp length-set) (c .before .before .before .start-block2 .ensures), v .pre .1 .0 .entered .room)
 
 start-branch-slice-write-out-3 : (t : ℕ) → start-branch-lts.Need-slice-write-out-3 (start-branch-claims t) (start-branch-at t) start-branch.Post
 start-branch-slice-write-out-3 t c =
     let w = c .before .before .before .before .before .before .before in
     let v = w .before .before .before .before in
-    omega (arith, last-room (v .pre .1 .0) (v .pre .1 .1) (w .start-block .ensures) (c .before .before .before .start-block2 .ensures))
+    omega (arith, last-room (v .pre .1 .0) (v .pre .1 .1) (w .start-block .ensures) (simp length-set) (c .before .before .before .start-block2 .ensures))
 
 start-branch-add-t13 : (t : ℕ) → start-branch-lts.Need-add-t13 (start-branch-claims t) (start-branch-at t) start-branch.Post
 start-branch-add-t13 t c =
     let w = c .before .before .before .before .before .before .before in
     let v = w .before .before .before .before in
-    omega (arith, last-inside (v .pre .1 .0) (v .pre .1 .1) (w .start-block .ensures) (c .before .before .before .start-block2 .ensures))
+    omega (arith, last-inside (v .pre .1 .0) (v .pre .1 .1) (w .start-block .ensures) (simp length-set) (c .before .before .before .start-block2 .ensures))
 
 start-branch-same-length : (t : ℕ) → start-branch-lts.Need-same-length (start-branch-claims t) (start-branch-at t) start-branch.Post
 start-branch-same-length t c =
     let w = c .before .before .before .before .before .before .before in
     let v = w .before .before .before .before in
-    simp length-set (last-kept (v .pre .1 .0) (v .pre .1 .1) (w .start-block .ensures) (c .before .before .before .start-block2 .ensures))
+    simp length-set (last-kept (v .pre .1 .0) (v .pre .1 .1) (w .start-block .ensures) (simp length-set) (c .before .before .before .start-block2 .ensures))
 
 start-branch-returns : (t : ℕ) → start-branch-lts.Need-returns (start-branch-claims t) (start-branch-at t) start-branch.Post
 start-branch-returns t c =
     let w = c .before .before .before .before .before .before .before in
     let v = w .before .before .before .before in
-    branch-started (v .pre .1 .0) (v .pre .1 .1) (w .start-block .ensures) (c .before .before .before .start-block2 .ensures) (c .later .ensures)
+    branch-started (v .pre .1 .0) (v .pre .1 .1) (w .start-block .ensures) (simp length-set) (c .before .before .before .start-block2 .ensures) refl (c .later .ensures)
 
 start-statement-record-at-requires : (t : ℕ) → start-statement-lts.Need-record-at-requires (start-statement-claims t) (start-statement-at t) start-statement.Post
 start-statement-record-at-requires t c κs = omega (arith, c .before .before .pre .1 .inside, c .before .before .pre .1 .entered .file .inside)
