@@ -22,20 +22,20 @@ use Rattle.model.specs.Placement.{Positive, Fits}
 
 -- ROWS
 
-neither : (a b : Bool) → (a || b) ≡ false → (a ≡ false) × (b ≡ false)
+pub neither : (a b : Bool) → (a || b) ≡ false → (a ≡ false) × (b ≡ false)
 neither true b e = let z : _≡_ {A = ℕ} 0 1 = cc in absurd (omega arith)
 neither false b e = (refl, e)
 
-passed : (n : ℕ) (cause : Bool) (next : Verdict) (xs : List ℕ) → turnDown n cause next ≡ finished xs → (cause ≡ false) × (next ≡ finished xs)
+pub passed : (n : ℕ) (cause : Bool) (next : Verdict) (xs : List ℕ) → turnDown n cause next ≡ finished xs → (cause ≡ false) × (next ≡ finished xs)
 passed n true next xs e = let z : _≡_ {A = ℕ} 0 1 = cc in absurd (omega arith)
 passed n false next xs e = (refl, e)
 
-record Read (s : List ℕ) (f : Form) (file : List ℕ) (next : Verdict) (xs : List ℕ) : Type 0 where
-  settings-good : badSettings s ≡ false
-  file-sound : fault f file ≡ sound
-  goes-on : next ≡ finished xs
+pub record Read (s : List ℕ) (f : Form) (file : List ℕ) (next : Verdict) (xs : List ℕ) : Type 0 where
+  pub settings-good : badSettings s ≡ false
+  pub file-sound : fault f file ≡ sound
+  pub goes-on : next ≡ finished xs
 
-read : (s : List ℕ) (f : Form) (file : List ℕ) (next : Verdict) (xs : List ℕ) → reading s f file next ≡ finished xs → Read s f file next xs
+pub read : (s : List ℕ) (f : Form) (file : List ℕ) (next : Verdict) (xs : List ℕ) → reading s f file next ≡ finished xs → Read s f file next xs
 unfolding reading
 read s f file next xs e =
     let p = passed 6 (badSettings s) (unless (fault f file) next) xs e in
