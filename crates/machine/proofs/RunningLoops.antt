@@ -15,9 +15,10 @@ use Rattle.theory.proofs.Sequences.{⊳-assoc}
 use Rattle.reading.specs.Closing.{opensBlock}
 use Rattle.reading.specs.Ranges.{Stands, firstPart, afterFirst, testOf}
 use Rattle.reading.proofs.Standing.{while-at, times-at, body-stands, body-ends}
-use Rattle.machine.specs.declared.blocks.Progress.{Progress}
-use Rattle.machine.specs.Machines.{held, runs}
-use Rattle.machine.specs.Contracts.{going, halted, Ran, Entered, Statement, BlockRan, StatementRan, Rounds, closed}
+use Rattle.stepping.specs.declared.progress.Progress.{Progress}
+use Rattle.stepping.specs.Machines.{held, runs}
+use Rattle.stepping.specs.Steps.{going, halted, Ran}
+use Rattle.machine.specs.Contracts.{Entered, Statement, BlockRan, StatementRan, Rounds, closed}
 use Rattle.machine.proofs.Doing.{spin-cut, spin-end, spin-round, rounds-nothing}
 use Rattle.machine.proofs.Running.{runs-same, onward, cutAt, ran-early, ran-on, ran-halted, ran-from}
 use Rattle.machine.proofs.RunningSteps.{block, form, stands, told}
