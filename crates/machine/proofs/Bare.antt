@@ -9,7 +9,7 @@ use Rattle.model.specs.Trees.{Block}
 use Rattle.model.specs.Runs.{Step, step, Run, run}
 use Rattle.theory.proofs.Views.{see, Alike, alike-move}
 use Rattle.theory.proofs.Unindexed.{unindexed}
-use Rattle.machine.specs.Machines.{Machine, acted, cutOff, turn, does, runs}
+use Rattle.stepping.specs.Machines.{Machine, acted, cutOff, turn, does, runs}
 use Rattle.machine.specs.Contracts.{bare}
 
 module _ (limit : ℕ) where

@@ -1,4 +1,4 @@
--- The machine on lists of steps: one list after another, a run that goes on or has halted, single steps, and what the model's runs say of it.
+-- The machine on lists of steps: one list after another, a run that goes on or has halted, tests, and what the model's runs say of it.
 use Prim.Native.Nat.{ℕ, zero, suc, _+_, _-_, _≤_, _<_}
 use native.Mathlib.Omega.{arith}
 use native.Mathlib.Nat.{add-zero, add-assoc}
@@ -8,9 +8,9 @@ use mathlib.Core.List.{List, [], _∷_, _++_, append-nil}
 use lib.Dec.{leb, ltb}
 use borrow.Author.Tests.{leb-true, leb-false, le-leb, lt-leb, le-ltb, lt-ltb, ltb-true, ltb-false}
 use Rattle.model.specs.Trees.{Test}
-use Rattle.model.specs.Runs.{Effect, nothing, overruns, isOverrun, Step, step, duration, variablesAfter, outputsAfter, level, mark, overran, holds, lastTest, Run, _⊳_, single, choose, spin, rounds}
+use Rattle.model.specs.Runs.{nothing, isOverrun, Step, step, duration, variablesAfter, outputsAfter, level, mark, overran, holds, Run, _⊳_, choose, spin, rounds}
 use Rattle.model.specs.Stopping.{upto, lastImage}
-use Rattle.machine.specs.Machines.{Held, affect, Machine, machine, acted, cutOff, turn, does, runs}
+use Rattle.stepping.specs.Machines.{Held, affect, Machine, machine, acted, cutOff, turn, does, runs}
 
 -- both sides less the same
 ltb-less : (c d n : ℕ) → d ≤ c → ltb c (d + n) ≡ ltb (c - d) n
@@ -126,30 +126,11 @@ module _ (limit : ℕ) where
           let yes : overran es ≡ true = rw o at (sym (done es m c .overran-too) ∙ rw c at h) in
           rw (yes, append-nil es)
 
-  -- SINGLE STEPS AND TESTS, from tick t
+  -- TESTS, from tick t
 
   module _ (t : ℕ) (h : Held) where
     abbrev here : Machine
     here = machine t false false h
-
-    pub single-cut : (d i : ℕ) (w : List ℕ → Effect) → limit < t + d → runs limit (single d i w) here ≡ machine t true false h
-    unfolding runs
-    single-cut d i w l = rw (lt-leb (t + d) limit l)
-
-    pub single-done : (d i : ℕ) (w : List ℕ → Effect) → t + d ≤ limit
-        → runs limit (single d i w) here ≡ machine (t + d) false (isOverrun (w (h .variables))) (affect (i + 1) (t + d) (w (h .variables)) h)
-    unfolding runs
-    single-done d i w l = rw (le-leb (t + d) limit l)
-
-    pub test-cut : (i : ℕ) (q : Test) → limit ≤ t → runs limit (single 1 i (lastTest q)) here ≡ machine t true false h
-    test-cut i q l = single-cut 1 i (lastTest q) (omega arith)
-
-    pub test-done : (i : ℕ) (q : Test) → t < limit → runs limit (single 1 i (lastTest q)) here ≡ machine (t + 1) false (holds q (h .variables)) h
-    test-done i q l = single-done 1 i (lastTest q) (omega arith) ∙ go (holds q (h .variables))
-      where
-        go : (o : Bool) → machine (t + 1) false (isOverrun (cond o overruns nothing)) (affect (i + 1) (t + 1) (cond o overruns nothing) h) ≡ machine (t + 1) false o h
-        go true = refl
-        go false = refl
 
     -- the test of an IF or a WHILE, and what follows it
     tested-cut : (i : ℕ) (es : List Step) → limit ≤ t → does limit (step 1 i nothing ∷ es) here ≡ machine t true false h

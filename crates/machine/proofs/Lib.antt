@@ -1,9 +1,6 @@
 -- The laws of the machine.
-pub mod CellLaws
-pub mod StepLaws
-pub mod BufferLaws
 pub mod Doing
-pub mod Turns
+pub mod Behind
 pub mod Running
 pub mod RunningSteps
 pub mod RunningBranches
@@ -12,7 +9,6 @@ pub mod Positions
 pub mod Bare
 pub mod TakingUp
 pub mod ReadyLaws
-pub mod ImageLaws
 pub mod Marks
 pub mod Whole
 pub mod Replies

@@ -24,7 +24,7 @@ use Rattle.records.specs.declared.settings.Decoded.{Decoded}
 use Rattle.records.specs.declared.settings.Decoded.the-variants.{Valid, Refused}
 use Rattle.records.specs.Decoded.{decoded}
 use Rattle.reading.proofs.Entry.{kept-refusal}
-use Rattle.machine.specs.declared.blocks.Progress.{Progress}
+use Rattle.stepping.specs.declared.progress.Progress.{Progress}
 use Rattle.machine.specs.Calls.{badLengths, Readies, Ready, steps, RunWhole, stopVerdict, Stops, resumeVerdict, Resumes}
 use Rattle.machine.proofs.Whole.{neither, equal-of}
 

@@ -13,9 +13,10 @@ use Rattle.reading.specs.Closing.{closesBlock}
 use Rattle.reading.specs.Ranges.{Stands, firstSize, afterFirst}
 use Rattle.reading.proofs.Filled.{size-first}
 use Rattle.reading.proofs.Standing.{stands-once, stands-closed, stands-end, stands-some, stands-after}
-use Rattle.machine.specs.declared.blocks.Progress.{Progress}
-use Rattle.machine.specs.Machines.{Machine, does, runs}
-use Rattle.machine.specs.Contracts.{going, reached, halted, Ran, firstRun, Entered, Statement, BlockRan, StatementRan}
+use Rattle.stepping.specs.declared.progress.Progress.{Progress}
+use Rattle.stepping.specs.Machines.{Machine, does, runs}
+use Rattle.stepping.specs.Steps.{going, reached, halted, Ran}
+use Rattle.machine.specs.Contracts.{firstRun, Entered, Statement, BlockRan, StatementRan}
 use Rattle.machine.proofs.Doing.{runs-within, runs-on, runs-halted}
 
 -- WHAT AN ANSWER SAYS

@@ -11,9 +11,10 @@ use Rattle.model.specs.Trees.{Test, Block, branch, size}
 use Rattle.model.specs.Runs.{holds, run}
 use Rattle.reading.specs.Ranges.{Stands, firstPart, secondPart, afterFirst, testOf}
 use Rattle.reading.proofs.Standing.{ending, if-at, first-side, second-side, sides-end}
-use Rattle.machine.specs.declared.blocks.Progress.{Progress}
-use Rattle.machine.specs.Machines.{held, runs}
-use Rattle.machine.specs.Contracts.{going, halted, Ran, firstRun, Entered, Statement, BlockRan, StatementRan, Inner, closed, passed, chosen}
+use Rattle.stepping.specs.declared.progress.Progress.{Progress}
+use Rattle.stepping.specs.Machines.{held, runs}
+use Rattle.stepping.specs.Steps.{going, halted, Ran}
+use Rattle.machine.specs.Contracts.{firstRun, Entered, Statement, BlockRan, StatementRan, Inner, closed, passed, chosen}
 use Rattle.machine.proofs.Doing.{choose-cut, choose-first, choose-second}
 use Rattle.machine.proofs.Running.{reached-going, onward, cutAt, ran-from}
 use Rattle.machine.proofs.RunningSteps.{block, form, stands, told}

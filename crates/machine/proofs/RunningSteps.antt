@@ -20,9 +20,10 @@ use Rattle.reading.specs.Ranges.{Stands, firstSize, afterFirst}
 use Rattle.reading.proofs.Standing.{stands-once, stands-some, skip-at, act-at}
 use Rattle.timing.specs.Times.{stepTicks}
 use Rattle.timing.proofs.Firsts.{act-ticks}
-use Rattle.machine.specs.declared.blocks.Progress.{Progress}
-use Rattle.machine.specs.Machines.{runs, recordEffect}
-use Rattle.machine.specs.Contracts.{going, Ran, firstRun, Statement, StatementRan}
+use Rattle.stepping.specs.declared.progress.Progress.{Progress}
+use Rattle.stepping.specs.Machines.{runs, recordEffect}
+use Rattle.stepping.specs.Steps.{going, Ran}
+use Rattle.machine.specs.Contracts.{firstRun, Statement, StatementRan}
 use Rattle.machine.proofs.Running.{runs-same, ran-from}
 
 -- FIELDS

@@ -18,9 +18,10 @@ use Rattle.reading.specs.declared.blocks.Pass.{Pass}
 use Rattle.reading.specs.declared.blocks.Pass.the-variants.{Ends, On}
 use Rattle.reading.specs.Closing.{passTo, goOn, closingIn}
 use Rattle.reading.proofs.Standing.{stands-once, stands-end}
-use Rattle.machine.specs.declared.blocks.Progress.{Progress}
-use Rattle.machine.specs.Machines.{runs}
-use Rattle.machine.specs.Contracts.{going, reached, halted, Ran, Entered, BlockRan, Inner, closed, passed, bare, TakesUp, TookUp}
+use Rattle.stepping.specs.declared.progress.Progress.{Progress}
+use Rattle.stepping.specs.Machines.{runs}
+use Rattle.stepping.specs.Steps.{going, reached, halted, Ran}
+use Rattle.machine.specs.Contracts.{Entered, BlockRan, Inner, closed, passed, bare, TakesUp, TookUp}
 use Rattle.machine.proofs.Running.{runs-same, ran-early, ran-on, ran-halted, onward}
 use Rattle.machine.proofs.Positions.{Position, Onward, position}
 use Rattle.machine.proofs.Bare.{runs-moved}

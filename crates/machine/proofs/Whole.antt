@@ -29,16 +29,17 @@ use Rattle.theory.proofs.Within.{run-within}
 use Rattle.reading.specs.Closing.{Closings}
 use Rattle.reading.specs.Ranges.{Fillable, Stands}
 use Rattle.reading.proofs.Standing.{stands-file}
-use Rattle.machine.specs.declared.blocks.Progress.{Progress}
-use Rattle.machine.specs.Machines.{Held, held, Machine, machine, does, runs}
-use Rattle.machine.specs.Contracts.{reached, Entered, BlockRan, bare, TakesUp, TookUp}
-use Rattle.machine.specs.Buffers.{Stored, withVariables, withOutputs}
-use Rattle.machine.specs.Calls.{badLengths, Ready, steps, RunWhole, stopVerdict, Stops, strayAt, resumeVerdict, Resumes, StoredImage}
+use Rattle.stepping.specs.declared.progress.Progress.{Progress}
+use Rattle.stepping.specs.Machines.{Held, held, Machine, machine, does, runs}
+use Rattle.stepping.specs.Steps.{reached}
+use Rattle.machine.specs.Contracts.{Entered, BlockRan, bare, TakesUp, TookUp}
+use Rattle.stepping.specs.Buffers.{withVariables, withOutputs, Stored, StoredImage}
+use Rattle.machine.specs.Calls.{badLengths, Ready, steps, RunWhole, stopVerdict, Stops, strayAt, resumeVerdict, Resumes}
 use Rattle.machine.proofs.Doing.{heldAfter, does-upto}
 use Rattle.machine.proofs.RunningLoops.{denied, granted}
 use Rattle.machine.proofs.Marks.{marks-bytes}
 use Rattle.machine.proofs.Positions.{rest-shorter}
-use Rattle.machine.proofs.ImageLaws.{beyond}
+use Rattle.stepping.proofs.ImageLaws.{beyond}
 
 or-true : (o : Bool) → (o || true) ≡ true
 or-true true = refl

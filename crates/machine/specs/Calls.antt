@@ -13,14 +13,14 @@ use Rattle.model.specs.Settings.{settingsOf}
 use Rattle.model.specs.Trees.{fileTree}
 use Rattle.model.specs.Times.{time}
 use Rattle.model.specs.Runs.{Step, duration, overran, Buffers, leave, cleared, run}
-use Rattle.model.specs.Stopping.{upto, Saved, none, Image, lastImage, imageOf, takeUp}
+use Rattle.model.specs.Stopping.{upto, none, Image, lastImage, imageOf, takeUp}
 use Rattle.model.specs.Answers.{Verdict, finished, bit, stopped, resumed}
 use Rattle.model.specs.Replies.{turnDown, reading, above, fileTime, kept, buffersOf, ended, isSaved, imageOver, afterSave}
 use Rattle.records.specs.declared.settings.Decoded.{Decoded}
 use Rattle.records.specs.declared.settings.Decoded.the-variants.{Valid}
 use Rattle.records.specs.Decoded.{decoded}
 use Rattle.reading.specs.Ranges.{SoundFile}
-use Rattle.machine.specs.declared.blocks.Progress.{Progress}
+use Rattle.stepping.specs.declared.progress.Progress.{Progress}
 
 -- row 10, of lengths
 abbrev pub badLengths : ℕ → ℕ → ℕ → ℕ → Bool
@@ -73,8 +73,3 @@ pub record Resumes (file : List ℕ) (σ : Settings) (ins v l m image v′ l′ 
   pub reply : resumed r ≡ resumeVerdict file σ ins (imageOf image)
   pub leaves : buffersOf v′ l′ m′
       ≡ kept (resumeVerdict file σ ins (imageOf image)) (leave (takeUp σ ins (fileTree file) (imageOf image)) (buffersOf (imageOf image .variables) l m)) (buffersOf v l m)
-
--- the last image over a lent buffer, and whether there is one
-pub record StoredImage (s : Saved) (old new : List ℕ) (r : Bool) : Type 0 where
-  pub told : r ≡ isSaved s
-  pub bytes : new ≡ imageOver s old

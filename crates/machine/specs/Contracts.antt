@@ -1,48 +1,24 @@
 -- What the functions that run a file's records answer, for every block that stands where they start.
 use Prim.Native.Nat.{ℕ, _+_, _*_, _-_, _≤_, _<_}
 use mathlib.Core.Path.{_≡_}
-use mathlib.Core.Bool.{Bool, false, cond, _||_}
+use mathlib.Core.Bool.{Bool, false, cond}
 use mathlib.Core.List.{List, []}
 use mathlib.Core.Logic.{_⊎_}
 use lib.Dec.{eqb}
 use lib.ListN.{length}
 use Rattle.model.specs.declared.Form.{Form}
 use Rattle.model.specs.declared.Settings.{Settings}
-use Rattle.model.specs.Records.{Rec, kindAt, ELSE}
+use Rattle.model.specs.Records.{kindAt, ELSE}
 use Rattle.model.specs.Trees.{Block, nil, skip, act, branch, while, times, size}
 use Rattle.model.specs.Times.{ticks}
 use Rattle.model.specs.Stopping.{none, rest}
 use Rattle.model.specs.Placement.{LoopFree}
-use Rattle.model.specs.Runs.{nothing, isOverrun, effect, lastTest, Run, _⊳_, single, choose, spin, rounds, run}
+use Rattle.model.specs.Runs.{nothing, effect, lastTest, Run, _⊳_, single, choose, spin, rounds, run}
 use Rattle.reading.specs.Closing.{closesBlock, closingIn, Closings}
 use Rattle.reading.specs.Ranges.{Stands, InFile, firstSize}
-use Rattle.machine.specs.declared.blocks.Progress.{Progress}
-use Rattle.machine.specs.Machines.{held, affect, Machine, machine, runs, recordEffect}
-
--- what a run is lent: inputs and cells
-pub record Lent (ins w : List ℕ) : Type 0 where
-  pub inputs : length ins ≡ 8
-  pub cells : length w ≡ 50
-
--- the machine at tick t, and where a function left it
-abbrev pub going : ℕ → List ℕ → Machine
-going t w = machine t false false (held w)
-
-abbrev pub reached : Progress → List ℕ → Machine
-reached r w = machine (r .tick) (r .cut) (r .overran) (held w)
-
-abbrev pub halted : Progress → Bool
-halted r = r .cut || r .overran
-
--- one record's effect, and whether the run overran
-pub record Acts (ins : List ℕ) (r : Rec) (next t : ℕ) (old new : List ℕ) (o : Bool) : Type 0 where
-  pub holds : held new ≡ affect next t (recordEffect ins r (held old .variables)) (held old)
-  pub overran : o ≡ isOverrun (recordEffect ins r (held old .variables))
-
--- a run f of the records up to j
-pub record Ran (limit : ℕ) (f : Run) (j t : ℕ) (old new : List ℕ) (r : Progress) : Type 0 where
-  pub reaches : reached r new ≡ runs limit f (going t old)
-  pub goes : halted r ≡ false → r .next ≡ j
+use Rattle.stepping.specs.declared.progress.Progress.{Progress}
+use Rattle.stepping.specs.Machines.{Machine, machine, runs}
+use Rattle.stepping.specs.Steps.{Lent, going, reached, Ran}
 
 -- the run of a block's first statement
 abbrev pub firstRun : Settings → List ℕ → Block → ℕ → Run

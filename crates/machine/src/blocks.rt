@@ -1,104 +1,24 @@
 // Blocks run up to a limit: a step that does not end by then is not done, and the run is cut there.
 ghost use mathlib.Core.Path.{_≡_};
-ghost use mathlib.Core.Bool.{true, false};
 ghost use Prim.Native.Nat.{_+_, _*_, _≤_, _<_};
 ghost use lib.ListN.{length};
 ghost use Rattle.model.specs.Records.{kindAt, recordAt, IF, WHILE, TIMES};
-ghost use Rattle.model.specs.Refusals.{testFits, fieldsFit};
-ghost use Rattle.model.specs.Runs.{single, lastTest};
 ghost use Rattle.records.specs.Records.{recordOf};
-ghost use Rattle.reading.specs.Ranges.{testOf};
-ghost use Rattle.machine.specs.Machines.{recordEffect};
-ghost use Rattle.machine.specs.Contracts.{Lent, halted, Ran, Entered, Statement, BlockRan, StatementRan, Rounds, Inner, closed, passed, chosen, TakesUp, TookUp};
-use crate::steps::act;
-use crate::steps::test_holds;
+ghost use Rattle.machine.specs.Contracts.{Entered, Statement, BlockRan, StatementRan, Rounds, Inner, closed, passed, chosen, TakesUp, TookUp};
 use model::Settings;
 use reading::blocks::closes;
 use records::Record;
 use records::kind_at;
 use records::kinds;
 use records::record_at;
+use stepping::progress::Progress;
+use stepping::progress::cut_off;
+use stepping::progress::ended;
+use stepping::progress::going;
+use stepping::progress::run_last_test;
+use stepping::progress::run_step;
+use stepping::steps::test_holds;
 use timing::ticks::step_ticks;
-
-// Where a run is: its tick, the next record, whether it was cut at the limit, and whether it overran. A run that was cut or overran has
-// no next record.
-pub struct Progress {
-    pub tick: u32,
-    pub next: usize,
-    pub cut: bool,
-    pub overran: bool,
-}
-
-fn going(tick: u32, next: usize) -> Progress
-    ensures { λ r. ⌜ r ≡ record { tick = tick; next = next; cut = false; overran = false } ⌝ }
-{
-    Progress {
-        tick,
-        next,
-        cut: false,
-        overran: false,
-    }
-}
-
-fn cut_off(tick: u32) -> Progress
-    ensures { λ r. ⌜ r ≡ record { tick = tick; next = 0; cut = true; overran = false } ⌝ }
-{
-    Progress {
-        tick,
-        next: 0,
-        cut: true,
-        overran: false,
-    }
-}
-
-fn ended(e: Progress) -> bool
-    ensures { λ r. ⌜ r ≡ halted e ⌝ }
-{
-    e.cut | e.overran
-}
-
-// The record at i, which opens and closes no block.
-fn run_step(
-    i: usize,
-    r: Record,
-    lasts: u32,
-    inputs: &[u32],
-    limit: u32,
-    tick: u32,
-    cells: &mut [u32],
-) -> Progress
-    requires { ⌜ (Lent (now inputs) (now cells)) × (fieldsFit (recordOf r) ≡ true) × (i < 5461) × (tick ≤ limit) ⌝ }
-    ensures { λ e. ⌜ Ran limit (single lasts i (recordEffect (now (inputs .entry)) (recordOf r))) (i + 1) tick (now (cells .entry)) (now (cells .exit)) e ⌝ }
-{
-    if limit - tick < lasts {
-        return cut_off(tick);
-    }
-    let next = i + 1;
-    let end = tick + lasts;
-    let overran = act(r, next, end, inputs, cells);
-    Progress {
-        tick: end,
-        next,
-        cut: false,
-        overran,
-    }
-}
-
-// The last test of the loop at i, before the record `next`.
-fn run_last_test(i: usize, r: Record, next: usize, limit: u32, tick: u32, cells: &[u32]) -> Progress
-    requires { ⌜ (length (now cells) ≡ 50) × (testFits (recordOf r) ≡ true) × (tick ≤ limit) ⌝ }
-    ensures { λ e. ⌜ Ran limit (single 1 i (lastTest (testOf (recordOf r)))) next tick (now (cells .entry)) (now (cells .entry)) e ⌝ }
-{
-    if limit <= tick {
-        return cut_off(tick);
-    }
-    Progress {
-        tick: tick + 1,
-        next,
-        cut: false,
-        overran: test_holds(cells, r),
-    }
-}
 
 // The rounds to walk of a loop whose body starts at i: an empty body needs none.
 fn rounds(s: &[u8], i: usize, to: usize, count: u32) -> u32

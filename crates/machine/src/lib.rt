@@ -1,25 +1,14 @@
 // Runs of files of all three forms: whole, up to a tick, and taken up.
 mod blocks;
-mod buffers;
-mod cells;
-mod images;
 mod ready;
-mod steps;
 
 ghost use mathlib.Core.Path.{_≡_};
 ghost use lib.ListN.{length, replicate};
 ghost use Rattle.model.specs.Answers.{ran, stopped, resumed};
 ghost use Rattle.model.specs.Replies.{runReply, runBuffers, stopReply, stopBuffers, stopImage, resumeReply, resumeBuffers, restartReply, restartBuffers, buffersOf, loan};
 ghost use Rattle.machine.specs.Calls.{Ready, RunWhole, Stops, Resumes};
-use blocks::Progress;
 use blocks::run_block;
 use blocks::run_from;
-use buffers::load_outputs;
-use buffers::load_variables;
-use buffers::load_words;
-use buffers::store;
-use images::after_save;
-use images::store_image;
 use model::Form;
 use model::Ran;
 use model::Refusal;
@@ -31,6 +20,14 @@ use ready::bad_buffers;
 use ready::ready;
 use records::settings::Decoded;
 use records::words::copy;
+use stepping::buffers::load_outputs;
+use stepping::buffers::load_variables;
+use stepping::buffers::load_words;
+use stepping::buffers::store;
+use stepping::buffers::store_marks;
+use stepping::images::after_save;
+use stepping::images::store_image;
+use stepping::progress::Progress;
 
 // All levels and marks set to 0.
 fn clear(levels: &mut [u32], marks: &mut [u8])
@@ -39,7 +36,7 @@ fn clear(levels: &mut [u32], marks: &mut [u8])
 {
     let zeros: [u32; 8] = [0; 8];
     copy(&zeros, levels);
-    buffers::store_marks(&zeros, marks);
+    store_marks(&zeros, marks);
 }
 
 // The whole file, from the lent variables and outputs on.

@@ -3,7 +3,7 @@ use native.Mathlib.Omega.{arith}
 use mathlib.Core.Path.{ap, _∙_}
 use lib.ListN.{length-replicate}
 use borrow.Author.Needs.{needs}
-use Rattle.machine.specs.Buffers.{withOutputs}
+use Rattle.stepping.specs.Buffers.{withOutputs}
 use Rattle.machine.proofs.Whole.{lent, index-small, whole-fills, words-stray, words-late, words-take, words-bytes, words-ran}
 use Rattle.machine.proofs.resume_ready.Statement.{statement}
 use Rattle.machine.proofs.resume_ready.Tie as tie

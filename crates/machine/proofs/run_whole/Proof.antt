@@ -1,6 +1,6 @@
 use mathlib.Core.Path.{refl, ap, _∙_}
 use borrow.Author.Needs.{needs}
-use Rattle.machine.specs.Buffers.{withOutputs}
+use Rattle.stepping.specs.Buffers.{withOutputs}
 use Rattle.machine.proofs.Whole.{left-bytes, lent, whole-fills, whole-entered, run-left, run-ran}
 use Rattle.machine.proofs.run_whole.Statement.{statement}
 use Rattle.machine.proofs.run_whole.Tie as tie

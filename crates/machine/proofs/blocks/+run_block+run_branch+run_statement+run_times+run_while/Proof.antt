@@ -9,8 +9,8 @@ use Rattle.reading.proofs.Standing.{closing-told}
 use Rattle.machine.proofs.Running.{Running, running-start, running-closed, running-ended, statement-next, running-halted, running-on, running-next}
 use Rattle.machine.proofs.RunningSteps.{fields-fit, test-there, kind-there, step-ran}
 use Rattle.machine.proofs.RunningBranches.{side-after, branch-cut, side-entered, branch-halted, side-ends, branch-ran}
-use Rattle.machine.proofs.RunningLoops.{body-before, Spinning, spinning-start, spinning-last, spinning-cut, spinning-over, spinning-entered, spinning-halted, spinning-next}
-use Rattle.machine.proofs.RunningLoops.{Turning, turning-start, turning-last, turning-entered, turning-halted, turning-next}
+use Rattle.machine.proofs.RunningLoops.{body-before, Looping, loop-last, loop-entered, loop-halted, loop-next}
+use Rattle.machine.proofs.RunningLoops.{spinning, spinning-start, spinning-cut, spinning-over, spinning-turned, turning, turning-start, turning-turned}
 use borrow.Fn.Kinds.{In}
 use borrow.Fn.PlainCycle.{Measures, is, falls, and}
 use Rattle.machine.proofs.blocks.run_block.Reads as run-block
@@ -29,15 +29,15 @@ use Rattle.machine.proofs.blocks.run_while.Reads as run-while
 use Rattle.machine.proofs.blocks.run_while.Kinds as run-while-kinds
 use Rattle.machine.proofs.blocks.+run_block+run_branch+run_statement+run_times+run_while.Lts-run_while as run-while-lts
 use Rattle.machine.proofs.blocks.behind.Reads as behind-reads
-use Rattle.machine.proofs.blocks.cut_off.Reads as cut-off-reads
-use Rattle.machine.proofs.blocks.ended.Reads as ended-reads
-use Rattle.machine.proofs.blocks.going.Reads as going-reads
+use Rattle.stepping.proofs.progress.cut_off.Reads as cut-off-reads
+use Rattle.stepping.proofs.progress.ended.Reads as ended-reads
+use Rattle.stepping.proofs.progress.going.Reads as going-reads
 use Rattle.machine.proofs.blocks.past.Reads as past-reads
 use Rattle.machine.proofs.blocks.rounds.Reads as rounds-reads
-use Rattle.machine.proofs.blocks.run_last_test.Reads as run-last-test-reads
-use Rattle.machine.proofs.blocks.run_step.Reads as run-step-reads
+use Rattle.stepping.proofs.progress.run_last_test.Reads as run-last-test-reads
+use Rattle.stepping.proofs.progress.run_step.Reads as run-step-reads
 use Rattle.machine.proofs.blocks.side.Reads as side-reads
-use Rattle.machine.proofs.steps.test_holds.Reads as test-holds-reads
+use Rattle.stepping.proofs.steps.test_holds.Reads as test-holds-reads
 use Rattle.reading.proofs.blocks.closes.Reads as closes-reads
 use Rattle.records.proofs.kind_at.Reads as kind-at-reads
 use Rattle.records.proofs.record_at.Reads as record-at-reads
@@ -390,7 +390,7 @@ run-statement-returns-4 t c =
     (c .before .before .run-step .ensures)
 
 abbrev run-times-Inv-loop : run-times-lts.InvT-loop
-run-times-Inv-loop s i to ends r n inputs limit tick cells₀ body next last at₀ round₀ cells at round = Turning s i to ends (recordOf r) n inputs limit at₀ cells₀ cells at last round next
+run-times-Inv-loop s i to ends r n inputs limit tick cells₀ body next last at₀ round₀ cells at round = Looping s i to ends (recordOf r) n inputs limit at₀ cells₀ cells at last round next (turning i)
 
 abbrev run-times-μ-loop : run-times-lts.MeasureT-loop
 run-times-μ-loop s i to ends r n inputs limit tick cells₀ body next last at₀ round₀ cells at round = last - round
@@ -418,7 +418,7 @@ run-times-loop-holds t c =
 run-times-run-block-requires : (t : ℕ) → run-times-lts.Need-run-block-requires (run-times-claims t) (run-times-at t) run-times.Post run-times-Inv-loop run-times-μ-loop
 run-times-run-block-requires t c κs =
     let w = c .before .before .before .before .before .before .before .before .before in
-    (omega (arith, w .pre .0, w .pre .1 .0 .inside), turning-entered (c .before .before .loop .inv) (c .before .loop-test .taken))
+    (omega (arith, w .pre .0, w .pre .1 .0 .inside), loop-entered (c .before .before .loop .inv) (c .before .before .loop .inv .early))
 
 run-times-ended-requires : (t : ℕ) → run-times-lts.Need-ended-requires (run-times-claims t) (run-times-at t) run-times.Post run-times-Inv-loop run-times-μ-loop
 run-times-ended-requires t c κs = search needs
@@ -429,7 +429,8 @@ run-times-same-length t c = search needs
 run-times-returns : (t : ℕ) → run-times-lts.Need-returns (run-times-claims t) (run-times-at t) run-times.Post run-times-Inv-loop run-times-μ-loop
 run-times-returns t c =
     let w = c .before .before .before .before in
-    turning-halted (w .before .before .before .loop .inv) (w .before .before .loop-test .taken) (w .run-block .ensures) (sym (c .before .ended .ensures) ∙ c .if1 .taken)
+    let p = w .before .before .before .loop .inv in
+    loop-halted p (w .before .before .loop-test .taken) (p .early) (turning-turned p) (w .run-block .ensures) (sym (c .before .ended .ensures) ∙ c .if1 .taken)
 
 run-times-add-round : (t : ℕ) → run-times-lts.Need-add-round (run-times-claims t) (run-times-at t) run-times.Post run-times-Inv-loop run-times-μ-loop
 run-times-add-round t c = search needs
@@ -440,7 +441,8 @@ run-times-loop-less t c = search needs
 run-times-loop-again : (t : ℕ) → run-times-lts.Need-loop-again (run-times-claims t) (run-times-at t) run-times.Post run-times-Inv-loop run-times-μ-loop
 run-times-loop-again t c =
     let w = c .before .before .before .before in
-    turning-next (w .before .before .before .loop .inv) (w .before .before .loop-test .taken) (w .run-block .ensures) (sym (c .before .ended .ensures) ∙ c .if1 .left) (search needs)
+    let p = w .before .before .before .loop .inv in
+    loop-next p (w .before .before .loop-test .taken) (p .early) (turning-turned p) (w .run-block .ensures) (sym (c .before .ended .ensures) ∙ c .if1 .left) (search needs)
 
 run-times-run-last-test-requires : (t : ℕ) → run-times-lts.Need-run-last-test-requires (run-times-claims t) (run-times-at t) run-times.Post run-times-Inv-loop run-times-μ-loop
 run-times-run-last-test-requires t c κs =
@@ -451,10 +453,10 @@ run-times-same-length-2 : (t : ℕ) → run-times-lts.Need-same-length-2 (run-ti
 run-times-same-length-2 t c = search needs
 
 run-times-returns-2 : (t : ℕ) → run-times-lts.Need-returns-2 (run-times-claims t) (run-times-at t) run-times.Post run-times-Inv-loop run-times-μ-loop
-run-times-returns-2 t c = turning-last (c .before .before .before .loop .inv) (c .before .before .loop-test .left) (c .run-last-test .ensures)
+run-times-returns-2 t c = loop-last (c .before .before .before .loop .inv) (c .before .before .loop-test .left) (c .run-last-test .ensures)
 
 abbrev run-while-Inv-loop : run-while-lts.InvT-loop
-run-while-Inv-loop s i to ends r n inputs limit tick cells₀ body next at₀ round₀ cells at round = Spinning s i to ends (recordOf r) n inputs limit at₀ cells₀ cells at round next
+run-while-Inv-loop s i to ends r n inputs limit tick cells₀ body next at₀ round₀ cells at round = Looping s i to ends (recordOf r) n inputs limit at₀ cells₀ cells at (r .count) round next (spinning i)
 
 abbrev run-while-μ-loop : run-while-lts.MeasureT-loop
 run-while-μ-loop s i to ends r n inputs limit tick cells₀ body next at₀ round₀ cells at round = r .count - round
@@ -509,7 +511,7 @@ run-while-run-block-requires : (t : ℕ) → run-while-lts.Need-run-block-requir
 run-while-run-block-requires t c κs =
     let w = c .before .before .before .before in
     let v = w .before .before .before .before .before .before .before .before .before in
-    (omega (arith, v .pre .0, v .pre .1 .0 .inside), spinning-entered (w .before .before .before .loop .inv) (w .before .if1 .taken) (w .if2 .left))
+    (omega (arith, v .pre .0, v .pre .1 .0 .inside), loop-entered (w .before .before .before .loop .inv) (search needs))
 
 run-while-ended-requires : (t : ℕ) → run-while-lts.Need-ended-requires (run-while-claims t) (run-while-at t) run-while.Post run-while-Inv-loop run-while-μ-loop
 run-while-ended-requires t c κs = search needs
@@ -521,8 +523,10 @@ run-while-returns-3 : (t : ℕ) → run-while-lts.Need-returns-3 (run-while-clai
 run-while-returns-3 t c =
     let w = c .before .before .before .before in
     let v = w .before .before .before .before .before in
-    spinning-halted (v .before .before .before .loop .inv) (v .before .if1 .taken) (v .if2 .left) (w .before .before .before .test-holds .ensures) (w .before .before .if3 .left)
-    (w .run-block .ensures) (sym (c .before .ended .ensures) ∙ c .if4 .taken)
+    let p = v .before .before .before .loop .inv in
+    loop-halted p (v .before .if1 .taken) (omega (arith, v .if2 .left))
+    (spinning-turned p (v .before .if1 .taken) (v .if2 .left) (w .before .before .before .test-holds .ensures) (w .before .before .if3 .left)) (w .run-block .ensures)
+    (sym (c .before .ended .ensures) ∙ c .if4 .taken)
 
 run-while-add-round : (t : ℕ) → run-while-lts.Need-add-round (run-while-claims t) (run-while-at t) run-while.Post run-while-Inv-loop run-while-μ-loop
 run-while-add-round t c = search needs
@@ -534,8 +538,10 @@ run-while-loop-again : (t : ℕ) → run-while-lts.Need-loop-again (run-while-cl
 run-while-loop-again t c =
     let w = c .before .before .before .before in
     let v = w .before .before .before .before .before in
-    spinning-next (v .before .before .before .loop .inv) (v .before .if1 .taken) (v .if2 .left) (w .before .before .before .test-holds .ensures) (w .before .before .if3 .left)
-    (w .run-block .ensures) (sym (c .before .ended .ensures) ∙ c .if4 .left) (search needs)
+    let p = v .before .before .before .loop .inv in
+    loop-next p (v .before .if1 .taken) (omega (arith, v .if2 .left))
+    (spinning-turned p (v .before .if1 .taken) (v .if2 .left) (w .before .before .before .test-holds .ensures) (w .before .before .if3 .left)) (w .run-block .ensures)
+    (sym (c .before .ended .ensures) ∙ c .if4 .left) (search needs)
 
 run-while-run-last-test-requires : (t : ℕ) → run-while-lts.Need-run-last-test-requires (run-while-claims t) (run-while-at t) run-while.Post run-while-Inv-loop run-while-μ-loop
 run-while-run-last-test-requires t c κs =
@@ -548,7 +554,7 @@ run-while-same-length-4 t c = search needs
 run-while-returns-4 : (t : ℕ) → run-while-lts.Need-returns-4 (run-while-claims t) (run-while-at t) run-while.Post run-while-Inv-loop run-while-μ-loop
 run-while-returns-4 t c =
     let w = c .before .before .before .before in
-    spinning-last (w .loop .inv) (c .before .before .if1 .left) (c .run-last-test .ensures)
+    loop-last (w .loop .inv) (c .before .before .if1 .left) (c .run-last-test .ensures)
 
 pub +run-block+run-branch+run-statement+run-times+run-while-spec : {M : Type 1} → statement M
 +run-block+run-branch+run-statement+run-times+run-while-spec =

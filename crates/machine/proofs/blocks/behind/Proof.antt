@@ -1,6 +1,6 @@
 use Prim.Native.Nat.{_+_}
 use native.Mathlib.Omega.{arith}
-use Rattle.machine.proofs.Turns.{behind-is}
+use Rattle.machine.proofs.Behind.{behind-is}
 use borrow.Author.Needs.{needs}
 use Rattle.machine.proofs.blocks.behind.Statement.{statement}
 use Rattle.machine.proofs.blocks.behind.Tie as tie

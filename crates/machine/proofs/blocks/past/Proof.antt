@@ -1,4 +1,4 @@
-use Rattle.machine.proofs.Turns.{past-else, past-end}
+use Rattle.machine.proofs.Behind.{past-else, past-end}
 use borrow.Author.Needs.{needs}
 use Rattle.machine.proofs.blocks.past.Statement.{statement}
 use Rattle.machine.proofs.blocks.past.Tie as tie

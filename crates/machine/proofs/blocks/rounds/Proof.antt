@@ -1,5 +1,5 @@
 use borrow.Author.Needs.{needs}
-use Rattle.machine.proofs.Turns.{no-rounds, all-rounds}
+use Rattle.machine.proofs.Behind.{no-rounds, all-rounds}
 use Rattle.machine.proofs.blocks.rounds.Statement.{statement}
 use Rattle.machine.proofs.blocks.rounds.Tie as tie
 
