@@ -33,6 +33,10 @@ was-over p t g = go (ltb p t) refl (g .reply)
     go true h e = ltb-true p t h
     go false h e = let z : _≡_ {A = ℕ} 0 1 = cc in absurd (omega arith)
 
+pub in-time : (p t : ℕ) (r : Time) → Gives p t r → (r ≡ OverPeriod → ⊥) → t ≤ p
+in-time p t (Ticks u) g h = let q = was-ticks p t u g in omega arith
+in-time p t OverPeriod g h = absurd (h refl)
+
 module _ (p t u : ℕ) where
   pub branch-left : Gives p t OverPeriod → Gives p (1 + max t u) OverPeriod
   branch-left g = let h = was-over p t g in gives-over p (1 + max t u) (omega arith)

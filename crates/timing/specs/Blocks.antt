@@ -1,13 +1,17 @@
--- What the functions over ranges of records answer, for every block that fills the range.
+-- What the functions over ranges of records answer, for every block that fills the range or stands at its start.
 use Prim.Native.Nat.{ℕ, _+_, _*_, _≤_, _<_, max}
 use mathlib.Core.Path.{_≡_}
+use mathlib.Core.Bool.{false}
 use mathlib.Core.List.{List}
 use Rattle.model.specs.declared.Form.{Form}
 use Rattle.model.specs.declared.Settings.{Settings}
-use Rattle.model.specs.Trees.{Block, nil, skip, act, branch, while, times}
+use Rattle.model.specs.Records.{kindAt}
+use Rattle.model.specs.Trees.{Block, nil, skip, act, branch, while, times, size, depth}
 use Rattle.model.specs.Times.{ticks, time}
-use Rattle.reading.specs.Ranges.{Fills, firstSize}
+use Rattle.reading.specs.Closing.{closesBlock}
+use Rattle.reading.specs.Ranges.{Fills, Stands, Ranged, firstSize}
 use Rattle.timing.specs.declared.ticks.Time.{Time}
+use Rattle.timing.specs.declared.ticks.Time.the-variants.{OverPeriod}
 use Rattle.timing.specs.declared.blocks.Step.{Step}
 use Rattle.timing.specs.Times.{Gives}
 
@@ -20,14 +24,28 @@ firstTime σ (branch q a d b) = 1 + max (time σ a) (time σ d)
 firstTime σ (while q n a b) = n * (time σ a + 1) + 1
 firstTime σ (times q n a b) = n * time σ a + 1
 
-pub record IsFirst (σ : Settings) (i : ℕ) (b : Block) (r : Step) : Type 0 where
-  pub takes : Gives (σ .period) (firstTime σ b) (r .time)
-  pub goes : r .next ≡ i + firstSize b
+-- t ticks pass up to the record at j, whose index is told where they are within the period
+pub record Passes (σ : Settings) (t j : ℕ) (r : Step) : Type 0 where
+  pub takes : Gives (σ .period) t (r .time)
+  pub goes : t ≤ σ .period → r .next ≡ j
 
-pub record Steps (s : List ℕ) (i to d : ℕ) (σ : Settings) (r : Step) : Type 0 where
+-- a record of a range that closes no block
+pub record Statement (s : List ℕ) (i to : ℕ) : Type 0 where
+  pub ranged : Ranged s i to
+  pub early : i < to
+  pub goes-on : closesBlock (kindAt s i) ≡ false
+
+-- the first statement of a block, and the whole block: one that takes too long is left at the end of the range
+pub record StatementTimes (s : List ℕ) (i to d : ℕ) (σ : Settings) (r : Step) : Type 0 where
   pub low : i < r .next
   pub high : r .next ≤ to
-  pub right : (f : Form) (b : Block) → Fills f s i to d b → IsFirst σ i b r
+  pub right : (f : Form) (b : Block) → Stands f s i to b → depth b ≤ d → Passes σ (firstTime σ b) (i + firstSize b) r
+
+pub record SequenceTimes (s : List ℕ) (i to d : ℕ) (σ : Settings) (r : Step) : Type 0 where
+  pub low : i ≤ r .next
+  pub high : r .next ≤ to
+  pub late : r .time ≡ OverPeriod → r .next ≡ to
+  pub right : (f : Form) (b : Block) → Stands f s i to b → depth b ≤ d → Passes σ (time σ b) (i + size b) r
 
 pub record BlockTimes (s : List ℕ) (i to d : ℕ) (σ : Settings) (r : Time) : Type 0 where
   pub right : (f : Form) (b : Block) → Fills f s i to d b → Gives (σ .period) (time σ b) r

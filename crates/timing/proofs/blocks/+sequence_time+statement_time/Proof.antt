@@ -1,0 +1,287 @@
+-- The measure is the depth: a statement at a depth is timed within a sequence at that depth, and a block inside it one less deep.
+use Prim.Native.Nat.{ℕ, _+_, _*_, _-_, _<_}
+use native.Mathlib.Omega.{arith}
+use mathlib.Core.Path.{sym, _∙_}
+use borrow.Author.Needs.{needs}
+use borrow.Author.Tests.{not-true, not-false}
+use Rattle.reading.proofs.Standing.{closing-told}
+use Rattle.timing.specs.Blocks.{Statement}
+use Rattle.timing.proofs.Statements.{Opens, plain-times, flat-times, first-late, loop-times, second-late, branch-times}
+use Rattle.timing.proofs.Sums.{Counted, counted-start, counted-closed, counted-all, counted-over, counted-next, counted-past}
+use borrow.Fn.Kinds.{In}
+use borrow.Fn.PlainCycle.{Measures, is, falls, and}
+use Rattle.timing.proofs.blocks.sequence_time.Reads as sequence-time
+use Rattle.timing.proofs.blocks.sequence_time.Kinds as sequence-time-kinds
+use Rattle.timing.proofs.blocks.+sequence_time+statement_time.Lts-sequence_time as sequence-time-lts
+use Rattle.timing.proofs.blocks.statement_time.Reads as statement-time
+use Rattle.timing.proofs.blocks.statement_time.Kinds as statement-time-kinds
+use Rattle.timing.proofs.blocks.+sequence_time+statement_time.Lts-statement_time as statement-time-lts
+use Rattle.reading.proofs.blocks.closes.Reads as closes-reads
+use Rattle.reading.proofs.blocks.opens.Reads as opens-reads
+use Rattle.records.proofs.kind_at.Reads as kind-at-reads
+use Rattle.records.proofs.record_at.Reads as record-at-reads
+use Rattle.timing.proofs.ticks.branch_time.Reads as branch-time-reads
+use Rattle.timing.proofs.ticks.loop_time.Reads as loop-time-reads
+use Rattle.timing.proofs.ticks.step_ticks.Reads as step-ticks-reads
+use Rattle.timing.proofs.ticks.up_to.Reads as up-to-reads
+use Rattle.timing.proofs.blocks.+sequence_time+statement_time.{statement}
+use Rattle.timing.proofs.blocks.+sequence_time+statement_time.Tie.{close}
+
+abbrev μ-sequence-time : Measures 1 sequence-time-kinds.ps ℕ
+μ-sequence-time κs a = 2 * a .1 .1 .1 .0 + 1
+
+abbrev μ-statement-time : Measures 1 statement-time-kinds.ps ℕ
+μ-statement-time κs a = 2 * a .1 .1 .1 .0
+
+abbrev sequence-time-at : ℕ → In 1 sequence-time-kinds.ps
+sequence-time-at t =
+    and 1 sequence-time-kinds.ps (is 1 sequence-time-kinds.ps μ-sequence-time t) sequence-time.Pre
+
+abbrev sequence-time-below : ℕ → In 1 sequence-time-kinds.ps
+sequence-time-below t =
+    and
+    1
+    sequence-time-kinds.ps
+    (falls 1 sequence-time-kinds.ps _<_ μ-sequence-time t)
+    sequence-time.Pre
+
+abbrev statement-time-at : ℕ → In 1 statement-time-kinds.ps
+statement-time-at t =
+    and
+    1
+    statement-time-kinds.ps
+    (is 1 statement-time-kinds.ps μ-statement-time t)
+    statement-time.Pre
+
+abbrev statement-time-below : ℕ → In 1 statement-time-kinds.ps
+statement-time-below t =
+    and
+    1
+    statement-time-kinds.ps
+    (falls 1 statement-time-kinds.ps _<_ μ-statement-time t)
+    statement-time.Pre
+
+abbrev sequence-time-Inv-loop : sequence-time-lts.InvT-loop
+sequence-time-Inv-loop s from to depth n over sum₀ next₀ sum next = Counted s from to depth n next sum
+
+abbrev sequence-time-μ-loop : sequence-time-lts.MeasureT-loop
+sequence-time-μ-loop s from to depth n over sum₀ next₀ sum next = to - next
+
+abbrev sequence-time-claims : ℕ → sequence-time-lts.Claims
+sequence-time-claims t = (kind-at-reads.Asked, kind-at-reads.Learnt, closes-reads.Asked, closes-reads.Learnt, statement-time-below t, statement-time.Post)
+
+abbrev statement-time-claims : ℕ → statement-time-lts.Claims
+statement-time-claims t = (
+  record-at-reads.Asked,
+  record-at-reads.Learnt,
+  opens-reads.Asked,
+  opens-reads.Learnt,
+  step-ticks-reads.Asked,
+  step-ticks-reads.Learnt,
+  up-to-reads.Asked,
+  up-to-reads.Learnt,
+  sequence-time-below t,
+  sequence-time.Post,
+  loop-time-reads.Asked,
+  loop-time-reads.Learnt,
+  branch-time-reads.Asked,
+  branch-time-reads.Learnt,
+)
+
+-- the next record closes no block
+there : (t : ℕ) (c : sequence-time-lts.Else1 (sequence-time-claims t) (sequence-time-at t) sequence-time.Post sequence-time-Inv-loop sequence-time-μ-loop) →
+    let a = c .before .before .before .before .before .before .args in
+    Statement (a .s .now) (c .before .before .before .before .loop .next) (a .to)
+there t c =
+    let w = c .before .before .before in
+    record {
+      ranged = w .before .loop .inv .ranged;
+      early = w .loop-test .taken;
+      goes-on = closing-told (c .before .before .kind-at .ensures) (c .before .closes .ensures) (c .if1 .left);
+    }
+
+sequence-time-loop-holds : (t : ℕ) → sequence-time-lts.Need-loop-holds (sequence-time-claims t) (sequence-time-at t) sequence-time.Post sequence-time-Inv-loop sequence-time-μ-loop
+sequence-time-loop-holds t c = counted-start (c .before .pre .1)
+
+sequence-time-kind-at-requires : (t : ℕ) → sequence-time-lts.Need-kind-at-requires (sequence-time-claims t) (sequence-time-at t) sequence-time.Post sequence-time-Inv-loop sequence-time-μ-loop
+sequence-time-kind-at-requires t c κs = omega arith
+
+sequence-time-closes-requires : (t : ℕ) → sequence-time-lts.Need-closes-requires (sequence-time-claims t) (sequence-time-at t) sequence-time.Post sequence-time-Inv-loop sequence-time-μ-loop
+sequence-time-closes-requires t c κs = search needs
+
+sequence-time-returns : (t : ℕ) → sequence-time-lts.Need-returns (sequence-time-claims t) (sequence-time-at t) sequence-time.Post sequence-time-Inv-loop sequence-time-μ-loop
+sequence-time-returns t c =
+    counted-closed (c .before .before .before .before .loop .inv) (closing-told (c .before .before .kind-at .ensures) (c .before .closes .ensures) (c .if1 .taken))
+
+sequence-time-statement-time-requires : (t : ℕ) →
+    sequence-time-lts.Need-statement-time-requires (sequence-time-claims t) (sequence-time-at t) sequence-time.Post sequence-time-Inv-loop sequence-time-μ-loop
+sequence-time-statement-time-requires t c κs = (omega arith, there t c)
+
+sequence-time-enum-known-time : (t : ℕ) → sequence-time-lts.Need-enum-known-time (sequence-time-claims t) (sequence-time-at t) sequence-time.Post sequence-time-Inv-loop sequence-time-μ-loop
+sequence-time-enum-known-time t c = search needs
+
+sequence-time-enum-told : (t : ℕ) → sequence-time-lts.Need-enum-told (sequence-time-claims t) (sequence-time-at t) sequence-time.Post sequence-time-Inv-loop sequence-time-μ-loop
+sequence-time-enum-told t c = search needs
+
+sequence-time-returns-2 : (t : ℕ) → sequence-time-lts.Need-returns-2 (sequence-time-claims t) (sequence-time-at t) sequence-time.Post sequence-time-Inv-loop sequence-time-μ-loop
+sequence-time-returns-2 t c =
+    let w = c .before .before .before in
+    counted-over (w .before .before .before .before .loop .inv) (there t w) (c .before .before .statement-time .ensures) (c .enum-told .given .1)
+
+sequence-time-sub-if2 : (t : ℕ) → sequence-time-lts.Need-sub-if2 (sequence-time-claims t) (sequence-time-at t) sequence-time.Post sequence-time-Inv-loop sequence-time-μ-loop
+sequence-time-sub-if2 t c = omega arith
+
+sequence-time-returns-3 : (t : ℕ) → sequence-time-lts.Need-returns-3 (sequence-time-claims t) (sequence-time-at t) sequence-time.Post sequence-time-Inv-loop sequence-time-μ-loop
+sequence-time-returns-3 t c =
+    let w = c .before .before .before .before .before in
+    let k = w .before in
+    counted-past (k .before .before .before .before .loop .inv) (there t k) (w .statement-time .ensures) (c .before .before .before .time .given .1) (c .if2 .taken)
+
+sequence-time-add-sum : (t : ℕ) → sequence-time-lts.Need-add-sum (sequence-time-claims t) (sequence-time-at t) sequence-time.Post sequence-time-Inv-loop sequence-time-μ-loop
+sequence-time-add-sum t c = omega arith
+
+sequence-time-loop-less : (t : ℕ) → sequence-time-lts.Need-loop-less (sequence-time-claims t) (sequence-time-at t) sequence-time.Post sequence-time-Inv-loop sequence-time-μ-loop
+sequence-time-loop-less t c = omega arith
+
+sequence-time-loop-again : (t : ℕ) → sequence-time-lts.Need-loop-again (sequence-time-claims t) (sequence-time-at t) sequence-time.Post sequence-time-Inv-loop sequence-time-μ-loop
+sequence-time-loop-again t c =
+    let w = c .before .before .before .before .before in
+    let k = w .before in
+    counted-next (k .before .before .before .before .loop .inv) (there t k) (w .statement-time .ensures) (c .before .before .before .time .given .1) (c .if2 .left)
+
+sequence-time-returns-4 : (t : ℕ) → sequence-time-lts.Need-returns-4 (sequence-time-claims t) (sequence-time-at t) sequence-time.Post sequence-time-Inv-loop sequence-time-μ-loop
+sequence-time-returns-4 t c = counted-all (c .before .loop .inv) (c .loop-test .left)
+
+-- the record opens a block
+open-there : (t : ℕ) (c : statement-time-lts.Else1 (statement-time-claims t) (statement-time-at t) statement-time.Post) →
+    let a = c .before .before .before .before .args in
+    Opens (a .s .now) (a .i) (a .to) (c .before .before .record-at .result)
+open-there t c =
+    record {
+      at = c .before .before .before .before .pre .1;
+      same = c .before .before .record-at .ensures;
+      opens = sym (c .before .opens .ensures) ∙ not-false _ (c .if1 .left);
+    }
+
+statement-time-record-at-requires : (t : ℕ) → statement-time-lts.Need-record-at-requires (statement-time-claims t) (statement-time-at t) statement-time.Post
+statement-time-record-at-requires t c κs = omega arith
+
+statement-time-opens-requires : (t : ℕ) → statement-time-lts.Need-opens-requires (statement-time-claims t) (statement-time-at t) statement-time.Post
+statement-time-opens-requires t c κs = search needs
+
+statement-time-step-ticks-requires : (t : ℕ) → statement-time-lts.Need-step-ticks-requires (statement-time-claims t) (statement-time-at t) statement-time.Post
+statement-time-step-ticks-requires t c κs = search needs
+
+statement-time-cast-up-to : (t : ℕ) → statement-time-lts.Need-cast-up-to (statement-time-claims t) (statement-time-at t) statement-time.Post
+statement-time-cast-up-to t c = search needs
+
+statement-time-up-to-requires : (t : ℕ) → statement-time-lts.Need-up-to-requires (statement-time-claims t) (statement-time-at t) statement-time.Post
+statement-time-up-to-requires t c κs = search needs
+
+statement-time-add-next : (t : ℕ) → statement-time-lts.Need-add-next (statement-time-claims t) (statement-time-at t) statement-time.Post
+statement-time-add-next t c = omega arith
+
+statement-time-returns : (t : ℕ) → statement-time-lts.Need-returns (statement-time-claims t) (statement-time-at t) statement-time.Post
+statement-time-returns t c =
+    let k = c .before .before in
+    plain-times _ _ (k .before .before .before .before .pre .1) (k .before .before .record-at .ensures) (sym (k .before .opens .ensures) ∙ not-true _ (k .if1 .taken))
+    (c .before .step-ticks .ensures) (c .up-to .ensures)
+
+statement-time-returns-2 : (t : ℕ) → statement-time-lts.Need-returns-2 (statement-time-claims t) (statement-time-at t) statement-time.Post
+statement-time-returns-2 t c = flat-times (open-there t (c .before)) (c .if2 .taken)
+
+statement-time-add-sequence-time : (t : ℕ) → statement-time-lts.Need-add-sequence-time (statement-time-claims t) (statement-time-at t) statement-time.Post
+statement-time-add-sequence-time t c = omega arith
+
+statement-time-sub-sequence-time : (t : ℕ) → statement-time-lts.Need-sub-sequence-time (statement-time-claims t) (statement-time-at t) statement-time.Post
+statement-time-sub-sequence-time t c = omega arith
+
+statement-time-sequence-time-requires : (t : ℕ) → statement-time-lts.Need-sequence-time-requires (statement-time-claims t) (statement-time-at t) statement-time.Post
+statement-time-sequence-time-requires t c κs = omega arith
+
+statement-time-returns-3 : (t : ℕ) → statement-time-lts.Need-returns-3 (statement-time-claims t) (statement-time-at t) statement-time.Post
+statement-time-returns-3 t c = first-late (open-there t (c .before .before .before)) (c .before .sequence-time .ensures) (c .if3 .taken)
+
+statement-time-loop-time-requires : (t : ℕ) → statement-time-lts.Need-loop-time-requires (statement-time-claims t) (statement-time-at t) statement-time.Post
+statement-time-loop-time-requires t c κs = search needs
+
+statement-time-add-next-2 : (t : ℕ) → statement-time-lts.Need-add-next-2 (statement-time-claims t) (statement-time-at t) statement-time.Post
+statement-time-add-next-2 t c = omega arith
+
+statement-time-returns-4 : (t : ℕ) → statement-time-lts.Need-returns-4 (statement-time-claims t) (statement-time-at t) statement-time.Post
+statement-time-returns-4 t c =
+    let w = c .before .before .before in
+    loop-times (open-there t (w .before .before .before)) (w .before .sequence-time .ensures) (w .if3 .left) _ (c .before .if4 .taken) (c .loop-time .ensures)
+
+statement-time-add-sequence-time-2 : (t : ℕ) → statement-time-lts.Need-add-sequence-time-2 (statement-time-claims t) (statement-time-at t) statement-time.Post
+statement-time-add-sequence-time-2 t c = omega arith
+
+statement-time-sub-sequence-time-2 : (t : ℕ) → statement-time-lts.Need-sub-sequence-time-2 (statement-time-claims t) (statement-time-at t) statement-time.Post
+statement-time-sub-sequence-time-2 t c = omega arith
+
+statement-time-sequence-time-requires-2 : (t : ℕ) → statement-time-lts.Need-sequence-time-requires-2 (statement-time-claims t) (statement-time-at t) statement-time.Post
+statement-time-sequence-time-requires-2 t c κs = omega arith
+
+statement-time-returns-5 : (t : ℕ) → statement-time-lts.Need-returns-5 (statement-time-claims t) (statement-time-at t) statement-time.Post
+statement-time-returns-5 t c =
+    let w = c .before .before .before .before in
+    second-late (open-there t (w .before .before .before)) (w .before .sequence-time .ensures) (w .if3 .left) (c .before .before .if4 .left)
+    (c .before .sequence-time2 .ensures) (c .if5 .taken)
+
+statement-time-branch-time-requires : (t : ℕ) → statement-time-lts.Need-branch-time-requires (statement-time-claims t) (statement-time-at t) statement-time.Post
+statement-time-branch-time-requires t c κs = search needs
+
+statement-time-add-next-3 : (t : ℕ) → statement-time-lts.Need-add-next-3 (statement-time-claims t) (statement-time-at t) statement-time.Post
+statement-time-add-next-3 t c = omega arith
+
+statement-time-returns-6 : (t : ℕ) → statement-time-lts.Need-returns-6 (statement-time-claims t) (statement-time-at t) statement-time.Post
+statement-time-returns-6 t c =
+    let v = c .before .before in
+    let w = v .before .before .before in
+    branch-times (open-there t (w .before .before .before)) (w .before .sequence-time .ensures) (w .if3 .left) (v .before .if4 .left)
+    (v .sequence-time2 .ensures) _ (c .before .if5 .left) (c .branch-time .ensures)
+
+pub +sequence-time+statement-time-spec : {M : Type 1} → statement M
++sequence-time+statement-time-spec =
+    close μ-sequence-time μ-statement-time (λ t. sequence-time-lts.spec (sequence-time-claims t) (sequence-time-at t)
+    sequence-time.Post
+    sequence-time-Inv-loop
+    sequence-time-μ-loop
+    (sequence-time-loop-holds t)
+    (sequence-time-kind-at-requires t)
+    (sequence-time-closes-requires t)
+    (sequence-time-returns t)
+    (sequence-time-statement-time-requires t)
+    (sequence-time-enum-known-time t)
+    (sequence-time-enum-told t)
+    (sequence-time-returns-2 t)
+    (sequence-time-sub-if2 t)
+    (sequence-time-returns-3 t)
+    (sequence-time-add-sum t)
+    (sequence-time-loop-less t)
+    (sequence-time-loop-again t)
+    (sequence-time-returns-4 t))
+    λ t. statement-time-lts.spec (statement-time-claims t) (statement-time-at t)
+    statement-time.Post
+    (statement-time-record-at-requires t)
+    (statement-time-opens-requires t)
+    (statement-time-step-ticks-requires t)
+    (statement-time-cast-up-to t)
+    (statement-time-up-to-requires t)
+    (statement-time-add-next t)
+    (statement-time-returns t)
+    (statement-time-returns-2 t)
+    (statement-time-add-sequence-time t)
+    (statement-time-sub-sequence-time t)
+    (statement-time-sequence-time-requires t)
+    (statement-time-returns-3 t)
+    (statement-time-loop-time-requires t)
+    (statement-time-add-next-2 t)
+    (statement-time-returns-4 t)
+    (statement-time-add-sequence-time-2 t)
+    (statement-time-sub-sequence-time-2 t)
+    (statement-time-sequence-time-requires-2 t)
+    (statement-time-returns-5 t)
+    (statement-time-branch-time-requires t)
+    (statement-time-add-next-3 t)
+    (statement-time-returns-6 t)
