@@ -1,0 +1,283 @@
+//! One call, as data, and how to make it through either implementation.
+
+use crate::guard::Guarded;
+use crate::random::Random;
+use std::panic::{catch_unwind, AssertUnwindSafe};
+
+#[derive(Clone, Copy, PartialEq, Eq, Debug)]
+pub enum Kind {
+    Time,
+    Equalise,
+    LayOut,
+    Run,
+    RunUntil,
+    Resume,
+    Restart,
+}
+
+impl Kind {
+    pub const ALL: [Kind; 7] = [
+        Kind::Time,
+        Kind::Equalise,
+        Kind::LayOut,
+        Kind::Run,
+        Kind::RunUntil,
+        Kind::Resume,
+        Kind::Restart,
+    ];
+}
+
+/// The buffers lent besides the settings and the file. A call leaves those it
+/// has no use for alone.
+#[derive(Clone, PartialEq, Eq)]
+pub struct Lent {
+    pub out: Vec<u8>,
+    pub variables: Vec<u32>,
+    pub inputs: Vec<u32>,
+    pub levels: Vec<u32>,
+    pub marks: Vec<u8>,
+    pub image: Vec<u8>,
+}
+
+#[derive(Clone)]
+pub struct Call<'a> {
+    pub kind: Kind,
+    pub settings: &'a [u8],
+    pub form: u8,
+    pub file: &'a [u8],
+    pub stop: u32,
+    pub lent: Lent,
+}
+
+#[derive(Clone, PartialEq, Eq, Debug)]
+pub enum Answer {
+    Time(u32),
+    Written { bytes: usize, time: u32 },
+    Ended { tick: u32, overran: bool },
+    Stopped { tick: u32, saved: bool },
+    Refused { number: u8, value: Option<u64> },
+    Panicked,
+}
+
+/// What a call answered, the lent buffers afterwards, and whether anything
+/// was written outside them.
+#[derive(Clone)]
+pub struct Outcome {
+    pub answer: Answer,
+    pub lent: Lent,
+    pub stayed_inside: bool,
+}
+
+/// The 16 first variables and 8 inputs that a run is fed.
+#[derive(Clone)]
+pub struct Set {
+    pub variables: Vec<u32>,
+    pub inputs: Vec<u32>,
+}
+
+impl<'a> Call<'a> {
+    /// A call with noise in every buffer, of the right lengths for a run and
+    /// with an empty output buffer.
+    pub fn new(
+        kind: Kind,
+        settings: &'a [u8],
+        form: u8,
+        file: &'a [u8],
+        random: &mut Random,
+    ) -> Call<'a> {
+        let lent = Lent {
+            out: Vec::new(),
+            variables: random.words(16),
+            inputs: random.words(8),
+            levels: random.words(8),
+            marks: random.bytes(8),
+            image: random.bytes(72),
+        };
+        Call {
+            kind,
+            settings,
+            form,
+            file,
+            stop: 0,
+            lent,
+        }
+    }
+
+    pub fn with_out(mut self, length: usize, random: &mut Random) -> Call<'a> {
+        self.lent.out = random.bytes(length);
+        self
+    }
+
+    pub fn fed(mut self, set: &Set) -> Call<'a> {
+        self.lent.variables.clone_from(&set.variables);
+        self.lent.inputs.clone_from(&set.inputs);
+        self
+    }
+
+    pub fn stopping_at(mut self, stop: u32) -> Call<'a> {
+        self.stop = stop;
+        self
+    }
+
+    /// Takes up what a stop left: its outputs and, if there is one, its image.
+    pub fn after(mut self, stopped: &Lent) -> Call<'a> {
+        self.lent.levels.clone_from(&stopped.levels);
+        self.lent.marks.clone_from(&stopped.marks);
+        self.lent.image.clone_from(&stopped.image);
+        self
+    }
+}
+
+/// Copies of all that a call lends, between margins.
+struct Held {
+    settings: Guarded<u8>,
+    file: Guarded<u8>,
+    out: Guarded<u8>,
+    variables: Guarded<u32>,
+    inputs: Guarded<u32>,
+    levels: Guarded<u32>,
+    marks: Guarded<u8>,
+    image: Guarded<u8>,
+}
+
+impl Held {
+    fn new(call: &Call) -> Held {
+        Held {
+            settings: Guarded::new(call.settings),
+            file: Guarded::new(call.file),
+            out: Guarded::new(&call.lent.out),
+            variables: Guarded::new(&call.lent.variables),
+            inputs: Guarded::new(&call.lent.inputs),
+            levels: Guarded::new(&call.lent.levels),
+            marks: Guarded::new(&call.lent.marks),
+            image: Guarded::new(&call.lent.image),
+        }
+    }
+
+    fn stayed_inside(&mut self, call: &Call) -> bool {
+        let bytes = [
+            &self.settings,
+            &self.file,
+            &self.out,
+            &self.marks,
+            &self.image,
+        ];
+        let words = [&self.variables, &self.inputs, &self.levels];
+        bytes.iter().all(|held| held.intact())
+            && words.iter().all(|held| held.intact())
+            && self.settings.lent() == call.settings
+            && self.file.lent() == call.file
+    }
+
+    fn outcome(mut self, call: &Call, answer: Answer) -> Outcome {
+        let stayed_inside = self.stayed_inside(call);
+        let lent = Lent {
+            out: self.out.take(),
+            variables: self.variables.take(),
+            inputs: self.inputs.take(),
+            levels: self.levels.take(),
+            marks: self.marks.take(),
+            image: self.image.take(),
+        };
+        Outcome {
+            answer,
+            lent,
+            stayed_inside,
+        }
+    }
+}
+
+/// Both libraries have the same functions and equally shaped types, but not
+/// the same types; the macros write the translation once.
+macro_rules! answers {
+    ($library:ident) => {
+        impl From<$library::Written> for Answer {
+            fn from(written: $library::Written) -> Answer {
+                let (bytes, time) = (written.bytes, written.time);
+                Answer::Written { bytes, time }
+            }
+        }
+
+        impl From<$library::Ended> for Answer {
+            fn from(ended: $library::Ended) -> Answer {
+                let (tick, overran) = (ended.tick, ended.overran);
+                Answer::Ended { tick, overran }
+            }
+        }
+
+        impl From<$library::Stopped> for Answer {
+            fn from(stopped: $library::Stopped) -> Answer {
+                let (tick, saved) = (stopped.tick, stopped.saved);
+                Answer::Stopped { tick, saved }
+            }
+        }
+
+        impl From<$library::Refused> for Answer {
+            fn from(refused: $library::Refused) -> Answer {
+                let (number, value) = (refused.number, refused.value);
+                Answer::Refused { number, value }
+            }
+        }
+    };
+}
+
+answers!(rack);
+answers!(second);
+
+macro_rules! implementation {
+    ($name:ident, $library:ident, $form:expr) => {
+        fn $name(call: &Call, held: &mut Held) -> Answer {
+            let form = $form(call.form);
+            let (settings, file) = (&*held.settings.lent(), &*held.file.lent());
+            let (out, image) = (held.out.lent(), held.image.lent());
+            let (variables, inputs) = (held.variables.lent(), &*held.inputs.lent());
+            let (levels, marks) = (held.levels.lent(), held.marks.lent());
+            let stop = call.stop;
+            match call.kind {
+                Kind::Time => $library::time_file(settings, form, file).map(Answer::Time),
+                Kind::Equalise => $library::equalise(settings, file, out).map(Answer::from),
+                Kind::LayOut => $library::lay_out(settings, file, out).map(Answer::from),
+                Kind::Run => $library::run(settings, form, file, variables, inputs, levels, marks)
+                    .map(Answer::from),
+                Kind::RunUntil => $library::run_until(
+                    settings, form, file, variables, inputs, levels, marks, image, stop,
+                )
+                .map(Answer::from),
+                Kind::Resume => $library::resume(
+                    settings, form, file, image, variables, inputs, levels, marks,
+                )
+                .map(Answer::from),
+                Kind::Restart => {
+                    $library::restart(settings, form, file, variables, inputs, levels, marks)
+                        .map(Answer::from)
+                }
+            }
+            .unwrap_or_else(Answer::from)
+        }
+    };
+}
+
+fn second_form(form: u8) -> second::Form {
+    match form {
+        0 => second::Form::Task,
+        1 => second::Form::Equalised,
+        _ => second::Form::Laid,
+    }
+}
+
+implementation!(call_first, rack, |form: u8| form);
+implementation!(call_second, second, second_form);
+
+fn make(call: &Call, implementation: fn(&Call, &mut Held) -> Answer) -> Outcome {
+    let mut held = Held::new(call);
+    let answer = catch_unwind(AssertUnwindSafe(|| implementation(call, &mut held)));
+    held.outcome(call, answer.unwrap_or(Answer::Panicked))
+}
+
+pub fn make_first(call: &Call) -> Outcome {
+    make(call, call_first)
+}
+
+pub fn make_second(call: &Call) -> Outcome {
+    make(call, call_second)
+}

@@ -1,0 +1,176 @@
+//! Part 4: files with something wrong, and settings likewise.
+
+use crate::call::{Call, Kind};
+use crate::chain::{prepare, transform};
+use crate::comparer::Comparer;
+use crate::generate::{self, set_of_values};
+use crate::random::Random;
+use crate::records::*;
+
+pub fn part(comparer: &mut Comparer, seed: u64, rounds: u64) {
+    let mut random = Random::new(seed);
+    for round in 0..rounds {
+        let settings = generate::settings(&mut random).with_period(3000);
+        let (form, file) = sound_file(comparer, &mut random, &settings);
+        for _ in 0..4 {
+            let damaged = damage(&mut random, &file);
+            all_calls(comparer, &mut random, &settings.bytes(), form, &damaged);
+        }
+        let wrong = wrong_settings(&mut random, &settings);
+        all_calls(comparer, &mut random, &wrong, form, &file);
+        other_forms(comparer, &mut random, &settings, form, &file);
+        if round % 4 == 0 {
+            noise(comparer, &mut random, &settings);
+        }
+        if round % 100 == 0 {
+            too_many(comparer, &mut random, &settings);
+        }
+    }
+}
+
+/// A file of a random form, made by the chain or by the generator.
+fn sound_file(comparer: &mut Comparer, random: &mut Random, settings: &Settings) -> (u8, Vec<u8>) {
+    let form = random.pick(&[TASK, EQUALISED, LAID]);
+    let size = generate::size(random, TASK);
+    if form == TASK || random.chance(1, 2) {
+        let file = generate::file(random, settings, form, size);
+        return (form, bytes(&file));
+    }
+    let task = bytes(&generate::file(random, settings, TASK, size));
+    match prepare(comparer, random, settings, &task) {
+        Some(prepared) if form == EQUALISED => (form, prepared.equalised),
+        Some(prepared) => (form, prepared.laid),
+        None => (TASK, task),
+    }
+}
+
+pub fn damage(random: &mut Random, file: &[u8]) -> Vec<u8> {
+    let mut file = file.to_vec();
+    for _ in 0..random.pick(&[1, 1, 1, 2, 4]) {
+        damage_once(random, &mut file);
+    }
+    file
+}
+
+fn damage_once(random: &mut Random, file: &mut Vec<u8>) {
+    let count = file.len() / 12;
+    if count == 0 {
+        let length = random.index(30);
+        file.extend(random.bytes(length));
+        return;
+    }
+    let (here, there) = (12 * random.index(count), 12 * random.index(count));
+    let record: Vec<u8> = file[here..here + 12].to_vec();
+    match random.below(10) {
+        0 | 1 => file[here + random.index(12)] = random.next() as u8,
+        2..=4 => edge(random, &mut file[here..here + 12]),
+        5 => {
+            file.drain(here..here + 12);
+        }
+        6 => {
+            file.splice(there..there, record);
+        }
+        7 => {
+            file.copy_within(there..there + 12, here);
+            file[there..there + 12].copy_from_slice(&record);
+        }
+        8 => file.truncate(here),
+        _ => {
+            let left = random.index(file.len());
+            file.truncate(left);
+        }
+    }
+}
+
+/// Puts a number from the edge of a range into a field of a record.
+fn edge(random: &mut Random, record: &mut [u8]) {
+    let small = [0, 1, 3, 4, 5, 6, 7, 8, 15, 16, 17, 19, 20, 21, 22, 255];
+    let large = [0, 1, 15, 16, 65_535, 65_536, 1_000_000, 1_000_001, u32::MAX];
+    match random.below(8) {
+        0 => record[0] = random.pick(&[0, 1, 6, 7, 8, 9, 10, 11, 12, 13, 255]),
+        1..=2 => record[1] = random.pick(&small),
+        3 => record[2] = random.pick(&small),
+        4 => record[3] = random.pick(&small),
+        5 => record[4..8].copy_from_slice(&random.pick(&large).to_le_bytes()),
+        6 => record[8..].copy_from_slice(&random.pick(&large).to_le_bytes()),
+        _ => record[random.index(12)] ^= 1 << random.below(8),
+    }
+}
+
+pub fn wrong_settings(random: &mut Random, settings: &Settings) -> Vec<u8> {
+    let mut bytes = settings.bytes().to_vec();
+    match random.below(5) {
+        0 => bytes.truncate(random.index(12)),
+        1 => bytes.resize(13 + random.index(12), 1),
+        2 => bytes[random.index(6)] = 0,
+        3 => bytes[6..8].fill(0),
+        _ => {
+            let period = random.pick(&[0, 1_000_000, 1_000_001, u32::MAX]);
+            bytes = settings.with_period(period).bytes().to_vec();
+        }
+    }
+    bytes
+}
+
+/// Each call that could take a file of the form.
+fn all_calls(comparer: &mut Comparer, random: &mut Random, settings: &[u8], form: u8, file: &[u8]) {
+    let call = Call::new(Kind::Time, settings, form, file, random);
+    comparer.call(&call);
+    match form {
+        TASK => drop(transform(comparer, random, Kind::Equalise, settings, file)),
+        EQUALISED => drop(transform(comparer, random, Kind::LayOut, settings, file)),
+        _ => {}
+    }
+    let set = set_of_values(random);
+    let stop = random.between(0, 60);
+    for kind in [Kind::Run, Kind::RunUntil, Kind::Resume, Kind::Restart] {
+        let mut call = Call::new(kind, settings, form, file, random).fed(&set);
+        call.stop = stop;
+        call.lent.image = image(2, stop, &set.variables);
+        comparer.call(&call);
+    }
+}
+
+/// A file taken for one of another form, and form numbers beyond laid.
+fn other_forms(
+    comparer: &mut Comparer,
+    random: &mut Random,
+    settings: &Settings,
+    form: u8,
+    file: &[u8],
+) {
+    let settings = settings.bytes();
+    let other = random.pick(&[TASK, EQUALISED, LAID, 3, 4, 127, 128, 255]);
+    all_calls(comparer, random, &settings, other, file);
+    if form == LAID {
+        let beyond = random.between(3, 255) as u8;
+        all_calls(comparer, random, &settings, beyond, file);
+    }
+}
+
+fn noise(comparer: &mut Comparer, random: &mut Random, settings: &Settings) {
+    let length = random.pick(&[0, 1, 11, 12, 13, 24, 72]);
+    let file = random.bytes(length);
+    let form = random.between(0, 3) as u8;
+    let settings = match random.chance(1, 2) {
+        true => random.bytes(12),
+        false => settings.bytes().to_vec(),
+    };
+    all_calls(comparer, random, &settings, form, &file);
+}
+
+/// As many records as a form takes, and one more.
+fn too_many(comparer: &mut Comparer, random: &mut Random, settings: &Settings) {
+    let settings = settings.with_period(MOST_PERIOD).bytes();
+    for form in [TASK, EQUALISED, LAID] {
+        let most = if form == TASK {
+            MOST_TASK_RECORDS
+        } else {
+            MOST_RECORDS
+        };
+        for count in [most, most + 1] {
+            let file = bytes(&vec![random.pick(&[skip(1), write(0, 0)]); count]);
+            all_calls(comparer, random, &settings, form, &file);
+        }
+    }
+}

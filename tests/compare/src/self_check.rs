@@ -1,0 +1,144 @@
+//! The negative control: a flipped bit must be reported, wherever it is, and
+//! the same calls without it must not be.
+
+use crate::bench::{factorial, BENCH};
+use crate::call::{Call, Kind, Set};
+use crate::chain::{self, prepare, Prepared};
+use crate::comparer::{Comparer, Flip, Place};
+use crate::random::Random;
+use crate::records::*;
+
+const RUNS: [Kind; 4] = [Kind::Run, Kind::RunUntil, Kind::Resume, Kind::Restart];
+
+/// How many flips were tried and how many of them went wrong.
+pub struct Control {
+    pub tried: u64,
+    pub missed: u64,
+}
+
+pub fn check() -> Control {
+    let mut control = Control {
+        tried: 0,
+        missed: 0,
+    };
+    let settings = BENCH.with_period(200);
+    let mut plain = Comparer::new();
+    let prepared = prepare(&mut plain, &mut Random::new(1), &settings, &factorial());
+    let Some(prepared) = prepared else {
+        control.missed += 1;
+        return control;
+    };
+    control.finished_calls(&prepared);
+    control.refused_calls(&prepared);
+    control.files(&settings);
+    control.ends(&prepared);
+    control
+}
+
+impl Control {
+    /// Does the same twice, without the flip and with it.
+    fn try_flip(&mut self, flip: Flip, action: impl Fn(&mut Comparer, &mut Random)) {
+        let mut plain = Comparer::new();
+        plain.quiet = true;
+        action(&mut plain, &mut Random::new(2));
+        let mut flipped = Comparer::new();
+        flipped.quiet = true;
+        flipped.flip = Some(flip);
+        action(&mut flipped, &mut Random::new(2));
+        self.tried += 1;
+        self.missed += u64::from(plain.differences > 0 || flipped.differences == 0);
+    }
+
+    fn try_call(&mut self, flip: Flip, prepared: &Prepared, file: u8, form: u8) {
+        self.try_flip(flip, |comparer, random| {
+            let set = values();
+            let job = prepared.job(file, &set);
+            let mut call = Call::new(flip.kind, job.settings, form, job.file, random)
+                .fed(&set)
+                .with_out(MOST_BYTES, random)
+                .stopping_at(100);
+            call.lent.image = image(2, 13, &set.variables);
+            comparer.call(&call);
+        });
+    }
+
+    /// The bit is flipped on the first side alone: the comparison must tell.
+    fn finished_calls(&mut self, prepared: &Prepared) {
+        let both = false;
+        let mut try_place = |kind, place, form| {
+            let flip = Flip { kind, place, both };
+            self.try_call(flip, prepared, form, form);
+        };
+        try_place(Kind::Time, Place::Answer, TASK);
+        for place in [Place::Answer, Place::Out, Place::Result] {
+            try_place(Kind::Equalise, place, TASK);
+            try_place(Kind::LayOut, place, EQUALISED);
+        }
+        for kind in RUNS {
+            for place in [Place::Answer, Place::Inputs, Place::Image] {
+                try_place(kind, place, LAID);
+            }
+            for place in [Place::Variables, Place::Levels, Place::Marks] {
+                try_place(kind, place, LAID);
+            }
+        }
+    }
+
+    /// The bit is flipped on both sides, in a file taken for one of another
+    /// form: only the statement on refusals can tell.
+    fn refused_calls(&mut self, prepared: &Prepared) {
+        let both = true;
+        let mut try_place = |kind, place, file| {
+            let flip = Flip { kind, place, both };
+            self.try_call(flip, prepared, file, LAID);
+        };
+        for kind in RUNS {
+            for place in [Place::Variables, Place::Levels, Place::Marks, Place::Inputs] {
+                try_place(kind, place, EQUALISED);
+            }
+        }
+        try_place(Kind::Equalise, Place::Out, EQUALISED);
+        try_place(Kind::LayOut, Place::Out, LAID);
+        for kind in Kind::ALL {
+            try_place(kind, Place::Outside, LAID);
+        }
+    }
+
+    /// The bit is flipped on both sides, in a file that is used further: only
+    /// the times and the walk over the laid file can tell.
+    fn files(&mut self, settings: &Settings) {
+        for kind in [Kind::Equalise, Kind::LayOut] {
+            let (place, both) = (Place::Result, true);
+            self.try_flip(Flip { kind, place, both }, |comparer, random| {
+                prepare(comparer, random, settings, &factorial());
+            });
+        }
+    }
+
+    /// The bit is flipped on both sides, in the end of one kind of run: only
+    /// the comparison of ends can tell.
+    fn ends(&mut self, prepared: &Prepared) {
+        let both = true;
+        for kind in [Kind::Run, Kind::Resume, Kind::Restart] {
+            for place in [Place::Answer, Place::Variables, Place::Levels] {
+                self.try_flip(Flip { kind, place, both }, |comparer, random| {
+                    let set = values();
+                    let job = prepared.job(LAID, &set);
+                    let (_, Some(whole)) = chain::run(comparer, random, &job) else {
+                        return;
+                    };
+                    for tick in [5, 100] {
+                        chain::stop(comparer, random, &job, &whole, tick);
+                    }
+                });
+            }
+        }
+    }
+}
+
+fn values() -> Set {
+    Set {
+        variables: vec![3; 16],
+        inputs: vec![6; 8],
+    }
+}
