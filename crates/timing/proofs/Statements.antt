@@ -9,7 +9,7 @@ use mathlib.Core.List.{List}
 use Rattle.model.specs.declared.Form.{Form}
 use Rattle.model.specs.declared.Settings.{Settings}
 use Rattle.model.specs.Records.{Rec, kindAt, recordAt, IF, WHILE, TIMES}
-use Rattle.model.specs.Trees.{Block, nil, skip, act, branch, while, times, size, depth}
+use Rattle.model.specs.Trees.{Test, Block, nil, skip, act, branch, while, times, size, depth, testRec}
 use Rattle.model.specs.Times.{time}
 use Rattle.records.specs.declared.Record.{Record}
 use Rattle.records.specs.Records.{recordOf}
@@ -60,11 +60,11 @@ over-times {s} {i} {to} {d} {σ} l h = record {
   right = λ f b B m. record { takes = gives-over (σ .period) (firstTime σ b) (h f b B m); goes = λ x. absurd (omega (arith, h f b B m)) };
 }
 
--- the first block inside a statement at i
-record First (f : Form) (s : List ℕ) (i to : ℕ) (b : Block) : Type 0 where
-  stands : Stands f s (i + 1) to (firstPart b)
-  ends : i + 1 + size (firstPart b) < to
-  shallow : 1 + depth (firstPart b) ≤ depth b
+-- the record r stands at i, and opens a block
+pub record Opens (s : List ℕ) (i to : ℕ) (r : Record) : Type 0 where
+  pub at : Statement s i to
+  pub same : recordOf r ≡ recordAt s i
+  pub opens : opensBlock (r .kind) ≡ true
 
 -- a loop whose record is r
 record Loop (σ : Settings) (r : Record) (b : Block) : Type 0 where
@@ -72,80 +72,65 @@ record Loop (σ : Settings) (r : Record) (b : Block) : Type 0 where
   some : 1 ≤ r .count
   records : firstSize b ≡ 2 + size (firstPart b)
 
--- the record r stands at i, and opens a block
-pub record Opens (s : List ℕ) (i to : ℕ) (r : Record) : Type 0 where
-  pub at : Statement s i to
-  pub same : recordOf r ≡ recordAt s i
-  pub opens : opensBlock (r .kind) ≡ true
+-- the first block inside a statement at i, which is a loop where it is no IF
+record Part (f : Form) (s : List ℕ) (i to : ℕ) (σ : Settings) (r : Record) (b : Block) : Type 0 where
+  stands : Stands f s (i + 1) to (firstPart b)
+  ends : i + 1 + size (firstPart b) < to
+  shallow : 1 + depth (firstPart b) ≤ depth b
+  loop : (r .kind ≡ IF → ⊥) → Loop σ r b
 
-module _ {s : List ℕ} {i to : ℕ} {r : Record} (O : Opens s i to r) where
+module _ {s : List ℕ} {i to : ℕ} {r : Record} (O : Opens s i to r) (σ : Settings) (f : Form) where
   opened : opensBlock (kindAt s i) ≡ true
   opened = ap (λ (y : Rec). opensBlock (y .kind)) (sym (O .same)) ∙ O .opens
 
-  first-part : (f : Form) (b : Block) → Stands f s i to b → First f s i to b
-  first-part f nil B = absurd (omega (arith, stands-some nil B (O .at .early) (O .at .goes-on)))
-  first-part f (skip n b) B = absurd (shut s i (B .fills .stands .0) refl opened)
-  first-part f (act p b) B = absurd (shut s i (B .fills .stands .0) (act-opens p) opened)
-  first-part f (branch q a e b) B =
+  body : (b : Block) (k : ℕ) (q : Test) (n : ℕ) → Stands f s i to b → recordAt s i ≡ testRec k q n → (k ≡ IF → ⊥) → 1 ≤ n → 1 + depth (firstPart b) ≤ depth b
+      → loopTicks (testRec k q n) (time σ (firstPart b)) ≡ firstTime σ b → firstSize b ≡ 2 + size (firstPart b) → Part f s i to σ r b
+  body b k q n B e x c h t z =
+      let y : kindAt s i ≡ IF → ⊥ = λ w. x (sym (ap (λ (y : Rec). y .kind) e) ∙ w) in
+      record {
+        stands = body-stands b B (O .at .early) (O .at .goes-on) opened y;
+        ends = body-ends b B (O .at .early) (O .at .goes-on) opened y;
+        shallow = h;
+        loop = λ w. record {
+          takes = ap (λ (y : Rec). loopTicks y (time σ (firstPart b))) (O .same ∙ e) ∙ t;
+          some = omega (arith, ap (λ (y : Rec). y .count) (O .same ∙ e));
+          records = z;
+        };
+      }
+
+  first-part : (b : Block) → Stands f s i to b → Part f s i to σ r b
+  first-part nil B = absurd (omega (arith, stands-some nil B (O .at .early) (O .at .goes-on)))
+  first-part (skip n b) B = absurd (shut s i (B .fills .stands .0) refl opened)
+  first-part (act p b) B = absurd (shut s i (B .fills .stands .0) (act-opens p) opened)
+  first-part (branch q a e b) B =
       let k : kindAt s i ≡ IF = ap (λ (y : Rec). y .kind) (B .fills .stands .0 .is) in
       record {
         stands = first-side (branch q a e b) B (O .at .early) (O .at .goes-on) k;
         ends = omega (arith, sides-end (branch q a e b) B (O .at .early) (O .at .goes-on) k);
         shallow = omega arith;
+        loop = λ x. absurd (x (ap (λ (y : Rec). y .kind) (O .same) ∙ k));
       }
-  first-part f (while q n a b) B =
-      let k : kindAt s i ≡ WHILE = ap (λ (y : Rec). y .kind) (B .fills .stands .0 .is) in
-      record {
-        stands = body-stands (while q n a b) B (O .at .early) (O .at .goes-on) opened (λ e. omega arith);
-        ends = body-ends (while q n a b) B (O .at .early) (O .at .goes-on) opened (λ e. omega arith);
-        shallow = omega arith;
-      }
-  first-part f (times q n a b) B =
-      let k : kindAt s i ≡ TIMES = ap (λ (y : Rec). y .kind) (B .fills .stands .0 .is) in
-      record {
-        stands = body-stands (times q n a b) B (O .at .early) (O .at .goes-on) opened (λ e. omega arith);
-        ends = body-ends (times q n a b) B (O .at .early) (O .at .goes-on) opened (λ e. omega arith);
-        shallow = omega arith;
-      }
-
-  loop-of : (σ : Settings) (f : Form) (b : Block) → (r .kind ≡ IF → ⊥) → Stands f s i to b → Loop σ r b
-  loop-of σ f nil x B = absurd (omega (arith, stands-some nil B (O .at .early) (O .at .goes-on)))
-  loop-of σ f (skip n b) x B = absurd (shut s i (B .fills .stands .0) refl opened)
-  loop-of σ f (act p b) x B = absurd (shut s i (B .fills .stands .0) (act-opens p) opened)
-  loop-of σ f (branch q u e b) x B = absurd (x (ap (λ (y : Rec). y .kind) (O .same ∙ B .fills .stands .0 .is)))
-  loop-of σ f (while q n u b) x B =
-      let e = O .same ∙ B .fills .stands .0 .is in
-      let c : r .count ≡ n = ap (λ (y : Rec). y .count) e in
-      record {
-        takes = ap (λ (y : Rec). loopTicks y (time σ u)) e;
-        some = omega (arith, loop-count f WHILE q n (inl refl) (B .fills .of-form .0));
-        records = refl;
-      }
-  loop-of σ f (times q n u b) x B =
-      let e = O .same ∙ B .fills .stands .0 .is in
-      let c : r .count ≡ n = ap (λ (y : Rec). y .count) e in
-      record {
-        takes = ap (λ (y : Rec). loopTicks y (time σ u)) e;
-        some = omega (arith, loop-count f TIMES q n (inr refl) (B .fills .of-form .0));
-        records = refl;
-      }
+  first-part (while q n a b) B =
+      body (while q n a b) WHILE q n B (B .fills .stands .0 .is) (λ e. omega arith) (loop-count f WHILE q n (inl refl) (B .fills .of-form .0)) (omega arith) refl refl
+  first-part (times q n a b) B =
+      body (times q n a b) TIMES q n B (B .fills .stands .0 .is) (λ e. omega arith) (loop-count f TIMES q n (inr refl) (B .fills .of-form .0)) (omega arith) refl refl
 
 module _ {s : List ℕ} {i to d : ℕ} {σ : Settings} {r : Record} (O : Opens s i to r) where
   pub flat-times : d ≡ 0 → StatementTimes s i to d σ (record { time = OverPeriod; next = to })
-  flat-times e = over-times (O .at .early) (λ f b B l. absurd (omega (arith, first-part O f b B .shallow)))
+  flat-times e = over-times (O .at .early) (λ f b B l. absurd (omega (arith, first-part O σ f b B .shallow)))
 
   module _ {a : Step} (A : SequenceTimes s (i + 1) to (d - 1) σ a) where
     pub first-late : to ≤ a .next → StatementTimes s i to d σ (record { time = OverPeriod; next = to })
     first-late h = over-times (O .at .early) (λ f b B l.
-        let p = first-part O f b B in
+        let p = first-part O σ f b B in
         omega (arith, too-long A (firstPart b) (p .stands) (omega (arith, p .shallow)) (p .ends) h, parts-time σ f b (B .fills .of-form) .0))
 
     module _ (early : a .next < to) where
       one-ends : (f : Form) (b : Block) → Stands f s i to b → depth b ≤ d → a .next ≡ i + 1 + size (firstPart b)
-      one-ends f b B l = let p = first-part O f b B in closed A (firstPart b) (p .stands) (omega (arith, p .shallow)) early
+      one-ends f b B l = let p = first-part O σ f b B in closed A (firstPart b) (p .stands) (omega (arith, p .shallow)) early
 
       one-takes : (f : Form) (b : Block) → Stands f s i to b → depth b ≤ d → Gives (σ .period) (time σ (firstPart b)) (a .time)
-      one-takes f b B l = let p = first-part O f b B in A .right f (firstPart b) (p .stands) (omega (arith, p .shallow)) .takes
+      one-takes f b B l = let p = first-part O σ f b B in A .right f (firstPart b) (p .stands) (omega (arith, p .shallow)) .takes
 
       -- A LOOP
 
@@ -155,7 +140,7 @@ module _ {s : List ℕ} {i to d : ℕ} {σ : Settings} {r : Record} (O : Opens s
         low = omega arith;
         high = omega arith;
         right = λ f b B l.
-            let p = loop-of O σ f b x B in
+            let p = first-part O σ f b B .loop x in
             record {
               takes = subst (λ (t : ℕ). Gives (σ .period) t z) (p .takes) (L (p .some) (time σ (firstPart b)) (one-takes f b B l));
               goes = λ h. omega (arith, p .records, one-ends f b B l);
