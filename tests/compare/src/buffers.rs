@@ -100,7 +100,10 @@ fn run_lengths(comparer: &mut Comparer, random: &mut Random, prepared: &Prepared
 /// looks at are all still right.
 pub fn wrong_lengths(random: &mut Random, call: &mut Call, chosen: usize) -> bool {
     let lent = &mut call.lent;
-    let mut wrong = |right: usize| random.pick(&[0, right - 1, right + 1, 2 * right]);
+    let mut wrong = |right: usize| match random.chance(1, 40) {
+        true => right + 65_536,
+        false => random.pick(&[0, right - 1, right + 1, 2 * right, right + 256]),
+    };
     if chosen & 1 != 0 {
         lent.variables.resize(wrong(16), 7);
     }

@@ -101,7 +101,7 @@ pub fn wrong_settings(random: &mut Random, settings: &Settings) -> Vec<u8> {
     let mut bytes = settings.bytes().to_vec();
     match random.below(5) {
         0 => bytes.truncate(random.index(12)),
-        1 => bytes.resize(13 + random.index(12), 1),
+        1 => bytes.resize(random.pick(&[13, 16, 24, 12 + 256, 12 + 65_536]), 1),
         2 => bytes[random.index(6)] = 0,
         3 => bytes[6..8].fill(0),
         _ => {
@@ -159,7 +159,8 @@ fn noise(comparer: &mut Comparer, random: &mut Random, settings: &Settings) {
     all_calls(comparer, random, &settings, form, &file);
 }
 
-/// As many records as a form takes, and one more.
+/// As many records as a form takes, one more, and a number of them whose
+/// bytes are a multiple of 65,536.
 fn too_many(comparer: &mut Comparer, random: &mut Random, settings: &Settings) {
     let settings = settings.with_period(MOST_PERIOD).bytes();
     for form in [TASK, EQUALISED, LAID] {
@@ -168,7 +169,7 @@ fn too_many(comparer: &mut Comparer, random: &mut Random, settings: &Settings) {
         } else {
             MOST_RECORDS
         };
-        for count in [most, most + 1] {
+        for count in [most, most + 1, 16_384] {
             let file = bytes(&vec![random.pick(&[skip(1), write(0, 0)]); count]);
             all_calls(comparer, random, &settings, form, &file);
         }

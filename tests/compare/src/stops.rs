@@ -13,6 +13,9 @@ pub fn chosen(random: &mut Random, save_ends: &[u32], end: u32) -> Vec<u32> {
     ticks.push(random.between(0, end));
     if random.chance(1, 8) {
         ticks.extend([0, u32::MAX, end + random.between(2, 1000)]);
+        // Before the end again if the high bits were lost.
+        let early = random.between(0, end);
+        ticks.extend([early + (1 << 24), early + (1 << 31)]);
     }
     ticks
 }

@@ -202,6 +202,20 @@ fn save_ends(settings: &Settings, file: &[u8], last: u32) -> Vec<u32> {
     ends
 }
 
+/// Mostly just after a SAVE; else anywhere, or so far off that it would be
+/// right again if some of its bits or of its place in bytes were lost.
+fn foreign_index(random: &mut Random, saves: &[u32], count: u32) -> u32 {
+    if saves.is_empty() || random.chance(1, 8) {
+        let any = [0, 1, count, count + 1, u32::MAX, random.between(0, count)];
+        return random.pick(&any);
+    }
+    let save = random.pick(saves);
+    match random.chance(1, 8) {
+        true => save + random.pick(&[1 << 8, 1 << 16, 1 << 24, 1 << 30, 1 << 31]),
+        false => save,
+    }
+}
+
 fn foreign_images(comparer: &mut Comparer, random: &mut Random, settings: &Settings, file: &[u8]) {
     let period = settings.period;
     let settings = settings.bytes();
@@ -210,20 +224,13 @@ fn foreign_images(comparer: &mut Comparer, random: &mut Random, settings: &Setti
         .filter(|&index| file[12 * (index as usize - 1)] == SAVE)
         .collect();
     for _ in 0..4 {
-        let any = [0, 1, count, count + 1, u32::MAX, random.between(0, count)];
-        let index = match saves.is_empty() || random.chance(1, 4) {
-            true => random.pick(&any),
-            false => random.pick(&saves),
+        let index = foreign_index(random, &saves, count);
+        let near = random.between(0, period);
+        let far = [period + 1, u32::MAX, near + (1 << 24), near + (1 << 31)];
+        let tick = match random.chance(1, 4) {
+            true => random.pick(&far),
+            false => random.pick(&[0, period, period, near]),
         };
-        let ticks = [
-            0,
-            period,
-            period,
-            period + 1,
-            u32::MAX,
-            random.between(0, period),
-        ];
-        let tick = random.pick(&ticks);
         let Set { variables, inputs } = set_of_values(random);
         let form = random.pick(&[LAID, LAID, LAID, EQUALISED, TASK]);
         let mut call = Call::new(Kind::Resume, &settings, form, file, random);
