@@ -44,9 +44,15 @@ impl File {
         self.0.len() / RECORD
     }
 
-    /// Beside its kind and count the numbers of such a record are 0: variable 0, port 0, the test 0 = 0, which always holds.
+    /// The variable, the port and the right value are 0. The test of a WHILE, variable 0 ≥ 0, always holds, and that of a TIMES, variable
+    /// 0 < 0, never, so that its rounds are all run and do not overrun.
     pub fn add(&mut self, kind: u8, count: u32) -> &mut Self {
-        self.full([kind, 0, 0, 0], 0, count)
+        let relation = match kind {
+            WHILE => 5,
+            TIMES => 2,
+            _ => 0,
+        };
+        self.full([kind, relation, 0, 0], 0, count)
     }
 
     pub fn full(&mut self, head: [u8; 4], value: u32, count: u32) -> &mut Self {
