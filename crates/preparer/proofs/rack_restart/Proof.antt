@@ -1,6 +1,6 @@
 use denote.Ref.{now}
 use Rattle.model.specs.declared.Form.{Form}
-use Rattle.model.specs.Replies.{loan, restartReply, restartBuffers}
+use Rattle.model.specs.Replies.{Loan, loan, restartReply, restartBuffers}
 use Rattle.preparer.proofs.Packing.{by-form}
 use borrow.Author.Needs.{needs}
 use Rattle.preparer.proofs.rack_restart.Statement.{statement}
@@ -32,8 +32,10 @@ same-length-3 c = search needs
 returns : tie.Need-returns
 returns c =
     let a = c .before .before .before .before .before .before .before .before .before .before .before .before .before .before .before .before .before .before .args in
+    let lent : Form → Loan = λ f. loan (now (a .settings)) f (now (a .file)) (now (a .variables)) (now (a .inputs)) (now (a .levels)) (now (a .marks)) in
     let e = c .before .before .before .before .before .before .before .restart .ensures in
-    by-form (λ (f : Form). restartReply (loan (now (a .settings)) f (now (a .file)) (now (a .variables)) (now (a .inputs)) (now (a .levels)) (now (a .marks)))) (λ (f : Form). restartBuffers (loan (now (a .settings)) f (now (a .file)) (now (a .variables)) (now (a .inputs)) (now (a .levels)) (now (a .marks)))) (c .before .before .before .before .before .before .before .before .before .before .before .form-of .ensures) (e .0) (e .1) (c .resumed-word .ensures)
+    by-form (λ (f : Form). restartReply (lent f)) (λ (f : Form). restartBuffers (lent f))
+    (c .before .before .before .before .before .before .before .before .before .before .before .form-of .ensures) (e .0) (e .1) (c .resumed-word .ensures)
 
 pub rack-restart-spec : {M : Type 1} → statement M
 rack-restart-spec =
