@@ -1,7 +1,8 @@
--- How a block is merged statement by statement; then sizes, what is written, and the reply of the call.
+-- How a block is merged statement by statement; what is kept for the second pass; then sizes, what is written, and the reply of the call.
 pub mod Merged
-pub mod SizeLaws
-pub mod StepSizes
+pub mod Keeping
+pub mod Inside
+pub mod StatementSizes
 pub mod Measured
 pub mod PieceBytes
 pub mod WrittenBytes

@@ -1,6 +1,5 @@
 -- From the settings and the task that were read, the size of the result and what was written, to the reply of the call.
-use Prim.Native.Nat.{ℕ, _+_, _*_, _/_, _≤_}
-use native.Mathlib.Nat.{add-zero}
+use Prim.Native.Nat.{ℕ, _+_, _*_, _/_, _^_, _≤_, _<_}
 use native.Mathlib.Omega.{arith}
 use mathlib.Core.Path.{_≡_, refl, ap, sym, subst, _∙_}
 use mathlib.Core.Bool.{Bool, true, false}
@@ -18,100 +17,112 @@ use Rattle.model.specs.Times.{time}
 use Rattle.model.specs.Equalising.{equalise}
 use Rattle.model.specs.Settings.{settingsOf}
 use Rattle.model.specs.Answers.{Verdict, finished, refusal, equalised}
-use Rattle.model.specs.Replies.{turnDown, noRoom, kept, over, equalisedTree, equaliseReply, equaliseOut}
+use Rattle.model.specs.Replies.{turnDown, noRoom, kept as kept-by, over, equalisedTree, equaliseReply, equaliseOut}
 use Rattle.model.proofs.Sound.{sound-file}
 use Rattle.records.specs.declared.settings.Decoded.the-variants.{Valid, Refused}
 use Rattle.records.specs.Blocks.{blockBytes, skipRecords}
 use Rattle.records.proofs.Blocks.{length-block}
 use Rattle.reading.specs.Answers.{Reads}
-use Rattle.reading.specs.Ranges.{Fills}
-use Rattle.reading.proofs.Filled.{fills-file}
 use Rattle.reading.proofs.Entry.{read-sound, kept-refusal}
+use Rattle.reading.proofs.Standing.{stands-file}
 use Rattle.timing.specs.declared.ticks.Time.the-variants.{Ticks, OverPeriod}
 use Rattle.timing.specs.Times.{Gives}
-use Rattle.timing.proofs.Given.{was-ticks, was-over}
-use Rattle.equaliser.specs.declared.sizes.Size.{Size}
+use Rattle.timing.proofs.Given.{was-over}
+use Rattle.equaliser.specs.declared.measure.Extent.{Extent}
+use Rattle.equaliser.specs.declared.write.Written.{Written}
 use Rattle.equaliser.specs.Merged.{padded}
-use Rattle.equaliser.specs.Sizes.{InTask, BlockSize}
+use Rattle.equaliser.specs.Pads.{Kept}
+use Rattle.equaliser.specs.Sizes.{InTask, Small, BlockAsks, BlockDone, IsBlock, BlockSize}
 use Rattle.equaliser.specs.Written.{BlockFits, BlockWritten}
 use Rattle.equaliser.specs.Answers.{SoundTask, sizedReply, Equalises}
 use Rattle.equaliser.proofs.Merged.{equalise-padded}
+use Rattle.equaliser.proofs.StatementSizes.{told}
 
 -- A TASK THAT WAS READ
 
--- its tree fills it
-pub task-fills : (task : List ℕ) → SoundTask task → Fills Task task 0 (length task / 12) 16 (fileTree task)
-task-fills task S = fills-file Task task (fileTree task) (sound-file Task task (S .sound))
+-- its tree stands in it
+abbrev in-task : (task : List ℕ) → SoundTask task → InTask task 0 (length task / 12)
+in-task task S =
+    let F = sound-file Task task (S .sound) in
+    record {
+      block = fileTree task;
+      stands = stands-file Task task (record { sound = S .sound });
+      few = omega (arith, F .few, F .whole-records);
+      inside = omega arith;
+    }
 
-task-few : (task : List ℕ) → SoundTask task → length task / 12 ≤ 256
-task-few task S = let F = sound-file Task task (S .sound) in omega (arith, F .few, F .whole-records)
-
-pub in-task : (task : List ℕ) → SoundTask task → InTask task 0 (length task / 12) 16
-in-task task S = record { block = fileTree task; fills = task-fills task S; few = task-few task S; inside = omega arith }
+pub task-asks : {task pads : List ℕ} → SoundTask task → length pads ≡ 512 → BlockAsks task 0 (length task / 12) pads
+task-asks S l = record { task = in-task _ S; long = l }
 
 -- the first row that refuses decides, and a refusal keeps the buffer
 turned : (task : List ℕ) (σ : Settings) (old : List ℕ) (x : Refusal) → refusal x ≡ sizedReply σ (fileTree task) (length old) → Equalises task σ old old (Equalised.Refused x)
 turned task σ old x e = record {
   reply = e;
-  leaves = sym (kept-refusal x _ old) ∙ ap (λ (v : Verdict). kept v (over (bytes (flatten (equalise σ (fileTree task)))) old) old) e;
+  leaves = sym (kept-refusal x _ old) ∙ ap (λ (v : Verdict). kept-by v (over (bytes (flatten (equalise σ (fileTree task)))) old) old) e;
 }
 
-module _ {task : List ℕ} {σ : Settings} {r : Size} (S : SoundTask task) (B : BlockSize task 0 (length task / 12) 16 σ r) where
-  takes : Gives (σ .period) (time σ (fileTree task)) (r .time)
-  takes = B .right (fileTree task) (task-fills task S) .takes
+module _ {task : List ℕ} {σ : Settings} {pads kept : List ℕ} {r : Extent} (S : SoundTask task) (B : BlockSize task 0 (length task / 12) σ pads kept r) where
+  measured : IsBlock task 0 (length task / 12) σ kept (fileTree task) r
+  measured = B .right (fileTree task) (in-task task S .stands)
 
   pub over-period : (old : List ℕ) → r .time ≡ OverPeriod → Equalises task σ old old (Equalised.Refused Refusal.OverPeriod)
   over-period old e =
       turned task σ old Refusal.OverPeriod
-      (simp (lt-ltb (σ .period) (time σ (fileTree task)) (was-over (σ .period) (time σ (fileTree task)) (subst (Gives (σ .period) (time σ (fileTree task))) e takes))))
+      (simp (lt-ltb (σ .period) (time σ (fileTree task)) (was-over (σ .period) (time σ (fileTree task)) (subst (Gives (σ .period) (time σ (fileTree task))) e (measured .takes)))))
 
-  module _ {t m : ℕ} (e : r .time ≡ Ticks t) (c : m ≡ skipRecords (r .wait)) where
-    abbrev n : ℕ
-    n = r .records + m
+  module _ {t : ℕ} (e : r .time ≡ Ticks t) where
+    in-time : (time σ (fileTree task) ≡ t) × (t ≤ σ .period) × BlockDone task 0 (length task / 12) σ kept (fileTree task) r
+    in-time = told measured e
 
-    in-time : (time σ (fileTree task) ≡ t) × (t ≤ σ .period)
-    in-time = was-ticks (σ .period) (time σ (fileTree task)) t (subst (Gives (σ .period) (time σ (fileTree task))) e takes)
+    pub small : Small r
+    small = in-time .2 .small
 
-    counts : size (equalise σ (fileTree task)) ≡ n
-    counts =
-        ap size (equalise-padded σ (fileTree task))
-        ∙ B .right (fileTree task) (task-fills task S) .counts (omega (arith, in-time)) 0
-        ∙ ap (λ (x : ℕ). r .records + x) (ap skipRecords (add-zero (r .wait)) ∙ sym c)
+    module _ {n : ℕ} (c : n ≡ r .records + skipRecords (r .wait + 0)) where
+      counts : size (equalise σ (fileTree task)) ≡ n
+      counts = ap size (equalise-padded σ (fileTree task)) ∙ in-time .2 .counts 0 ∙ sym c
 
-    -- what row 9 says decides
-    sized : (old : List ℕ) → sizedReply σ (fileTree task) (length old) ≡ turnDown 9 (noRoom (length old) n) (finished (12 * n ∷ t ∷ []))
-    sized old = rw (counts, in-time .0, le-ltb (σ .period) t (in-time .1))
+      -- what row 9 says decides
+      sized : (old : List ℕ) → sizedReply σ (fileTree task) (length old) ≡ turnDown 9 (noRoom (length old) n) (finished (12 * n ∷ t ∷ []))
+      sized old = rw (counts, in-time .0, le-ltb (σ .period) t (in-time .1))
 
-    pub no-room : (old : List ℕ) → noRoom (length old) n ≡ true → Equalises task σ old old (Equalised.Refused Refusal.NoRoom)
-    no-room old h = turned task σ old Refusal.NoRoom (sym (sized old ∙ rw h))
+      pub no-room : (old : List ℕ) → noRoom (length old) n ≡ true → Equalises task σ old old (Equalised.Refused Refusal.NoRoom)
+      no-room old h = turned task σ old Refusal.NoRoom (sym (sized old ∙ rw h))
 
-    -- the result's length is that of its bytes
-    length-result : length (blockBytes (padded σ 0 (fileTree task) 0)) ≡ 12 * n
-    length-result = length-block (padded σ 0 (fileTree task) 0) ∙ ap (λ (x : ℕ). 12 * x) (ap size (sym (equalise-padded σ (fileTree task))) ∙ counts)
+      -- the result's length is that of its bytes
+      length-result : length (blockBytes (padded σ 0 (fileTree task) 0)) ≡ 12 * n
+      length-result = length-block (padded σ 0 (fileTree task) 0) ∙ ap (λ (x : ℕ). 12 * x) (ap size (sym (equalise-padded σ (fileTree task))) ∙ counts)
 
-    pub has-room : (old : List ℕ) → noRoom (length old) n ≡ false → BlockFits task 0 (length task / 12) 16 σ 0 old
-    unfolding in-task
-    has-room old h = record {
-      task = in-task task S;
-      within = omega (arith, in-time);
-      room = omega (arith, length-result, room (ltb (length old) (12 * n)) refl h);
-    }
-      where
+      whole : 0 + size (fileTree task) ≡ length task / 12
+      whole = omega (arith, sound-file Task task (S .sound) .whole-records)
+
+      module _ (short : t < 2 ^ 32) (old : List ℕ) (h : noRoom (length old) n ≡ false) where
         room : (o : Bool) → ltb (length old) (12 * n) ≡ o → noRoom (length old) n ≡ false → 12 * n ≤ length old
         room true e h = let z : _≡_ {A = ℕ} 0 1 = cc in absurd (omega arith)
         room false e h = ltb-false (length old) (12 * n) e
 
-    pub written : (old new : List ℕ) (k : ℕ) → noRoom (length old) n ≡ false → BlockWritten task 0 (length task / 12) 16 σ 0 old new k
-        → Equalises task σ old new (Equalised.Written k t)
-    unfolding blockBytes
-    written old new k h W =
-        let w = W .right (fileTree task) (task-fills task S) in
-        let reply : finished (k ∷ t ∷ []) ≡ sizedReply σ (fileTree task) (length old) = ap (λ (x : ℕ). finished (x ∷ t ∷ [])) (w .count ∙ length-result) ∙ sym (sized old ∙ rw h) in
-        record {
-          reply = reply;
-          leaves = w .laid ∙ ap (λ (b : Block). over (bytes (flatten b)) old) (sym (equalise-padded σ (fileTree task)))
-              ∙ ap (λ (v : Verdict). kept v (over (bytes (flatten (equalise σ (fileTree task)))) old) old) reply;
+        abbrev fits : BlockFits task 0 (length task / 12) 0 kept old
+        fits = record {
+          settings = σ;
+          task = in-task task S;
+          kept = subst (λ (j : ℕ). Kept σ task (length task / 12) kept 0 j) whole (in-time .2 .kept);
+          within = omega (arith, in-time);
+          room = omega (arith, length-result, room (ltb (length old) (12 * n)) refl h);
         }
+
+        pub has-room : BlockFits task 0 (length task / 12) 0 kept old
+        has-room = fits
+
+        pub written : (new : List ℕ) {w : Written} → BlockWritten task 0 (length task / 12) 0 kept old new w → Equalises task σ old new (Equalised.Written (w .bytes) t)
+        unfolding blockBytes
+        written new {w} W =
+            let p = W .right fits .wrote in
+            let reply : finished (w .bytes ∷ t ∷ []) ≡ sizedReply σ (fileTree task) (length old) =
+            ap (λ (x : ℕ). finished (x ∷ t ∷ [])) (p .count ∙ length-result) ∙ sym (sized old ∙ rw h) in
+            record {
+              reply = reply;
+              leaves = p .laid ∙ ap (λ (b : Block). over (bytes (flatten b)) old) (sym (equalise-padded σ (fileTree task)))
+                  ∙ ap (λ (v : Verdict). kept-by v (over (bytes (flatten (equalise σ (fileTree task)))) old) old) reply;
+            }
 
 -- THE CALL
 
@@ -127,7 +138,7 @@ module _ (s task old : List ℕ) where
   unfolding equaliseReply equaliseOut
   read-refused x R =
       let new = over (bytes (flatten (equalisedTree s task))) old in
-      (R .reply _, sym (kept-refusal x new old) ∙ ap (λ (v : Verdict). kept v new old) (R .reply _))
+      (R .reply _, sym (kept-refusal x new old) ∙ ap (λ (v : Verdict). kept-by v new old) (R .reply _))
 
   pub read-equalised : (σ : Settings) (new : List ℕ) (r : Equalised) → Reads s Task task (Valid σ) → Equalises task σ old new r → Replied r new
   unfolding equaliseReply equaliseOut equalisedTree
@@ -135,4 +146,4 @@ module _ (s task old : List ℕ) where
       let E' = subst (λ (τ : Settings). Equalises task τ old new r) (R .settings σ refl) E in
       let next = sizedReply (settingsOf s) (fileTree task) (length old) in
       let result = over (bytes (flatten (equalise (settingsOf s) (fileTree task)))) old in
-      (E' .reply ∙ R .reply next, E' .leaves ∙ ap (λ (v : Verdict). kept v result old) (R .reply next))
+      (E' .reply ∙ R .reply next, E' .leaves ∙ ap (λ (v : Verdict). kept-by v result old) (R .reply next))

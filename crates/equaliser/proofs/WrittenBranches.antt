@@ -1,101 +1,153 @@
 -- An IF, written in five parts: its record, the first side, ELSE, the second side and END.
-use Prim.Native.Nat.{ℕ, _+_, _-_, _≤_}
+use Prim.Native.Nat.{ℕ, _+_, _-_, _^_, _≤_, _<_}
 use native.Mathlib.Omega.{arith}
-use mathlib.Core.Path.{_≡_, refl, subst, _∙_}
+use mathlib.Core.Path.{_≡_, refl, ap, sym, subst, _∙_}
 use mathlib.Core.List.{List, _++_}
-use lib.ListN.{length}
+use lib.ListN.{length, getD}
 use Rattle.model.specs.declared.Settings.{Settings}
 use Rattle.model.specs.declared.Form.the-variants.{Task}
-use Rattle.model.specs.Records.{Rec, recordBytes}
-use Rattle.model.specs.Trees.{Block, elseRec, endRec}
+use Rattle.model.specs.Records.{Rec, kindAt, recordAt, recordBytes, IF}
+use Rattle.model.specs.Trees.{Block, branch, size, testRec, elseRec, endRec}
 use Rattle.model.specs.Times.{time}
 use Rattle.model.specs.Replies.{over}
+use Rattle.records.specs.declared.Record.{Record}
+use Rattle.records.specs.Records.{recordOf}
 use Rattle.records.specs.Blocks.{blockBytes, Wrote}
 use Rattle.records.proofs.Over.{Part, lent, back, part-first, part-fits, part-fits-last}
 use Rattle.records.proofs.Laying.{record-wrote, wrote-next, wrote-last}
-use Rattle.reading.proofs.Filled.{fills-once}
-use Rattle.equaliser.specs.Merged.{padded}
-use Rattle.equaliser.specs.Written.{branchBytes, BlockTicks, BlockFits, BlockWritten, BranchFits, BranchWritten}
-use Rattle.equaliser.proofs.WrittenParts.{block-fits, block-laid}
+use Rattle.records.proofs.Blocks.{branch-bytes}
+use Rattle.reading.specs.Ranges.{Stands, firstPart, secondPart, afterFirst, testOf}
+use Rattle.reading.proofs.Standing.{if-at, sides-end}
+use Rattle.equaliser.specs.declared.write.Written.{Written}
+use Rattle.equaliser.specs.Merged.{padded, firstOut}
+use Rattle.equaliser.specs.Pads.{Entry}
+use Rattle.equaliser.specs.Sizes.{AtStatement}
+use Rattle.equaliser.specs.Written.{BlockFits, BlockWritten, StatementFits, WritesStatement}
+use Rattle.equaliser.proofs.Inside.{first-in, second-in}
+use Rattle.equaliser.proofs.WrittenBytes.{branchBytes}
+use Rattle.equaliser.proofs.WrittenParts.{block-fits, block-laid, block-goes}
 
-module _ {s : List ℕ} {x : Rec} {i m to d : ℕ} {σ : Settings} {old : List ℕ} where
-  module _ (F : BranchFits s x i m to d σ old) where
-    abbrev pub one : Block
-    one = F .first .block
+module _ {s : List ℕ} {i to : ℕ} {pads old : List ℕ} (F : StatementFits s i to 0 pads old) {r : Record} (same : recordOf r ≡ recordAt s i) (k : kindAt s i ≡ IF) where
+  abbrev at : AtStatement s i to
+  at = F .statement
 
-    abbrev pub two : Block
-    two = F .second .block
+  abbrev σ : Settings
+  σ = F .settings
 
-    -- the ticks by which each side is shorter than the other
-    abbrev pub pad-one : ℕ
-    pad-one = time σ two - time σ one
+  abbrev all : Block
+  all = at .task .block
 
-    abbrev pub pad-two : ℕ
-    pad-two = time σ one - time σ two
+  abbrev one : Block
+  one = firstPart all
 
-    -- what follows ELSE, and what follows the first side
-    abbrev pub after-else : List ℕ
-    after-else = blockBytes (padded σ 0 two pad-two) ++ recordBytes endRec
+  abbrev two : Block
+  two = secondPart all
 
-    abbrev pub after-one : List ℕ
-    after-one = recordBytes elseRec ++ after-else
+  -- the ticks by which each side is shorter than the other
+  abbrev pad-one : ℕ
+  pad-one = time σ two - time σ one
 
-    -- how far the IF is laid
-    pub record TestLaid (new : List ℕ) (at : ℕ) : Type 0 where
-      pub part : Part (branchBytes σ x one two) (blockBytes (padded σ 0 one pad-one) ++ after-one) old new at
+  abbrev pad-two : ℕ
+  pad-two = time σ one - time σ two
 
-    pub record FirstLaid (new : List ℕ) (at : ℕ) : Type 0 where
-      pub part : Part (branchBytes σ x one two) after-one old new at
+  is-if : all ≡ branch (testOf (recordOf r)) one two (afterFirst all)
+  is-if = if-at all (at .task .stands) (at .early) (at .goes-on) k ∙ ap (λ (y : Rec). branch (testOf y) one two (afterFirst all)) (sym same)
 
-    pub record ElseLaid (new : List ℕ) (at : ℕ) : Type 0 where
-      pub part : Part (branchBytes σ x one two) after-else old new at
+  -- its record says no more than its test
+  if-record : recordOf r ≡ testRec IF (testOf (recordOf r)) 0
+  if-record = same ∙ subst (Stands Task s i to) is-if (at .task .stands) .fills .stands .0 .is
 
-    pub record SecondLaid (new : List ℕ) (at : ℕ) : Type 0 where
-      pub part : Part (branchBytes σ x one two) (recordBytes endRec) old new at
+  whole : blockBytes (firstOut σ 0 all) ≡ branchBytes σ (recordOf r) one two
+  whole =
+      ap (λ (x : Block). blockBytes (firstOut σ 0 x)) is-if
+      ∙ branch-bytes (testOf (recordOf r)) (padded σ 0 one pad-one) (padded σ 0 two pad-two)
+      ∙ ap (λ (y : Rec). branchBytes σ y one two) (sym if-record)
 
-    pub test-fits : 12 ≤ length old
-    test-fits = omega (arith, F .room)
+  laid : branchBytes σ (recordOf r) one two ≡ blockBytes (firstOut σ 0 (branch (testOf (recordOf r)) one two (afterFirst all)))
+  laid = sym whole ∙ ap (λ (x : Block). blockBytes (firstOut σ 0 x)) is-if
 
-    pub test-laid : {new : List ℕ} → new ≡ over (recordBytes x) old → TestLaid new 12
-    test-laid e = record { part = part-first (recordBytes x) (F .room) e refl }
+  -- what was kept for it
+  known : (getD pads i 0 ≡ pad-one) × (getD pads (256 + i) 0 ≡ pad-two)
+  known = subst (Entry σ pads i) is-if (F .kept .entry i (omega arith) (at .early) all (at .task .stands))
 
-    -- the times of the sides are known
-    module _ {u v : ℕ} (A : BlockTicks s i m d σ u) (B : BlockTicks s (m + 1) to d σ v) where
-      known-pads : (v - u ≡ pad-one) × (u - v ≡ pad-two)
-      known-pads =
-          let a = A .right Task one (F .first .fills) (F .first-within) in
-          let e = B .right Task two (F .second .fills) (F .second-within) in
-          (omega arith, omega arith)
+  short : (time σ one + pad-one < 2 ^ 32) × (time σ two + pad-two < 2 ^ 32)
+  short = (omega (arith, F .within, ap (time σ) is-if), omega (arith, F .within, ap (time σ) is-if))
 
-  module _ {F : BranchFits s x i m to d σ old} {new : List ℕ} {at : ℕ} where
-    module _ {u v k : ℕ} (A : BlockTicks s i m d σ u) (B : BlockTicks s (m + 1) to d σ v) where
-      module _ (e : k ≡ v - u) (p : TestLaid F new at) where
-        pub first-fits : BlockFits s i m d σ k (lent new at)
-        first-fits = block-fits (F .first) σ (pad-one F) (e ∙ known-pads F A B .0) (after-one F) (p .part) (omega (arith, F .first-within, F .second-within))
+  -- what follows ELSE, and what follows the first side
+  abbrev after-else : List ℕ
+  after-else = blockBytes (padded σ 0 two pad-two) ++ recordBytes endRec
 
-        pub first-laid : {ys : List ℕ} {n : ℕ} → BlockWritten s i m d σ k (lent new at) ys n → FirstLaid F (back new at ys) (at + n)
-        first-laid W = record { part = block-laid (F .first) σ (pad-one F) (e ∙ known-pads F A B .0) (after-one F) (p .part) W }
+  abbrev after-one : List ℕ
+  after-one = recordBytes elseRec ++ after-else
 
-      module _ (e : k ≡ u - v) (p : ElseLaid F new at) where
-        pub second-fits : BlockFits s (m + 1) to d σ k (lent new at)
-        second-fits = block-fits (F .second) σ (pad-two F) (e ∙ known-pads F A B .1) (recordBytes endRec) (p .part) (omega (arith, F .first-within, F .second-within))
+  -- how far the IF is laid
+  pub record TestLaid (new : List ℕ) (at : ℕ) : Type 0 where
+    pub part : Part (branchBytes σ (recordOf r) one two) (blockBytes (padded σ 0 one pad-one) ++ after-one) old new at
 
-        pub second-laid : {ys : List ℕ} {n : ℕ} → BlockWritten s (m + 1) to d σ k (lent new at) ys n → SecondLaid F (back new at ys) (at + n)
-        second-laid W = record { part = block-laid (F .second) σ (pad-two F) (e ∙ known-pads F A B .1) (recordBytes endRec) (p .part) W }
+  pub record FirstLaid (new : List ℕ) (at next : ℕ) : Type 0 where
+    pub part : Part (branchBytes σ (recordOf r) one two) after-one old new at
+    pub goes : next ≡ i + 1 + size one
 
-    pub else-fits : FirstLaid F new at → 12 ≤ length (lent new at)
-    else-fits p = part-fits (recordBytes elseRec) (after-else F) (p .part)
+  pub record ElseLaid (new : List ℕ) (at next : ℕ) : Type 0 where
+    pub part : Part (branchBytes σ (recordOf r) one two) after-else old new at
+    pub goes : next ≡ i + 1 + size one
 
-    pub else-laid : {ys : List ℕ} → FirstLaid F new at → ys ≡ over (recordBytes elseRec) (lent new at) → ElseLaid F (back new at ys) (at + 12)
-    else-laid p e = record { part = wrote-next (recordBytes elseRec) (p .part) (record-wrote elseRec e) }
+  pub record SecondLaid (new : List ℕ) (at next : ℕ) : Type 0 where
+    pub part : Part (branchBytes σ (recordOf r) one two) (recordBytes endRec) old new at
+    pub goes : next + 1 ≡ i + (3 + size one + size two)
 
-    pub end-fits : SecondLaid F new at → 12 ≤ length (lent new at)
-    end-fits p = part-fits-last (p .part)
+  room : length (branchBytes σ (recordOf r) one two) ≤ length old
+  room = subst (λ (bs : List ℕ). length bs ≤ length old) whole (F .room)
 
-    pub end-laid : {ys : List ℕ} → SecondLaid F new at → ys ≡ over (recordBytes endRec) (lent new at) → BranchWritten s x i m to d σ old (back new at ys) (at + 12)
-    end-laid {ys} p e = record {
-      right = λ a c A C.
-          subst (λ (u : Block). Wrote (branchBytes σ x a u) old (back new at ys) (at + 12)) (fills-once (two F) c (F .second .fills) C)
-          (subst (λ (u : Block). Wrote (branchBytes σ x u (two F)) old (back new at ys) (at + 12)) (fills-once (one F) a (F .first .fills) A)
-          (wrote-last (p .part) (record-wrote endRec e)));
-    }
+  pub test-fits : 12 ≤ length old
+  test-fits = omega (arith, room)
+
+  pub test-laid : {new : List ℕ} → new ≡ over (recordBytes (recordOf r)) old → TestLaid new 12
+  test-laid e = record { part = part-first (recordBytes (recordOf r)) room e refl }
+
+  module _ {new : List ℕ} {n : ℕ} where
+    module _ (p : TestLaid new n) where
+      pub first-fits : BlockFits s (i + 1) to (getD pads i 0) pads (lent new n)
+      first-fits = block-fits (first-in at k) (F .kept) pad-one (known .0) (short .0) after-one (p .part)
+
+      pub first-laid : {ys : List ℕ} {w : Written} → BlockWritten s (i + 1) to (getD pads i 0) pads (lent new n) ys w → FirstLaid (back new n ys) (n + w .bytes) (w .next)
+      first-laid W = record {
+        part = block-laid (first-in at k) (F .kept) pad-one (known .0) (short .0) after-one (p .part) W;
+        goes = block-goes (first-in at k) (F .kept) pad-one (known .0) (short .0) after-one (p .part) W;
+      }
+
+    module _ {m : ℕ} (p : FirstLaid new n m) where
+      pub else-fits : 12 ≤ length (lent new n)
+      else-fits = part-fits (recordBytes elseRec) after-else (p .part)
+
+      pub else-laid : {ys : List ℕ} → ys ≡ over (recordBytes elseRec) (lent new n) → ElseLaid (back new n ys) (n + 12) m
+      else-laid e = record { part = wrote-next (recordBytes elseRec) (p .part) (record-wrote elseRec e); goes = p .goes }
+
+    module _ {m : ℕ} (p : ElseLaid new n m) where
+      pub else-early : m < to
+      else-early = omega (arith, p .goes, sides-end all (at .task .stands) (at .early) (at .goes-on) k)
+
+      pub else-late : i < m
+      else-late = omega (arith, p .goes)
+
+      pub second-fits : BlockFits s (m + 1) to (getD pads (256 + i) 0) pads (lent new n)
+      second-fits = block-fits (second-in at k (p .goes)) (F .kept) pad-two (known .1) (short .1) (recordBytes endRec) (p .part)
+
+      pub second-laid : {ys : List ℕ} {w : Written} → BlockWritten s (m + 1) to (getD pads (256 + i) 0) pads (lent new n) ys w → SecondLaid (back new n ys) (n + w .bytes) (w .next)
+      second-laid W = record {
+        part = block-laid (second-in at k (p .goes)) (F .kept) pad-two (known .1) (short .1) (recordBytes endRec) (p .part) W;
+        goes = omega (arith, p .goes, block-goes (second-in at k (p .goes)) (F .kept) pad-two (known .1) (short .1) (recordBytes endRec) (p .part) W);
+      }
+
+    module _ {m : ℕ} (p : SecondLaid new n m) where
+      pub end-early : m < to
+      end-early = omega (arith, p .goes, sides-end all (at .task .stands) (at .early) (at .goes-on) k)
+
+      pub end-fits : 12 ≤ length (lent new n)
+      end-fits = part-fits-last (p .part)
+
+      pub end-laid : {ys : List ℕ} → ys ≡ over (recordBytes endRec) (lent new n)
+          → WritesStatement (F .settings) i 0 (F .statement .task .block) old (back new n ys) (record { next = m + 1; bytes = n + 12; wait = 0 })
+      end-laid {ys} e =
+          subst (λ (b : Block). WritesStatement σ i 0 b old (back new n ys) (record { next = m + 1; bytes = n + 12; wait = 0 })) (sym is-if)
+          (record { wrote = subst (λ (bs : List ℕ). Wrote bs old (back new n ys) (n + 12)) laid (wrote-last (p .part) (record-wrote endRec e)); waits = refl; goes = p .goes })

@@ -1,58 +1,101 @@
 -- The loop that a WHILE becomes, written in three parts: up to its body, the body, and what follows it.
-use Prim.Native.Nat.{ℕ, _+_, _≤_}
+use Prim.Native.Nat.{ℕ, _+_, _^_, _≤_, _<_}
 use native.Mathlib.Omega.{arith}
-use mathlib.Core.Path.{_≡_, refl, subst}
+use mathlib.Core.Path.{_≡_, refl, ap, sym, subst, _∙_}
+use mathlib.Core.Bool.{true}
 use mathlib.Core.List.{List, _++_}
-use lib.ListN.{length}
+use lib.ListN.{length, getD}
 use Rattle.model.specs.declared.Settings.{Settings}
 use Rattle.model.specs.declared.Form.the-variants.{Task}
-use Rattle.model.specs.Records.{Rec}
-use Rattle.model.specs.Trees.{Block}
+use Rattle.model.specs.Records.{Rec, kindAt, recordAt, IF}
+use Rattle.model.specs.Trees.{Block, while, size}
 use Rattle.model.specs.Times.{time}
 use Rattle.model.specs.Replies.{over}
+use Rattle.records.specs.declared.Record.{Record}
+use Rattle.records.specs.Records.{recordOf}
 use Rattle.records.specs.Blocks.{blockBytes, Wrote}
 use Rattle.records.proofs.Over.{Part, lent, back, part-first, part-fits-last}
 use Rattle.records.proofs.Laying.{wrote-room, wrote-last}
-use Rattle.reading.proofs.Filled.{fills-once}
-use Rattle.equaliser.specs.Merged.{padded}
-use Rattle.equaliser.specs.Written.{loopHead, loopTail, loopBytes, BlockTicks, BlockFits, BlockWritten, LoopFits, LoopWritten}
-use Rattle.equaliser.proofs.WrittenParts.{block-fits, block-laid}
+use Rattle.reading.specs.Closing.{opensBlock}
+use Rattle.reading.specs.Ranges.{firstPart, afterFirst, testOf}
+use Rattle.reading.proofs.Standing.{body-ends}
+use Rattle.timing.proofs.Firsts.{parts-time, time-first}
+use Rattle.equaliser.specs.declared.write.Written.{Written}
+use Rattle.equaliser.specs.Merged.{padded, firstOut}
+use Rattle.equaliser.specs.Pads.{Entry}
+use Rattle.equaliser.specs.Sizes.{AtStatement}
+use Rattle.equaliser.specs.Written.{loopHead, loopTail, BlockFits, BlockWritten, StatementFits, WritesStatement}
+use Rattle.equaliser.proofs.Inside.{body-in, is-while}
+use Rattle.equaliser.proofs.WrittenBytes.{loopBytes, loop-bytes}
+use Rattle.equaliser.proofs.WrittenParts.{block-fits, block-laid, block-goes}
 
-module _ {s : List ℕ} {x : Rec} {i to d : ℕ} {σ : Settings} {old : List ℕ} where
+module _ {s : List ℕ} {i to : ℕ} {pads old : List ℕ} (F : StatementFits s i to 0 pads old) {r : Record} (same : recordOf r ≡ recordAt s i)
+    (o : opensBlock (kindAt s i) ≡ true) (x : kindAt s i ≡ IF → ⊥) where
+  abbrev at : AtStatement s i to
+  at = F .statement
+
+  abbrev σ : Settings
+  σ = F .settings
+
+  abbrev all : Block
+  all = at .task .block
+
+  abbrev body : Block
+  body = firstPart all
+
+  is-loop : all ≡ while (testOf (recordOf r)) (r .count) body (afterFirst all)
+  is-loop = is-while at o x all (at .task .stands) ∙ ap (λ (y : Rec). while (testOf y) (y .count) body (afterFirst all)) (sym same)
+
+  laid : loopBytes σ (recordOf r) body ≡ blockBytes (firstOut σ 0 (while (testOf (recordOf r)) (r .count) body (afterFirst all)))
+  laid = sym (loop-bytes σ (recordOf r) body)
+
+  -- what was kept for it
+  known : getD pads i 0 ≡ time σ body
+  known = subst (Entry σ pads i) is-loop (F .kept .entry i (omega arith) (at .early) all (at .task .stands))
+
+  short : time σ body + 0 < 2 ^ 32
+  short = omega (arith, F .within, parts-time σ Task all (at .task .stands .fills .of-form), time-first σ all)
+
+  room : length (loopBytes σ (recordOf r) body) ≤ length old
+  room = subst (λ (bs : List ℕ). length bs ≤ length old) (sym (laid ∙ ap (λ (b : Block). blockBytes (firstOut σ 0 b)) (sym is-loop))) (F .room)
+
   -- the loop is laid up to its body, and with it
-  pub record HeadLaid (F : LoopFits s x i to d σ old) (new : List ℕ) (at : ℕ) : Type 0 where
-    pub part : Part (loopBytes σ x (F .task .block)) (blockBytes (padded σ 0 (F .task .block) 0) ++ loopTail (time σ (F .task .block))) old new at
+  pub record HeadLaid (new : List ℕ) (at : ℕ) : Type 0 where
+    pub part : Part (loopBytes σ (recordOf r) body) (blockBytes (padded σ 0 body 0) ++ loopTail (time σ body)) old new at
 
-  pub record BodyLaid (F : LoopFits s x i to d σ old) (new : List ℕ) (at : ℕ) : Type 0 where
-    pub part : Part (loopBytes σ x (F .task .block)) (loopTail (time σ (F .task .block))) old new at
+  pub record BodyLaid (new : List ℕ) (at next : ℕ) : Type 0 where
+    pub part : Part (loopBytes σ (recordOf r) body) (loopTail (time σ body)) old new at
+    pub goes : next ≡ i + 1 + size body
 
-  pub head-fits : LoopFits s x i to d σ old → 24 ≤ length old
-  head-fits F = omega (arith, F .room)
+  pub head-fits : 24 ≤ length old
+  head-fits = omega (arith, room)
 
-  pub head-laid : (F : LoopFits s x i to d σ old) {new : List ℕ} → new ≡ over (loopHead x) old → HeadLaid F new 24
-  head-laid F e = record { part = part-first (loopHead x) (F .room) e refl }
+  pub head-laid : {new : List ℕ} → new ≡ over (loopHead (recordOf r)) old → HeadLaid new 24
+  head-laid e = record { part = part-first (loopHead (recordOf r)) room e refl }
 
-  module _ {F : LoopFits s x i to d σ old} {new : List ℕ} {at : ℕ} where
-    pub body-fits : HeadLaid F new at → BlockFits s i to d σ 0 (lent new at)
-    body-fits p = block-fits (F .task) σ 0 refl (loopTail (time σ (F .task .block))) (p .part) (omega (arith, F .within))
+  module _ {new : List ℕ} {n : ℕ} where
+    module _ (p : HeadLaid new n) where
+      pub body-fits : BlockFits s (i + 1) to 0 pads (lent new n)
+      body-fits = block-fits (body-in at o x) (F .kept) 0 refl short (loopTail (time σ body)) (p .part)
 
-    pub body-laid : {ys : List ℕ} {n : ℕ} → HeadLaid F new at → BlockWritten s i to d σ 0 (lent new at) ys n → BodyLaid F (back new at ys) (at + n)
-    body-laid p W = record { part = block-laid (F .task) σ 0 refl (loopTail (time σ (F .task .block))) (p .part) W }
+      pub body-laid : {ys : List ℕ} {w : Written} → BlockWritten s (i + 1) to 0 pads (lent new n) ys w → BodyLaid (back new n ys) (n + w .bytes) (w .next)
+      body-laid W = record {
+        part = block-laid (body-in at o x) (F .kept) 0 refl short (loopTail (time σ body)) (p .part) W;
+        goes = block-goes (body-in at o x) (F .kept) 0 refl short (loopTail (time σ body)) (p .part) W;
+      }
 
-    module _ {t : ℕ} (p : BodyLaid F new at) (B : BlockTicks s i to d σ t) where
-      known : t ≡ time σ (F .task .block)
-      known = B .right Task (F .task .block) (F .task .fills) (F .within)
+    module _ {m : ℕ} (p : BodyLaid new n m) where
+      pub body-early : m < to
+      body-early = omega (arith, p .goes, body-ends all (at .task .stands) (at .early) (at .goes-on) o x)
 
-      pub tail-fits : length (loopTail t) ≤ length (lent new at)
+      pub tail-fits : length (loopTail (getD pads i 0)) ≤ length (lent new n)
       tail-fits = rw known (part-fits-last (p .part))
 
-      module _ {ys : List ℕ} {n : ℕ} (W : Wrote (loopTail t) (lent new at) ys n) where
-        pub tail-room : at + n ≤ length old
+      module _ {ys : List ℕ} {t : ℕ} (W : Wrote (loopTail (getD pads i 0)) (lent new n) ys t) where
+        pub tail-room : n + t ≤ length old
         tail-room = wrote-room (p .part) (rw known at W)
 
-        pub tail-laid : LoopWritten s x i to d σ old (back new at ys) (at + n)
-        tail-laid = record {
-          right = λ a A.
-              subst (λ (u : Block). Wrote (loopBytes σ x u) old (back new at ys) (at + n)) (fills-once (F .task .block) a (F .task .fills) A)
-              (wrote-last (p .part) (rw known at W));
-        }
+        pub tail-laid : WritesStatement (F .settings) i 0 (F .statement .task .block) old (back new n ys) (record { next = m + 1; bytes = n + t; wait = 0 })
+        tail-laid =
+            subst (λ (b : Block). WritesStatement σ i 0 b old (back new n ys) (record { next = m + 1; bytes = n + t; wait = 0 })) (sym is-loop)
+            (record { wrote = subst (λ (bs : List ℕ). Wrote bs old (back new n ys) (n + t)) laid (wrote-last (p .part) (rw known at W)); waits = refl; goes = omega (arith, p .goes) })

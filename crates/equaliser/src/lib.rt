@@ -1,7 +1,7 @@
 // The sides of every branch made to last equally long. One pass measures the result, and one writes it.
 mod measure;
+mod pads;
 mod pieces;
-mod sizes;
 mod write;
 
 ghost use mathlib.Core.Path.{_≡_};
@@ -9,14 +9,14 @@ ghost use lib.ListN.{length};
 ghost use Rattle.model.specs.Answers.{equalised};
 ghost use Rattle.model.specs.Replies.{equaliseReply, equaliseOut};
 ghost use Rattle.equaliser.specs.Answers.{SoundTask, Equalises};
-use measure::block_size;
+use measure::measure_block;
+use measure::padded_records;
 use model::Equalised;
 use model::Form;
 use model::Refusal;
 use model::Settings;
 use records::no_room;
 use records::settings::Decoded;
-use records::skips::skip_records;
 use timing::ticks::Time;
 use write::write_block;
 
@@ -26,17 +26,20 @@ fn equalise_sound(task: &[u8], n: Settings, out: &mut [u8]) -> Equalised
     ensures { λ r. ⌜ Equalises (now (task .entry)) n (now (out .entry)) (now (out .exit)) r ⌝ }
 {
     let to = task.len() / 12;
-    let size = block_size(task, 0, to, 16, n);
-    let time = size.time;
+    let mut pads: [u32; 512] = [0; 512];
+    let whole = measure_block(task, 0, to, n, &mut pads);
+    let time = whole.time;
     let Time::Ticks(t) = time else {
         return Equalised::Refused(Refusal::OverPeriod);
     };
-    let records = size.records + skip_records(size.wait);
-    if no_room(out.len(), records) {
+    if no_room(out.len(), padded_records(whole, 0)) {
         return Equalised::Refused(Refusal::NoRoom);
     }
-    let bytes = write_block(task, 0, to, 16, n, 0, out);
-    Equalised::Written { bytes, time: t }
+    let w = write_block(task, 0, to, 0, &pads, out);
+    Equalised::Written {
+        bytes: w.bytes,
+        time: t,
+    }
 }
 
 // The equalised task over the front of out, or the first refusal of 6, 1 to 5, 8 and 9.

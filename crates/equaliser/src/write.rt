@@ -1,84 +1,103 @@
-// The second pass: the equalised block, over the front of a lent buffer. Each block and what follows it is lent the rest of the buffer.
-ghost use Rattle.reading.specs.Ranges.{Ranged};
+// The second pass: the equalised block, over the front of a lent buffer. Each block and what follows it is lent the rest of the buffer. What pads
+// the sides of an IF and how long a loop's body lasts was kept by the first pass, so this one needs no settings.
+ghost use mathlib.Core.Bool.{true};
+ghost use mathlib.Core.Path.{_≡_};
+ghost use Rattle.model.specs.Records.{kindAt, recordAt, IF};
 ghost use Rattle.records.specs.Records.{recordOf};
-ghost use Rattle.equaliser.specs.Written.{BlockTicks, BlockFits, BlockWritten, StepFits, StepWritten, BranchFits, BranchWritten, LoopFits, LoopWritten};
+ghost use Rattle.reading.specs.Closing.{opensBlock};
+ghost use Rattle.equaliser.specs.Written.{BlockFits, BlockWritten, StatementFits, StatementWritten};
 use crate::pieces::put_loop_head;
 use crate::pieces::put_loop_tail;
-use model::Settings;
-use reading::blocks::closing;
+use reading::blocks::closes;
 use reading::blocks::opens;
 use records::Record;
+use records::kind_at;
 use records::kinds;
 use records::put_bare;
 use records::put_record;
 use records::record_at;
 use records::skips::put_skip;
-use timing::blocks::block_time;
-use timing::ticks::Time;
-use timing::ticks::beyond;
 
-// The index of the record after a statement, the bytes written for it, and the ticks of SKIP that wait after it.
+// The index of the record after a statement or a block, the bytes written for it, and the ticks of SKIP that wait after it.
 pub struct Written {
     pub next: usize,
     pub bytes: usize,
     pub wait: u32,
 }
 
-// The time of a block that is known not to be above the period.
-fn block_ticks(s: &[u8], from: usize, to: usize, depth: usize, n: Settings) -> u32
-    requires { ⌜ Ranged (now s) from to ⌝ }
-    ensures { λ r. ⌜ BlockTicks (now (s .entry)) from to depth n r ⌝ }
+// The loop that the WHILE at i, with the record r, becomes.
+fn write_loop(
+    s: &[u8],
+    i: usize,
+    to: usize,
+    r: Record,
+    pads: &[u32; 512],
+    out: &mut [u8],
+) -> Written
+    requires { ⌜ (StatementFits (now s) i to 0 (now pads) (now out)) × (recordOf r ≡ recordAt (now s) i) × (opensBlock (kindAt (now s) i) ≡ true) × (kindAt (now s) i ≡ IF → ⊥) ⌝ }
+    ensures { λ w. ⌜ StatementWritten (now (s .entry)) i to 0 (now (pads .entry)) (now (out .entry)) (now (out .exit)) w ⌝ }
 {
-    let time = block_time(s, from, to, depth, n);
-    match time {
-        Time::Ticks(t) => t,
-        Time::OverPeriod => 0,
+    put_loop_head(out, r);
+    let body = write_block(s, i + 1, to, 0, pads, &mut out[24..]);
+    let at = 24 + body.bytes;
+    let bytes = at + put_loop_tail(&mut out[at..], pads[i]);
+    Written {
+        next: body.next + 1,
+        bytes,
+        wait: 0,
     }
 }
 
-// The loop that a WHILE with the record r and its body in the records from `from` up to `to` becomes.
-fn write_loop(
-    s: &[u8],
-    r: Record,
-    from: usize,
-    to: usize,
-    depth: usize,
-    n: Settings,
-    out: &mut [u8],
-) -> usize
-    requires { ⌜ LoopFits (now s) (recordOf r) from to depth n (now out) ⌝ }
-    ensures { λ w. ⌜ LoopWritten (now (s .entry)) (recordOf r) from to depth n (now (out .entry)) (now (out .exit)) w ⌝ }
-{
-    put_loop_head(out, r);
-    let at = 24 + write_block(s, from, to, depth, n, 0, &mut out[24..]);
-    let body = block_ticks(s, from, to, depth, n);
-    at + put_loop_tail(&mut out[at..], body)
-}
-
-// The IF with the record r and its sides in the records from `from` up to `mid`, and after `mid` up to `to`.
+// The IF at i, with the record r.
 fn write_branch(
     s: &[u8],
-    r: Record,
-    from: usize,
-    mid: usize,
+    i: usize,
     to: usize,
-    depth: usize,
-    n: Settings,
+    r: Record,
+    pads: &[u32; 512],
     out: &mut [u8],
-) -> usize
-    requires { ⌜ BranchFits (now s) (recordOf r) from mid to depth n (now out) ⌝ }
-    ensures { λ w. ⌜ BranchWritten (now (s .entry)) (recordOf r) from mid to depth n (now (out .entry)) (now (out .exit)) w ⌝ }
+) -> Written
+    requires { ⌜ (StatementFits (now s) i to 0 (now pads) (now out)) × (recordOf r ≡ recordAt (now s) i) × (kindAt (now s) i ≡ IF) ⌝ }
+    ensures { λ w. ⌜ StatementWritten (now (s .entry)) i to 0 (now (pads .entry)) (now (out .entry)) (now (out .exit)) w ⌝ }
 {
-    let other = mid + 1;
-    let x = block_ticks(s, from, mid, depth, n);
-    let y = block_ticks(s, other, to, depth, n);
     put_record(out, r);
-    let middle = 12 + write_block(s, from, mid, depth, n, beyond(y, x), &mut out[12..]);
+    let first = write_block(s, i + 1, to, pads[i], pads, &mut out[12..]);
+    let middle = 12 + first.bytes;
     put_bare(&mut out[middle..], kinds::ELSE, 0, 0);
-    let second = middle + 12;
-    let last = second + write_block(s, other, to, depth, n, beyond(x, y), &mut out[second..]);
+    let start = middle + 12;
+    let second = write_block(
+        s,
+        first.next + 1,
+        to,
+        pads[256 + i],
+        pads,
+        &mut out[start..],
+    );
+    let last = start + second.bytes;
     put_bare(&mut out[last..], kinds::END, 0, 0);
-    last + 12
+    Written {
+        next: second.next + 1,
+        bytes: last + 12,
+        wait: 0,
+    }
+}
+
+// The IF or the loop at i, with the record r.
+fn write_inner(
+    s: &[u8],
+    i: usize,
+    to: usize,
+    r: Record,
+    pads: &[u32; 512],
+    out: &mut [u8],
+) -> Written
+    requires { ⌜ (StatementFits (now s) i to 0 (now pads) (now out)) × (recordOf r ≡ recordAt (now s) i) × (opensBlock (kindAt (now s) i) ≡ true) ⌝ }
+    ensures { λ w. ⌜ StatementWritten (now (s .entry)) i to 0 (now (pads .entry)) (now (out .entry)) (now (out .exit)) w ⌝ }
+{
+    if r.kind == kinds::IF {
+        return write_branch(s, i, to, r, pads, out);
+    }
+    write_loop(s, i, to, r, pads, out)
 }
 
 // The statement at i, after `waited` ticks of SKIP.
@@ -86,61 +105,67 @@ fn write_statement(
     s: &[u8],
     i: usize,
     to: usize,
-    depth: usize,
-    n: Settings,
     waited: u32,
+    pads: &[u32; 512],
     out: &mut [u8],
 ) -> Written
-    requires { ⌜ StepFits (now s) i to depth n waited (now out) ⌝ }
-    ensures { λ r. ⌜ StepWritten (now (s .entry)) i to depth n waited (now (out .entry)) (now (out .exit)) r ⌝ }
+    requires { ⌜ StatementFits (now s) i to waited (now pads) (now out) ⌝ }
+    ensures { λ w. ⌜ StatementWritten (now (s .entry)) i to waited (now (pads .entry)) (now (out .entry)) (now (out .exit)) w ⌝ }
 {
     let r = record_at(s, i);
-    let next = i + 1;
     if r.kind == kinds::SKIP {
-        let bytes = 0;
         let wait = waited + r.count;
-        return Written { next, bytes, wait };
+        return Written {
+            next: i + 1,
+            bytes: 0,
+            wait,
+        };
     }
     let at = put_skip(out, waited);
-    let wait = 0;
-    if !opens(r.kind) {
-        put_record(&mut out[at..], r);
-        let bytes = at + 12;
-        return Written { next, bytes, wait };
+    if opens(r.kind) {
+        let w = write_inner(s, i, to, r, pads, &mut out[at..]);
+        return Written {
+            next: w.next,
+            bytes: at + w.bytes,
+            wait: 0,
+        };
     }
-    let mid = closing(s, next, to);
-    if r.kind != kinds::IF {
-        let bytes = at + write_loop(s, r, next, mid, depth - 1, n, &mut out[at..]);
-        let next = mid + 1;
-        return Written { next, bytes, wait };
+    put_record(&mut out[at..], r);
+    Written {
+        next: i + 1,
+        bytes: at + 12,
+        wait: 0,
     }
-    let end = closing(s, mid + 1, to);
-    let bytes = at + write_branch(s, r, next, mid, end, depth - 1, n, &mut out[at..]);
-    let next = end + 1;
-    Written { next, bytes, wait }
 }
 
-// The block in the records from `from` up to `to`, with a SKIP of `pad` ticks at its end.
+// The block at `from`, up to the record that closes it, with a SKIP of `pad` ticks at its end.
 pub fn write_block(
     s: &[u8],
     from: usize,
     to: usize,
-    depth: usize,
-    n: Settings,
     pad: u32,
+    pads: &[u32; 512],
     out: &mut [u8],
-) -> usize
-    requires { ⌜ BlockFits (now s) from to depth n pad (now out) ⌝ }
-    ensures { λ r. ⌜ BlockWritten (now (s .entry)) from to depth n pad (now (out .entry)) (now (out .exit)) r ⌝ }
+) -> Written
+    requires { ⌜ BlockFits (now s) from to pad (now pads) (now out) ⌝ }
+    ensures { λ w. ⌜ BlockWritten (now (s .entry)) from to pad (now (pads .entry)) (now (out .entry)) (now (out .exit)) w ⌝ }
 {
     let mut at: usize = 0;
     let mut wait: u32 = 0;
-    let mut i = from;
-    while i < to {
-        let w = write_statement(s, i, to, depth, n, wait, &mut out[at..]);
+    let mut next = from;
+    while next < to {
+        if closes(kind_at(s, next)) {
+            break;
+        }
+        let w = write_statement(s, next, to, wait, pads, &mut out[at..]);
         at += w.bytes;
         wait = w.wait;
-        i = w.next;
+        next = w.next;
     }
-    at + put_skip(&mut out[at..], wait + pad)
+    let bytes = at + put_skip(&mut out[at..], wait + pad);
+    Written {
+        next,
+        bytes,
+        wait: 0,
+    }
 }

@@ -1,8 +1,8 @@
 -- The scan for the end of a block passes through every block inside it, and stops at the ELSE or END that stands right after it.
-use Prim.Native.Nat.{ℕ, suc, _+_, _-_, _≤_, _<_}
+use Prim.Native.Nat.{ℕ, suc, _+_, _-_, _<_}
 use native.Mathlib.Omega.{arith}
 use mathlib.Core.Path.{_≡_, refl, ap, _∙_}
-use mathlib.Core.Bool.{Bool, true, false, cond}
+use mathlib.Core.Bool.{true}
 use mathlib.Core.Logic.{⊎-elim}
 use mathlib.Core.List.{List}
 use lib.Dec.{eqb}
@@ -11,9 +11,7 @@ use Rattle.model.specs.Records.{Rec, kindAt, recordAt, ELSE, WHILE, END, TIMES}
 use Rattle.model.specs.Trees.{Test, Act, Block, nil, skip, act, branch, while, times, size, actRec}
 use Rattle.model.proofs.Shapes.{by-act, or-cases}
 use Rattle.model.proofs.Stands.{At, LoopAt}
-use Rattle.reading.specs.declared.blocks.Pass.{Pass}
-use Rattle.reading.specs.declared.blocks.Pass.the-variants.{Ends, On}
-use Rattle.reading.specs.Closing.{opensBlock, closesBlock, passTo, goOn, closingIn}
+use Rattle.reading.specs.Closing.{Pass, Ends, On, closesBlock, passTo, goOn, closingIn}
 
 -- what a record at i makes of the count is a matter of its kind
 pub passes : (s : List ℕ) (i n : ℕ) {r : Rec} → recordAt s i ≡ r → passTo (kindAt s i) n ≡ passTo (r .kind) n
@@ -31,18 +29,6 @@ pass-end n = simp (ne-eqb (n + 1) 0 (λ e. omega arith)) (ap On (omega arith))
 -- ELSE and END end the block that the count started in
 pub ends-block : (k : ℕ) → closesBlock k ≡ true → passTo k 0 ≡ Ends
 ends-block k h = ⊎-elim (λ e. rw (eqb-true k ELSE e)) (λ e. rw (eqb-true k END e)) (or-cases (eqb k ELSE) (eqb k END) h)
-
--- a record opens at most one block
-on-le : (opens mid last none : Bool) (n k : ℕ) → cond opens (On (n + 1)) (cond mid (cond none Ends (On n)) (cond last (cond none Ends (On (n - 1))) (On n))) ≡ On k → k ≤ n + 1
-on-le true mid last none n k e = let q : n + 1 ≡ k = cc in omega arith
-on-le false true last true n k e = let z : _≡_ {A = ℕ} 0 1 = cc in absurd (omega arith)
-on-le false true last false n k e = let q : n ≡ k = cc in omega arith
-on-le false false true true n k e = let z : _≡_ {A = ℕ} 0 1 = cc in absurd (omega arith)
-on-le false false true false n k e = let q : n - 1 ≡ k = cc in omega arith
-on-le false false false none n k e = let q : n ≡ k = cc in omega arith
-
-pub pass-le : (kind n k : ℕ) → passTo kind n ≡ On k → k ≤ n + 1
-pass-le kind n k e = on-le (opensBlock kind) (eqb kind ELSE) (eqb kind END) (eqb n 0) n k e
 
 -- one record of the scan
 pub step : (s : List ℕ) (m l i n : ℕ) {p : Pass} → m ≡ suc l → passTo (kindAt s i) n ≡ p → closingIn s m i n ≡ goOn p i (λ k. closingIn s l (i + 1) k)

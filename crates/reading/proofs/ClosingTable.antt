@@ -15,9 +15,8 @@ use Rattle.model.specs.Trees.{Block, nil, skip, act, branch, while, times, size
 use Rattle.model.proofs.Shapes.{or-cases}
 use Rattle.model.proofs.Stands.{At}
 use Rattle.model.proofs.Sound.{OfForm}
-use Rattle.reading.specs.Closing.{opensBlock, closesBlock, passTo, closingIn, ClosingsFrom, Closings}
+use Rattle.reading.specs.Closing.{opensBlock, closesBlock, passTo, closingIn, ClosingsFrom, Closings, On}
 use Rattle.reading.specs.Ranges.{Stands, Fillable, firstSize, firstPart, secondPart, afterFirst}
-use Rattle.reading.specs.declared.blocks.Pass.the-variants.{On}
 use Rattle.reading.proofs.BlockEnds.{ends-block, step, stop}
 use Rattle.reading.proofs.Filled.{size-first}
 use Rattle.reading.proofs.Standing.{standing-at, closes, ending, stands-some, stands-after, if-at, first-side, second-side, sides-end, times-at, while-at, body-stands, body-ends}

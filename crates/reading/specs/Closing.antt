@@ -6,8 +6,6 @@ use mathlib.Core.List.{List}
 use lib.Dec.{eqb}
 use lib.ListN.{length, getD}
 use Rattle.model.specs.Records.{kindAt, IF, ELSE, WHILE, END, TIMES}
-use Rattle.reading.specs.declared.blocks.Pass.{Pass}
-use Rattle.reading.specs.declared.blocks.Pass.the-variants.{Ends, On}
 
 -- a record of a kind opens a block
 abbrev pub opensBlock : ℕ → Bool
@@ -17,7 +15,11 @@ opensBlock k = eqb k IF || (eqb k WHILE || eqb k TIMES)
 abbrev pub closesBlock : ℕ → Bool
 closesBlock k = eqb k ELSE || eqb k END
 
--- what it makes of the count
+-- what it makes of the count: it ends the block, or the scan goes on
+pub data Pass : Type 0 where
+  Ends : Pass
+  On : ℕ → Pass
+
 abbrev pub passTo : ℕ → ℕ → Pass
 passTo k n =
     cond (opensBlock k) (On (n + 1))
@@ -33,11 +35,6 @@ goOn (On n) i go = go n
 unfoldable pub closingIn : List ℕ → ℕ → ℕ → ℕ → ℕ
 closingIn s zero i n = i
 closingIn s (suc m) i n = goOn (passTo (kindAt s i) n) i (λ k. closingIn s m (i + 1) k)
-
-pub record Closes (s : List ℕ) (from to r : ℕ) : Type 0 where
-  pub is : r ≡ closingIn s (to - from) from 0
-  pub low : from ≤ r
-  pub high : r ≤ to
 
 -- the table of these for the records from i on, and for the end
 pub record ClosingsFrom (s : List ℕ) (i to : ℕ) (closings : List ℕ) : Type 0 where

@@ -1,14 +1,14 @@
--- The first statement of a block: its time, by the kind of its record, and where the blocks inside it end.
+-- The first statement of a block: its time, by the kind of its record, and those of the blocks inside it.
 use Prim.Native.Nat.{ℕ, _+_, _-_, _≤_, _<_}
 use native.Mathlib.Nat.{mul-le-mul-right}
 use native.Mathlib.Omega.{arith}
 use mathlib.Core.Path.{_≡_, refl, ap, sym, _∙_}
-use mathlib.Core.Bool.{true, false, _&&_}
+use mathlib.Core.Bool.{false, _&&_}
 use mathlib.Core.Logic.{_⊎_, inl, inr}
 use mathlib.Core.List.{List}
 use Rattle.model.specs.declared.Form.{Form}
 use Rattle.model.specs.declared.Settings.{Settings}
-use Rattle.model.specs.Records.{Rec, kindAt, recordAt, IF, WHILE, TIMES}
+use Rattle.model.specs.Records.{Rec, recordAt, WHILE, TIMES}
 use Rattle.model.specs.Trees.{Test, Act, set, read, write, check, beat, save, Block, nil, skip, act, branch, while, times, actRec, testRec}
 use Rattle.model.specs.Times.{ticks, time}
 use Rattle.model.specs.Refusals.{testFits, between, fieldsFit}
@@ -16,9 +16,8 @@ use Rattle.model.proofs.Shapes.{and-right, within, Fit}
 use Rattle.model.proofs.Sound.{OfForm}
 use Rattle.records.specs.declared.Record.{Record}
 use Rattle.records.specs.Records.{recordOf}
-use Rattle.reading.specs.Closing.{opensBlock, closingIn}
+use Rattle.reading.specs.Closing.{opensBlock}
 use Rattle.reading.specs.Ranges.{Fills, firstSize, firstPart, secondPart, afterFirst}
-use Rattle.reading.proofs.Filled.{Inside, part-one, part-two}
 use Rattle.timing.specs.Times.{stepTicks}
 use Rattle.timing.specs.Blocks.{firstTime}
 
@@ -69,8 +68,6 @@ module _ {s : List ℕ} {i to d : ℕ} {σ : Settings} {r : Record} (H : Here s 
   opens-is : {x : Rec} → recordAt s i ≡ x → opensBlock (r .kind) ≡ opensBlock (x .kind)
   opens-is e = ap opensBlock (kind-is e)
 
-  -- A RECORD THAT OPENS NO BLOCK
-
   pub plain-first : (f : Form) (b : Block) → opensBlock (r .kind) ≡ false → Fills f s i to d b → (stepTicks σ (recordOf r) ≡ firstTime σ b) × (firstSize b ≡ 1)
   plain-first f nil h F = absurd (omega (arith, F .ends))
   plain-first f (skip n b) h F = (ap (stepTicks σ) (H .same ∙ F .stands .0), refl)
@@ -78,18 +75,3 @@ module _ {s : List ℕ} {i to d : ℕ} {σ : Settings} {r : Record} (H : Here s 
   plain-first f (branch q a e b) h F = let z : _≡_ {A = ℕ} 0 1 = cc (opens-is (F .stands .0 .is)) in absurd (omega arith)
   plain-first f (while q n a b) h F = let z : _≡_ {A = ℕ} 0 1 = cc (opens-is (F .stands .0 .is)) in absurd (omega arith)
   plain-first f (times q n a b) h F = let z : _≡_ {A = ℕ} 0 1 = cc (opens-is (F .stands .0 .is)) in absurd (omega arith)
-
-  -- A RECORD THAT OPENS ONE
-
-  opened : opensBlock (r .kind) ≡ true → opensBlock (kindAt s i) ≡ true
-  opened h = sym (opens-is refl) ∙ h
-
-  -- the first block inside it, which is closed at m
-  pub first-inside : (m : ℕ) → m ≡ closingIn s (to - (i + 1)) (i + 1) 0 → (f : Form) (b : Block) → opensBlock (r .kind) ≡ true → Fills f s i to d b
-      → Inside f s (i + 1) to d m (firstPart b)
-  first-inside m mid f b h F = part-one f s i to d b m (H .early) F (opened h) mid
-
-  module _ (m : ℕ) (mid : m ≡ closingIn s (to - (i + 1)) (i + 1) 0) (n : ℕ) (end : n ≡ closingIn s (to - (m + 1)) (m + 1) 0) (k : r .kind ≡ IF) where
-    -- and the second
-    pub second-inside : (f : Form) (b : Block) → Fills f s i to d b → Inside f s (m + 1) to d n (secondPart b)
-    second-inside f b F = part-two f s i to d b m n (H .early) F (sym (kind-is refl) ∙ k) (first-inside m mid f b (ap opensBlock k) F .is) end

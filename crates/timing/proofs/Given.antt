@@ -66,3 +66,7 @@ loop-all p k n t x e r g h q =
     let a = was-ticks p t x g in
     let same : e ≡ roundTicks k t = h ∙ ap (roundTicks k) (sym (a .0)) in
     subst (λ (m : ℕ). Gives p (n * m + 1) r) same q
+
+-- periods that are the same
+pub within : {p q t : ℕ} {r : Time} → p ≡ q → Gives p t r → Gives q t r
+within {t = t} {r = r} e g = subst (λ (p : ℕ). Gives p t r) e g

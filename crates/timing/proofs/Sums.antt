@@ -113,7 +113,7 @@ module _ {s : List ℕ} {from to d : ℕ} {σ : Settings} {i sum : ℕ} (C : Cou
       counted-past x = above (λ f b B h. let R = counted f b B h in omega (arith, R .sums))
 
 -- a block that fills a range stands at its start
-pub fills-times : {s : List ℕ} {i to d : ℕ} {σ : Settings} {r : Step} → SequenceTimes s i to d σ r → BlockTimes s i to d σ (r .time)
-fills-times A = record {
+pub fills-times : {s : List ℕ} {i to d : ℕ} {σ τ : Settings} {r : Step} → σ ≡ τ → SequenceTimes s i to d σ r → BlockTimes s i to d τ (r .time)
+fills-times {s} {i} {to} {d} {σ} {τ} {r} e A = subst (λ (υ : Settings). BlockTimes s i to d υ (r .time)) e (record {
   right = λ f b F. A .right f b (standing-at b (F .stands) (F .of-form) (omega (arith, F .ends)) (λ h. absurd (omega (arith, F .ends)))) (F .shallow) .takes;
-}
+})

@@ -2,8 +2,9 @@
 use Prim.Native.Nat.{ℕ, _+_, _*_, _%_}
 use mathlib.Core.Path.{_≡_}
 use mathlib.Core.Bool.{cond}
-use mathlib.Core.List.{[], _∷_}
+use mathlib.Core.List.{List, [], _∷_}
 use lib.Dec.{eqb, ltb}
+use lib.ListN.{getD}
 use Rattle.model.specs.declared.Settings.{Settings}
 use Rattle.model.specs.Records.{Rec, SKIP, SET, READ, WRITE, WHILE, BEAT, SAVE}
 use Rattle.model.specs.Answers.{Verdict, finished, refused}
@@ -36,6 +37,20 @@ stepTicks σ r =
     (cond (eqb (r .kind) BEAT) (σ .beat)
     (cond (eqb (r .kind) SAVE) (σ .save)
     1)))))
+
+-- the settings in a table of 16 numbers
+unfoldable pub settingsIn : List ℕ → Settings
+settingsIn t = record {
+  set = getD t 2 0;
+  read = getD t 3 0;
+  write = getD t 4 0;
+  beat = getD t 11 0;
+  save = getD t 12 0;
+  multiply = getD t 0 0;
+  spacing = getD t 13 0;
+  window = getD t 14 0;
+  period = getD t 15 0;
+}
 
 -- a round of a loop whose body takes t ticks, and the loop
 abbrev pub roundTicks : ℕ → ℕ → ℕ

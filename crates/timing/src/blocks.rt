@@ -1,10 +1,13 @@
 // The time of a block, over the range of its records.
 ghost use Rattle.reading.specs.Ranges.{Ranged};
 ghost use Rattle.timing.specs.Blocks.{BlockTimes, SequenceTimes, Statement, StatementTimes};
+ghost use Rattle.timing.specs.Times.{settingsIn};
 use crate::ticks::Time;
 use crate::ticks::branch_time;
 use crate::ticks::loop_time;
+use crate::ticks::settings_in;
 use crate::ticks::step_ticks;
+use crate::ticks::ticks_of;
 use crate::ticks::up_to;
 use model::Settings;
 use reading::blocks::closes;
@@ -20,10 +23,11 @@ pub struct Step {
 }
 
 // The statement at i. Where the records form no block any answer will do; a sound file never leads there.
-fn statement_time(s: &[u8], i: usize, to: usize, depth: usize, n: Settings) -> Step
+fn statement_time(s: &[u8], i: usize, to: usize, depth: usize, table: &[u32; 16]) -> Step
     requires { ⌜ Statement (now s) i to ⌝ }
-    ensures { λ r. ⌜ StatementTimes (now (s .entry)) i to depth n r ⌝ }
+    ensures { λ r. ⌜ StatementTimes (now (s .entry)) i to depth (settingsIn (now (table .entry))) r ⌝ }
 {
+    let n = settings_in(table);
     let over = Step {
         time: Time::OverPeriod,
         next: to,
@@ -37,7 +41,7 @@ fn statement_time(s: &[u8], i: usize, to: usize, depth: usize, n: Settings) -> S
     if depth == 0 {
         return over;
     }
-    let first = sequence_time(s, i + 1, to, depth - 1, n);
+    let first = sequence_time(s, i + 1, to, depth - 1, table);
     let one = first.time;
     let mid = first.next;
     if to <= mid {
@@ -48,7 +52,7 @@ fn statement_time(s: &[u8], i: usize, to: usize, depth: usize, n: Settings) -> S
         let next = mid + 1;
         return Step { time, next };
     }
-    let second = sequence_time(s, mid + 1, to, depth - 1, n);
+    let second = sequence_time(s, mid + 1, to, depth - 1, table);
     let two = second.time;
     let end = second.next;
     if to <= end {
@@ -60,10 +64,11 @@ fn statement_time(s: &[u8], i: usize, to: usize, depth: usize, n: Settings) -> S
 }
 
 // The statements from `from` up to the record that closes their block, or to `to`. The sum is given up once it passes the period; the index is then `to`.
-fn sequence_time(s: &[u8], from: usize, to: usize, depth: usize, n: Settings) -> Step
+fn sequence_time(s: &[u8], from: usize, to: usize, depth: usize, table: &[u32; 16]) -> Step
     requires { ⌜ Ranged (now s) from to ⌝ }
-    ensures { λ r. ⌜ SequenceTimes (now (s .entry)) from to depth n r ⌝ }
+    ensures { λ r. ⌜ SequenceTimes (now (s .entry)) from to depth (settingsIn (now (table .entry))) r ⌝ }
 {
+    let n = settings_in(table);
     let over = Step {
         time: Time::OverPeriod,
         next: to,
@@ -75,7 +80,7 @@ fn sequence_time(s: &[u8], from: usize, to: usize, depth: usize, n: Settings) ->
             let time = Time::Ticks(sum);
             return Step { time, next };
         }
-        let one = statement_time(s, next, to, depth, n);
+        let one = statement_time(s, next, to, depth, table);
         let time = one.time;
         let Time::Ticks(t) = time else {
             return over;
@@ -95,6 +100,7 @@ pub fn block_time(s: &[u8], from: usize, to: usize, depth: usize, n: Settings) -
     requires { ⌜ Ranged (now s) from to ⌝ }
     ensures { λ r. ⌜ BlockTimes (now (s .entry)) from to depth n r ⌝ }
 {
-    let whole = sequence_time(s, from, to, depth, n);
+    let table = ticks_of(n);
+    let whole = sequence_time(s, from, to, depth, &table);
     whole.time
 }

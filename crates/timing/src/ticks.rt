@@ -1,8 +1,9 @@
-// The times of single statements, each up to the period, and by how much one is above another.
+// The times of single statements, each up to the period, by how much one is above another, and the settings as a table that can be lent.
 ghost use mathlib.Core.Path.{_≡_};
-ghost use Prim.Native.Nat.{ℕ, _+_, _-_, _^_, _≤_, max};
+ghost use Prim.Native.Nat.{ℕ, _+_, _-_, _%_, _^_, _≤_, max};
+ghost use lib.Dec.{eqb};
 ghost use Rattle.records.specs.Records.{recordOf};
-ghost use Rattle.timing.specs.Times.{Gives, setTicks, stepTicks, roundTicks, loopTicks};
+ghost use Rattle.timing.specs.Times.{Gives, setTicks, stepTicks, settingsIn, roundTicks, loopTicks};
 use model::Settings;
 use records::Record;
 use records::kinds;
@@ -33,20 +34,27 @@ pub fn beyond(x: u32, y: u32) -> u32
     x - y
 }
 
+// Whether a SET of that operation multiplies.
+fn multiplies(op: u8) -> bool
+    ensures { λ r. ⌜ r ≡ eqb (op % 16) 3 ⌝ }
+{
+    op % 16 == 3
+}
+
 fn set_ticks(n: Settings, op: u8) -> u32
     ensures { λ r. ⌜ r ≡ setTicks n op ⌝ }
 {
-    if op % 16 == 3 {
+    if multiplies(op) {
         return n.multiply;
     }
     n.set
 }
 
-// The ticks of a record that opens and closes no block.
-pub fn step_ticks(n: Settings, r: Record) -> u32
+// The ticks of a record of that kind, which opens and closes no block.
+pub fn kind_ticks(kind: u8, n: Settings, r: Record) -> u32
+    requires { ⌜ r .kind ≡ kind ⌝ }
     ensures { λ t. ⌜ t ≡ stepTicks n (recordOf r) ⌝ }
 {
-    let kind = r.kind;
     match kind {
         kinds::SKIP => r.count,
         kinds::SET => set_ticks(n, r.op),
@@ -55,6 +63,54 @@ pub fn step_ticks(n: Settings, r: Record) -> u32
         kinds::BEAT => n.beat,
         kinds::SAVE => n.save,
         _ => 1,
+    }
+}
+
+pub fn step_ticks(n: Settings, r: Record) -> u32
+    ensures { λ t. ⌜ t ≡ stepTicks n (recordOf r) ⌝ }
+{
+    kind_ticks(r.kind, n, r)
+}
+
+// The settings as a table of 16 numbers, which is lent where settings by value would be copied at each call. Ticks stand at the number of their
+// kind, those of a SET that multiplies at 0; the last three are spacing, window and period, and the rest are not read.
+pub fn ticks_of(n: Settings) -> [u32; 16]
+    ensures { λ t. ⌜ settingsIn t ≡ n ⌝ }
+{
+    [
+        n.multiply,
+        0,
+        n.set,
+        n.read,
+        n.write,
+        1,
+        1,
+        1,
+        1,
+        1,
+        1,
+        n.beat,
+        n.save,
+        n.spacing,
+        n.window,
+        n.period,
+    ]
+}
+
+// The settings that such a table holds.
+pub fn settings_in(t: &[u32; 16]) -> Settings
+    ensures { λ r. ⌜ r ≡ settingsIn (now (t .entry)) ⌝ }
+{
+    Settings {
+        set: t[2],
+        read: t[3],
+        write: t[4],
+        beat: t[11],
+        save: t[12],
+        multiply: t[0],
+        spacing: t[13],
+        window: t[14],
+        period: t[15],
     }
 }
 

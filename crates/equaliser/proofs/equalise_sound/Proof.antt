@@ -1,14 +1,17 @@
 -- The size decides rows 8 and 9; where neither refuses, it is the room that writing asks for.
-use mathlib.Core.Path.{sym, _∙_}
+use Prim.Native.Nat.{ℕ}
 use native.Mathlib.Omega.{arith}
+use mathlib.Core.Path.{sym, _∙_}
+use lib.ListN.{length-replicate}
 use borrow.Author.Needs.{needs}
-use Rattle.records.proofs.Blocks.{one-skip}
-use Rattle.equaliser.proofs.Replies.{in-task, over-period, no-room, has-room, written}
+use Rattle.equaliser.proofs.Replies.{task-asks, over-period, small, no-room, has-room, written}
 use Rattle.equaliser.proofs.equalise_sound.Statement.{statement}
 use Rattle.equaliser.proofs.equalise_sound.Tie as tie
 
-block-size-requires : tie.Need-block-size-requires
-block-size-requires c κs = in-task _ (c .before .before .pre)
+measure-block-requires : tie.Need-measure-block-requires
+measure-block-requires c κs =
+    let start = c .before .before .before in
+    task-asks (start .pre) (length-replicate {A = ℕ} 512 0)
 
 enum-known-time : tie.Need-enum-known-time
 enum-known-time c = search needs
@@ -17,51 +20,60 @@ enum-told : tie.Need-enum-told
 enum-told c = search needs
 
 returns : tie.Need-returns
-returns c = over-period (c .before .before .before .before .before .pre) (c .before .before .block-size .ensures) _ (c .enum-told .given .1)
+returns c =
+    let start = c .before .before .before .before .before .before in
+    over-period (start .pre) (c .before .before .measure-block .ensures) _ (c .enum-told .given .1)
 
-skip-records-requires : tie.Need-skip-records-requires
-skip-records-requires c κs = search needs
-
-add-records : tie.Need-add-records
-add-records c =
-    let size = c .before .before .before .before .before .block-size in
-    omega (arith, size .ensures .small .records, c .before .skip-records .ensures, one-skip (size .result .wait))
+padded-records-requires : tie.Need-padded-records-requires
+padded-records-requires c κs =
+    let at-measure-block = c .before .before .before in
+    let start = at-measure-block .before .before .before .before in
+    small (start .pre) (at-measure-block .measure-block .ensures) (c .before .time .given .1)
 
 no-room-requires : tie.Need-no-room-requires
 no-room-requires c κs = search needs
 
 returns-2 : tie.Need-returns-2
 returns-2 c =
-    let k = c .before .before .before in
-    no-room (k .before .before .before .before .before .before .before .pre) (k .before .before .before .before .block-size .ensures) (k .before .before .time .given .1) (k .skip-records .ensures) _
+    let at-time = c .before .before .before .before in
+    let at-measure-block = at-time .before .before in
+    let start = at-measure-block .before .before .before .before in
+    no-room (start .pre) (at-measure-block .measure-block .ensures) (at-time .time .given .1) (c .before .before .padded-records .ensures .0) _
     (sym (c .before .no-room .ensures) ∙ c .if1 .taken)
 
 write-block-requires : tie.Need-write-block-requires
 write-block-requires c κs =
-    let k = c .before .before .before .before in
-    has-room (k .before .before .before .before .before .before .before .pre) (k .before .before .before .before .block-size .ensures) (k .before .before .time .given .1) (k .skip-records .ensures) _
-    (sym (c .before .before .no-room .ensures) ∙ c .before .if1 .left)
+    let at-no-room = c .before .before .before in
+    let at-padded-records = at-no-room .before in
+    let at-time = at-padded-records .before .before in
+    let at-measure-block = at-time .before .before in
+    let start = at-measure-block .before .before .before .before in
+    has-room (start .pre) (at-measure-block .measure-block .ensures) (at-time .time .given .1) (at-padded-records .padded-records .ensures .0) (omega arith) _
+    (sym (at-no-room .no-room .ensures) ∙ c .before .before .if1 .left)
 
 same-length : tie.Need-same-length
 same-length c = search needs
 
 returns-3 : tie.Need-returns-3
 returns-3 c =
-    let w = c .before .before in
-    let k = w .before .before .before .before .before in
-    written (k .before .before .before .before .before .before .before .pre) (k .before .before .before .before .block-size .ensures) (k .before .before .time .given .1) (k .skip-records .ensures) _ _ _
-    (sym (w .before .before .before .no-room .ensures) ∙ w .before .before .if1 .left) (w .write-block .ensures)
+    let at-if1 = c .before .before .before .before .before in
+    let at-no-room = at-if1 .before in
+    let at-padded-records = at-no-room .before in
+    let at-time = at-padded-records .before .before in
+    let at-measure-block = at-time .before .before in
+    let start = at-measure-block .before .before .before .before in
+    written (start .pre) (at-measure-block .measure-block .ensures) (at-time .time .given .1) (at-padded-records .padded-records .ensures .0) (omega arith) _
+    (sym (at-no-room .no-room .ensures) ∙ at-if1 .if1 .left) _ (c .before .before .write-block .ensures)
 
 pub equalise-sound-spec : {M : Type 1} → statement M
 equalise-sound-spec =
     tie.close
     (tie.spec
-    block-size-requires
+    measure-block-requires
     enum-known-time
     enum-told
     returns
-    skip-records-requires
-    add-records
+    padded-records-requires
     no-room-requires
     returns-2
     write-block-requires

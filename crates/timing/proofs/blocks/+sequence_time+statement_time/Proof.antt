@@ -1,13 +1,17 @@
 -- The measure is the depth: a statement at a depth is timed within a sequence at that depth, and a block inside it one less deep.
 use Prim.Native.Nat.{ℕ, _+_, _*_, _-_, _<_}
 use native.Mathlib.Omega.{arith}
-use mathlib.Core.Path.{sym, _∙_}
+use mathlib.Core.Path.{_≡_, ap, sym, _∙_}
 use borrow.Author.Needs.{needs}
 use borrow.Author.Tests.{not-true, not-false}
 use Rattle.reading.proofs.Standing.{closing-told}
+use Rattle.model.specs.declared.Settings.{Settings}
 use Rattle.timing.specs.Blocks.{Statement}
+use Rattle.timing.specs.Times.{stepTicks, settingsIn}
+use Rattle.timing.proofs.Given.{within}
 use Rattle.timing.proofs.Statements.{Opens, plain-times, flat-times, first-late, loop-times, second-late, branch-times}
 use Rattle.timing.proofs.Sums.{Counted, counted-start, counted-closed, counted-all, counted-over, counted-next, counted-past}
+use Rattle.records.specs.Records.{recordOf}
 use borrow.Fn.Kinds.{In}
 use borrow.Fn.PlainCycle.{Measures, is, falls, and}
 use Rattle.timing.proofs.blocks.sequence_time.Reads as sequence-time
@@ -22,56 +26,59 @@ use Rattle.records.proofs.kind_at.Reads as kind-at-reads
 use Rattle.records.proofs.record_at.Reads as record-at-reads
 use Rattle.timing.proofs.ticks.branch_time.Reads as branch-time-reads
 use Rattle.timing.proofs.ticks.loop_time.Reads as loop-time-reads
+use Rattle.timing.proofs.ticks.settings_in.Reads as settings-in-reads
 use Rattle.timing.proofs.ticks.step_ticks.Reads as step-ticks-reads
 use Rattle.timing.proofs.ticks.up_to.Reads as up-to-reads
 use Rattle.timing.proofs.blocks.+sequence_time+statement_time.{statement}
 use Rattle.timing.proofs.blocks.+sequence_time+statement_time.Tie.{close}
 
-abbrev μ-sequence-time : Measures 1 sequence-time-kinds.ps ℕ
+abbrev μ-sequence-time : Measures 2 sequence-time-kinds.ps ℕ
 μ-sequence-time κs a = 2 * a .1 .1 .1 .0 + 1
 
-abbrev μ-statement-time : Measures 1 statement-time-kinds.ps ℕ
+abbrev μ-statement-time : Measures 2 statement-time-kinds.ps ℕ
 μ-statement-time κs a = 2 * a .1 .1 .1 .0
 
-abbrev sequence-time-at : ℕ → In 1 sequence-time-kinds.ps
+abbrev sequence-time-at : ℕ → In 2 sequence-time-kinds.ps
 sequence-time-at t =
-    and 1 sequence-time-kinds.ps (is 1 sequence-time-kinds.ps μ-sequence-time t) sequence-time.Pre
+    and 2 sequence-time-kinds.ps (is 2 sequence-time-kinds.ps μ-sequence-time t) sequence-time.Pre
 
-abbrev sequence-time-below : ℕ → In 1 sequence-time-kinds.ps
+abbrev sequence-time-below : ℕ → In 2 sequence-time-kinds.ps
 sequence-time-below t =
     and
-    1
+    2
     sequence-time-kinds.ps
-    (falls 1 sequence-time-kinds.ps _<_ μ-sequence-time t)
+    (falls 2 sequence-time-kinds.ps _<_ μ-sequence-time t)
     sequence-time.Pre
 
-abbrev statement-time-at : ℕ → In 1 statement-time-kinds.ps
+abbrev statement-time-at : ℕ → In 2 statement-time-kinds.ps
 statement-time-at t =
     and
-    1
+    2
     statement-time-kinds.ps
-    (is 1 statement-time-kinds.ps μ-statement-time t)
+    (is 2 statement-time-kinds.ps μ-statement-time t)
     statement-time.Pre
 
-abbrev statement-time-below : ℕ → In 1 statement-time-kinds.ps
+abbrev statement-time-below : ℕ → In 2 statement-time-kinds.ps
 statement-time-below t =
     and
-    1
+    2
     statement-time-kinds.ps
-    (falls 1 statement-time-kinds.ps _<_ μ-statement-time t)
+    (falls 2 statement-time-kinds.ps _<_ μ-statement-time t)
     statement-time.Pre
 
 abbrev sequence-time-Inv-loop : sequence-time-lts.InvT-loop
-sequence-time-Inv-loop s from to depth n over sum₀ next₀ sum next = Counted s from to depth n next sum
+sequence-time-Inv-loop s from to depth table n over sum₀ next₀ sum next = Counted s from to depth (settingsIn table) next sum
 
 abbrev sequence-time-μ-loop : sequence-time-lts.MeasureT-loop
-sequence-time-μ-loop s from to depth n over sum₀ next₀ sum next = to - next
+sequence-time-μ-loop s from to depth table n over sum₀ next₀ sum next = to - next
 
 abbrev sequence-time-claims : ℕ → sequence-time-lts.Claims
-sequence-time-claims t = (kind-at-reads.Asked, kind-at-reads.Learnt, closes-reads.Asked, closes-reads.Learnt, statement-time-below t, statement-time.Post)
+sequence-time-claims t = (settings-in-reads.Asked, settings-in-reads.Learnt, kind-at-reads.Asked, kind-at-reads.Learnt, closes-reads.Asked, closes-reads.Learnt, statement-time-below t, statement-time.Post)
 
 abbrev statement-time-claims : ℕ → statement-time-lts.Claims
 statement-time-claims t = (
+  settings-in-reads.Asked,
+  settings-in-reads.Learnt,
   record-at-reads.Asked,
   record-at-reads.Learnt,
   opens-reads.Asked,
@@ -88,9 +95,12 @@ statement-time-claims t = (
   branch-time-reads.Learnt,
 )
 
+abbrev period : {n σ : Settings} → n ≡ σ → n .period ≡ σ .period
+period e = ap (λ (σ : Settings). σ .period) e
+
 -- the next record closes no block
 there : (t : ℕ) (c : sequence-time-lts.Else1 (sequence-time-claims t) (sequence-time-at t) sequence-time.Post sequence-time-Inv-loop sequence-time-μ-loop) →
-    let a = c .before .before .before .before .before .before .args in
+    let a = c .before .before .before .before .before .before .before .args in
     Statement (a .s .now) (c .before .before .before .before .loop .next) (a .to)
 there t c =
     let w = c .before .before .before in
@@ -100,8 +110,11 @@ there t c =
       goes-on = closing-told (c .before .before .kind-at .ensures) (c .before .closes .ensures) (c .if1 .left);
     }
 
+sequence-time-settings-in-requires : (t : ℕ) → sequence-time-lts.Need-settings-in-requires (sequence-time-claims t) (sequence-time-at t) sequence-time.Post sequence-time-Inv-loop sequence-time-μ-loop
+sequence-time-settings-in-requires t c κs = search needs
+
 sequence-time-loop-holds : (t : ℕ) → sequence-time-lts.Need-loop-holds (sequence-time-claims t) (sequence-time-at t) sequence-time.Post sequence-time-Inv-loop sequence-time-μ-loop
-sequence-time-loop-holds t c = counted-start (c .before .pre .1)
+sequence-time-loop-holds t c = counted-start (c .before .before .pre .1)
 
 sequence-time-kind-at-requires : (t : ℕ) → sequence-time-lts.Need-kind-at-requires (sequence-time-claims t) (sequence-time-at t) sequence-time.Post sequence-time-Inv-loop sequence-time-μ-loop
 sequence-time-kind-at-requires t c κs = omega arith
@@ -129,16 +142,17 @@ sequence-time-returns-2 t c =
     counted-over (w .before .before .before .before .loop .inv) (there t w) (c .before .before .statement-time .ensures) (c .enum-told .given .1)
 
 sequence-time-sub-if2 : (t : ℕ) → sequence-time-lts.Need-sub-if2 (sequence-time-claims t) (sequence-time-at t) sequence-time.Post sequence-time-Inv-loop sequence-time-μ-loop
-sequence-time-sub-if2 t c = omega arith
+sequence-time-sub-if2 t c = omega (arith, period (c .before .before .before .before .before .before .before .before .before .before .settings-in .ensures))
 
 sequence-time-returns-3 : (t : ℕ) → sequence-time-lts.Need-returns-3 (sequence-time-claims t) (sequence-time-at t) sequence-time.Post sequence-time-Inv-loop sequence-time-μ-loop
 sequence-time-returns-3 t c =
     let w = c .before .before .before .before .before in
     let k = w .before in
-    counted-past (k .before .before .before .before .loop .inv) (there t k) (w .statement-time .ensures) (c .before .before .before .time .given .1) (c .if2 .taken)
+    counted-past (k .before .before .before .before .loop .inv) (there t k) (w .statement-time .ensures) (c .before .before .before .time .given .1)
+    (omega (arith, c .if2 .taken, period (c .before .before .before .before .before .before .before .before .before .before .before .settings-in .ensures)))
 
 sequence-time-add-sum : (t : ℕ) → sequence-time-lts.Need-add-sum (sequence-time-claims t) (sequence-time-at t) sequence-time.Post sequence-time-Inv-loop sequence-time-μ-loop
-sequence-time-add-sum t c = omega arith
+sequence-time-add-sum t c = omega (arith, period (c .before .before .before .before .before .before .before .before .before .before .before .settings-in .ensures))
 
 sequence-time-loop-less : (t : ℕ) → sequence-time-lts.Need-loop-less (sequence-time-claims t) (sequence-time-at t) sequence-time.Post sequence-time-Inv-loop sequence-time-μ-loop
 sequence-time-loop-less t c = omega arith
@@ -147,21 +161,25 @@ sequence-time-loop-again : (t : ℕ) → sequence-time-lts.Need-loop-again (sequ
 sequence-time-loop-again t c =
     let w = c .before .before .before .before .before in
     let k = w .before in
-    counted-next (k .before .before .before .before .loop .inv) (there t k) (w .statement-time .ensures) (c .before .before .before .time .given .1) (c .if2 .left)
+    counted-next (k .before .before .before .before .loop .inv) (there t k) (w .statement-time .ensures) (c .before .before .before .time .given .1)
+    (omega (arith, c .if2 .left, period (c .before .before .before .before .before .before .before .before .before .before .before .settings-in .ensures)))
 
 sequence-time-returns-4 : (t : ℕ) → sequence-time-lts.Need-returns-4 (sequence-time-claims t) (sequence-time-at t) sequence-time.Post sequence-time-Inv-loop sequence-time-μ-loop
 sequence-time-returns-4 t c = counted-all (c .before .loop .inv) (c .loop-test .left)
 
 -- the record opens a block
 open-there : (t : ℕ) (c : statement-time-lts.Else1 (statement-time-claims t) (statement-time-at t) statement-time.Post) →
-    let a = c .before .before .before .before .args in
+    let a = c .before .before .before .before .before .args in
     Opens (a .s .now) (a .i) (a .to) (c .before .before .record-at .result)
 open-there t c =
     record {
-      at = c .before .before .before .before .pre .1;
+      at = c .before .before .before .before .before .pre .1;
       same = c .before .before .record-at .ensures;
       opens = sym (c .before .opens .ensures) ∙ not-false _ (c .if1 .left);
     }
+
+statement-time-settings-in-requires : (t : ℕ) → statement-time-lts.Need-settings-in-requires (statement-time-claims t) (statement-time-at t) statement-time.Post
+statement-time-settings-in-requires t c κs = search needs
 
 statement-time-record-at-requires : (t : ℕ) → statement-time-lts.Need-record-at-requires (statement-time-claims t) (statement-time-at t) statement-time.Post
 statement-time-record-at-requires t c κs = omega arith
@@ -184,8 +202,9 @@ statement-time-add-next t c = omega arith
 statement-time-returns : (t : ℕ) → statement-time-lts.Need-returns (statement-time-claims t) (statement-time-at t) statement-time.Post
 statement-time-returns t c =
     let k = c .before .before in
-    plain-times _ _ (k .before .before .before .before .pre .1) (k .before .before .record-at .ensures) (sym (k .before .opens .ensures) ∙ not-true _ (k .if1 .taken))
-    (c .before .step-ticks .ensures) (c .up-to .ensures)
+    let e = k .before .before .before .settings-in .ensures in
+    plain-times _ _ (k .before .before .before .before .before .pre .1) (k .before .before .record-at .ensures) (sym (k .before .opens .ensures) ∙ not-true _ (k .if1 .taken))
+    (c .before .step-ticks .ensures ∙ ap (λ (σ : Settings). stepTicks σ (recordOf (k .before .before .record-at .result))) e) (within (period e) (c .up-to .ensures))
 
 statement-time-returns-2 : (t : ℕ) → statement-time-lts.Need-returns-2 (statement-time-claims t) (statement-time-at t) statement-time.Post
 statement-time-returns-2 t c = flat-times (open-there t (c .before)) (c .if2 .taken)
@@ -211,7 +230,9 @@ statement-time-add-next-2 t c = omega arith
 statement-time-returns-4 : (t : ℕ) → statement-time-lts.Need-returns-4 (statement-time-claims t) (statement-time-at t) statement-time.Post
 statement-time-returns-4 t c =
     let w = c .before .before .before in
-    loop-times (open-there t (w .before .before .before)) (w .before .sequence-time .ensures) (w .if3 .left) _ (c .before .if4 .taken) (c .loop-time .ensures)
+    let e = w .before .before .before .before .before .before .settings-in .ensures in
+    loop-times (open-there t (w .before .before .before)) (w .before .sequence-time .ensures) (w .if3 .left) _ (c .before .if4 .taken)
+    (λ o u g. within (period e) (c .loop-time .ensures o u (within (sym (period e)) g)))
 
 statement-time-add-sequence-time-2 : (t : ℕ) → statement-time-lts.Need-add-sequence-time-2 (statement-time-claims t) (statement-time-at t) statement-time.Post
 statement-time-add-sequence-time-2 t c = omega arith
@@ -238,8 +259,10 @@ statement-time-returns-6 : (t : ℕ) → statement-time-lts.Need-returns-6 (stat
 statement-time-returns-6 t c =
     let v = c .before .before in
     let w = v .before .before .before in
+    let e = w .before .before .before .before .before .before .settings-in .ensures in
     branch-times (open-there t (w .before .before .before)) (w .before .sequence-time .ensures) (w .if3 .left) (v .before .if4 .left)
-    (v .sequence-time2 .ensures) _ (c .before .if5 .left) (c .branch-time .ensures)
+    (v .sequence-time2 .ensures) _ (c .before .if5 .left)
+    (λ u v g h. within (period e) (c .branch-time .ensures u v (within (sym (period e)) g) (within (sym (period e)) h)))
 
 pub +sequence-time+statement-time-spec : {M : Type 1} → statement M
 +sequence-time+statement-time-spec =
@@ -247,6 +270,7 @@ pub +sequence-time+statement-time-spec : {M : Type 1} → statement M
     sequence-time.Post
     sequence-time-Inv-loop
     sequence-time-μ-loop
+    (sequence-time-settings-in-requires t)
     (sequence-time-loop-holds t)
     (sequence-time-kind-at-requires t)
     (sequence-time-closes-requires t)
@@ -263,6 +287,7 @@ pub +sequence-time+statement-time-spec : {M : Type 1} → statement M
     (sequence-time-returns-4 t))
     λ t. statement-time-lts.spec (statement-time-claims t) (statement-time-at t)
     statement-time.Post
+    (statement-time-settings-in-requires t)
     (statement-time-record-at-requires t)
     (statement-time-opens-requires t)
     (statement-time-step-ticks-requires t)

@@ -1,0 +1,71 @@
+use Prim.Native.Nat.{ℕ, _+_}
+use native.Mathlib.Omega.{arith}
+use mathlib.Core.Path.{refl, ap, subst}
+use borrow.Author.Needs.{needs}
+use Rattle.records.proofs.Blocks.{one-skip}
+use Rattle.records.specs.Records.{recordOf}
+use Rattle.timing.specs.Times.{Gives, stepTicks}
+use Rattle.equaliser.proofs.measure.measure_plain.Statement.{statement}
+use Rattle.equaliser.proofs.measure.measure_plain.Tie as tie
+use Rattle.equaliser.proofs.measure.measure_plain.Reads as reads
+use Rattle.equaliser.proofs.measure.measure_plain.Lts as lts
+use Rattle.records.proofs.skips.skip_records.Reads as skip-records-reads
+use Rattle.timing.proofs.ticks.step_ticks.Reads as step-ticks-reads
+use Rattle.timing.proofs.ticks.up_to.Reads as up-to-reads
+
+step-ticks-requires : tie.Need-step-ticks-requires
+step-ticks-requires c κs = search needs
+
+cast-up-to : tie.Need-cast-up-to
+cast-up-to c = search needs
+
+up-to-requires : tie.Need-up-to-requires
+up-to-requires c κs = search needs
+
+cast-wait : tie.Need-cast-wait
+cast-wait c = search needs
+
+add-wait : tie.Need-add-wait
+add-wait c = search needs
+
+-- the time that is told is that of the record
+timed : (c : lts.After-up-to (step-ticks-reads.Asked, step-ticks-reads.Learnt, up-to-reads.Asked, up-to-reads.Learnt, skip-records-reads.Asked, skip-records-reads.Learnt) reads.Pre reads.Post) →
+    let a = c .before .before .args in
+    Gives (a .n .period) (stepTicks (a .n) (recordOf (a .r))) (c .up-to .result)
+timed c = subst (λ (t : ℕ). Gives (c .before .before .args .n .period) t (c .up-to .result)) (c .before .step-ticks .ensures) (c .up-to .ensures)
+
+returns : tie.Need-returns
+returns c = record {
+  takes = timed (c .before .before .before);
+  goes = refl;
+  skips = λ k. (refl, refl);
+  acts = λ k. absurd (k (c .before .if1 .taken));
+}
+
+skip-records-requires : tie.Need-skip-records-requires
+skip-records-requires c κs = search needs
+
+add-t12 : tie.Need-add-t12
+add-t12 c = omega (arith, c .skip-records .ensures, one-skip (c .before .before .before .before .before .args .wait))
+
+returns-2 : tie.Need-returns-2
+returns-2 c = record {
+  takes = timed (c .before .before .before);
+  goes = refl;
+  skips = λ k. absurd (c .before .if1 .left k);
+  acts = λ k. (ap (λ (x : ℕ). x + 1) (c .skip-records .ensures), refl);
+}
+
+pub measure-plain-spec : {M : Type 1} → statement M
+measure-plain-spec =
+    tie.close
+    (tie.spec
+    step-ticks-requires
+    cast-up-to
+    up-to-requires
+    cast-wait
+    add-wait
+    returns
+    skip-records-requires
+    add-t12
+    returns-2)

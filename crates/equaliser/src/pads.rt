@@ -1,0 +1,15 @@
+// What the first pass keeps for the second, at the index of the record that opens a block: the ticks that pad the first and the second side
+// of an IF, or the time of a WHILE's body.
+ghost use mathlib.Core.Path.{_≡_};
+ghost use Prim.Native.Nat.{_<_};
+ghost use lib.ListN.{length};
+ghost use Rattle.equaliser.specs.Pads.{Keeps};
+
+// Both numbers of the record i, 256 places apart.
+pub fn keep(pads: &mut [u32; 512], i: usize, first: u32, second: u32)
+    requires { ⌜ (length (now pads) ≡ 512) × (i < 256) ⌝ }
+    ensures { λ _. ⌜ Keeps i first second (now (pads .entry)) (now (pads .exit)) ⌝ }
+{
+    pads[i] = first;
+    pads[256 + i] = second;
+}
