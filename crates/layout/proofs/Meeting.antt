@@ -1,62 +1,95 @@
 -- Where the sides of an IF meet: the earlier is filled up to the end of the later, and their records are counted.
-use Prim.Native.Nat.{ℕ, _+_, _-_, _≤_, max}
+use Prim.Native.Nat.{ℕ, _+_, _-_, _≤_, _<_}
 use native.Mathlib.Omega.{arith}
-use mathlib.Core.Path.{_≡_, refl, ap, sym, _∙_}
+use mathlib.Core.Path.{_≡_, refl, ap, ap₂, sym, subst, _∙_}
 use Rattle.model.specs.declared.Settings.{Settings}
-use Rattle.model.specs.Trees.{Block, size}
+use Rattle.model.specs.Trees.{Block, _⧺_, size}
 use Rattle.model.specs.Times.{time}
 use Rattle.model.specs.Equalising.{merge}
 use Rattle.model.specs.Layout.{fill, filled}
-use Rattle.theory.proofs.Windows.{free-later, fill-ends}
 use Rattle.records.specs.Blocks.{skipRecords}
-use Rattle.records.proofs.Blocks.{one-skip}
 use Rattle.placing.specs.declared.clock.State.{State}
-use Rattle.placing.specs.Merging.{settled}
-use Rattle.placing.specs.States.{cap, After, aside}
-use Rattle.layout.specs.Measured.{Meeting, Meets}
-use Rattle.placing.proofs.Settling.{size-merge, alike-eq}
-use Rattle.placing.proofs.Going.{after-⧺, after-alike}
+use Rattle.placing.specs.Merging.{settled, waits}
+use Rattle.placing.specs.States.{Fillable, FillCounted, backTo}
+use Rattle.layout.specs.Measured.{metAt, Meeting, Meets}
+use Rattle.placing.proofs.Settling.{waits-⧺, size-settled, size-merge}
 use Rattle.placing.proofs.Moves.{shows-on}
 
-module _ {σ : Settings} where
-  -- a count of records stops, and what waits is one more
-  pub side-few : {c : Block} {x f : State} {p : ℕ} → After σ c x f → p ≡ skipRecords (f .wait) → f .records + p ≤ 5463
-  side-few {f = f} F P = omega (arith, F .shows .few, P, one-skip (f .wait))
+-- merging one block after another
+pub size-merges : (n : ℕ) (a b : Block) → size (merge n (a ⧺ b)) ≡ size (settled n a) + size (merge (waits n a) b)
+size-merges n a b = omega (arith, size-merge n (a ⧺ b), size-settled n a b, ap skipRecords (waits-⧺ n a b), size-merge (waits n a) b)
 
-  -- a side that ends at x, filled up to tick e, where f is the state
-  module _ (s : State) {x f : State} (e : ℕ) (F : After σ (fill σ (e - x .tick) (x .tick) e) x f) where
-    side-filled : (a : Block) → After σ a (aside s) x → After σ (filled σ (s .tick) a e) (aside s) f
-    side-filled a A =
-        after-⧺ a (fill σ (e - (s .tick + time σ a)) (s .tick + time σ a) e) A
-        (after-alike (alike-eq (ap (λ (t : ℕ). fill σ (e - t) t e) (A .tick))) F)
+module _ (σ : Settings) where
+  -- the records of a side b from tick t on that ends at x and is filled up to e
+  side-early : (t : ℕ) (b : Block) (x : State) (e : ℕ) → x .tick ≡ t + time σ b → x .wait ≡ waits 0 b
+      → size (merge 0 (filled σ t b e)) ≡ size (settled 0 b) + size (merge (x .wait) (fill σ (e - x .tick) (x .tick) e))
+  side-early t b x e h w =
+      let z : size (merge (x .wait) (fill σ (e - x .tick) (x .tick) e)) ≡ size (merge (waits 0 b) (fill σ (e - (t + time σ b)) (t + time σ b) e)) =
+      ap₂ (λ (v u : ℕ). size (merge v (fill σ (e - u) u e))) w h in
+      omega (arith, z, size-merges 0 b (fill σ (e - (t + time σ b)) (t + time σ b) e))
 
-    -- its records, but for those past the longest file
-    side-records : (a : Block) → After σ a (aside s) x →
-        let c = filled σ (s .tick) a e in
-        (f .records ≡ cap (size (settled 0 c))) × (size (merge 0 c) ≡ size (settled 0 c) + skipRecords (f .wait))
-    side-records a A =
-        let c = filled σ (s .tick) a e in
-        let B = side-filled a A in
-        (omega (arith, B .records), size-merge 0 c ∙ ap (λ (n : ℕ). size (settled 0 c) + skipRecords n) (sym (B .wait)))
+  -- and of one that ends there
+  side-late : (t : ℕ) (b : Block) (x : State) → x .tick ≡ t + time σ b → x .wait ≡ waits 0 b
+      → size (merge 0 (filled σ t b (x .tick))) ≡ size (settled 0 b) + skipRecords (x .wait)
+  side-late t b x h w =
+      let e = x .tick in
+      let z : e - e ≡ 0 = omega arith in
+      side-early t b x e h w ∙ ap (λ (k : ℕ). size (settled 0 b) + size (merge (x .wait) (fill σ k e e))) z
 
-  -- sides that end at x and y, filled up to e, where f and g are the states
-  module _ {s x y f g : State} {e p q n : ℕ} (M : Meeting σ s x y) (z : e ≡ max (x .tick) (y .tick))
-      (F : After σ (fill σ (e - x .tick) (x .tick) e) x f) (G : After σ (fill σ (e - y .tick) (y .tick) e) y g)
-      (P : p ≡ skipRecords (f .wait)) (Q : q ≡ skipRecords (g .wait)) (N : n ≡ cap (s .records + (2 + (f .records + p) + (g .records + q)))) where
-    ends : f .tick ≡ e
-    ends =
-        let g = free-later σ (M .test .settings .fits) e (x .tick) (y .tick) z (M .free-one) (M .free-two) in
-        F .tick ∙ fill-ends σ (M .test .settings .fits) (x .tick) e (M .free-one) g (omega arith)
+-- sides that end at x and y
+module _ {σ : Settings} {x y : State} (M : Meeting σ x y) where
+  -- the first is filled after the records of both
+  pub first-can : {z : State} → z ≡ backTo x (x .wait) (y .records) → x .tick < y .tick → Fillable σ z (y .tick)
+  first-can e h = subst (λ (z : State). Fillable σ z (y .tick)) (sym e) (record {
+    laying = record {
+      settings = M .one .settings;
+      shows = shows-on 0 (M .one .shows) (omega arith) (omega arith) refl (M .one .shows .waited) (M .two .shows .few);
+      within = M .one .within;
+    };
+    reaches = omega arith;
+    upto = M .two .within;
+    free = M .free-two;
+  })
 
-    pub meets : Meets σ s x y (record { tick = e; left = f .left; windows = f .windows; wait = 0; records = n })
-    meets = record {
-      right = λ a d A D.
-          let i = side-records s e F a A in
-          let j = side-records s e G d D in
-          record {
-            shows = shows-on 0 (F .shows) (omega (arith, ends)) (omega arith) refl (omega arith) (omega arith);
-            tick = omega (arith, A .tick, D .tick);
-            wait = refl;
-            records = omega (arith, i .0, i .1, j .0, j .1, P, Q, N);
-          };
-    }
+  pub first-early : {z : State} {n : ℕ} → z ≡ backTo x (x .wait) (y .records) → x .tick < y .tick → FillCounted σ z (y .tick) n → Meets σ x y (metAt y n)
+  first-early {z} {n} e h C′ = record {
+    right = λ s a d z A D.
+        let w = A .wait ∙ ap (λ (v : ℕ). waits v a) z in
+        record {
+          shows = shows-on 0 (D .shows) (omega arith) (omega arith) refl (omega arith) (omega arith);
+          tick = omega (arith, A .tick, D .tick);
+          wait = refl;
+          records = omega (
+            arith,
+            C .counts,
+            A .records,
+            ap (λ (v : ℕ). size (settled v a)) z,
+            D .records,
+            side-early σ (s .tick) a x (y .tick) (A .tick) w,
+            side-late σ (s .tick) d y (D .tick) (D .wait),
+          );
+        };
+  }
+    where
+      C : FillCounted σ (backTo x (x .wait) (y .records)) (y .tick) n
+      C = subst (λ (z : State). FillCounted σ z (y .tick) n) e C′
+
+  pub second-early : {n : ℕ} → y .tick ≤ x .tick → FillCounted σ y (x .tick) n → Meets σ x y (metAt x n)
+  second-early h C = record {
+    right = λ s a d z A D.
+        let w = A .wait ∙ ap (λ (v : ℕ). waits v a) z in
+        record {
+          shows = shows-on 0 (A .shows) (omega arith) (omega arith) refl (omega arith) (omega arith);
+          tick = omega (arith, A .tick, D .tick);
+          wait = refl;
+          records = omega (
+            arith,
+            C .counts,
+            A .records,
+            ap (λ (v : ℕ). size (settled v a)) z,
+            D .records,
+            side-early σ (s .tick) d y (x .tick) (D .tick) (D .wait),
+            side-late σ (s .tick) a x (A .tick) w,
+          );
+        };
+  }

@@ -74,7 +74,7 @@ unfoldable pub passing-start : {s : List ℕ} {from to : ℕ} {σ : Settings} {a
 passing-start E = record { all = E; rest = E; on = omega arith; counts = refl; done = nil; same = refl; after = after-nil (E .laying .shows) }
 
 module _ {s : List ℕ} {from to : ℕ} {σ : Settings} {at state : State} {next : ℕ} (P : Passing s from to σ at state next) where
-  abbrev left : Block
+  abbrev pub left : Block
   left = P .rest .file .block
 
   -- what holds of the block that was asked about holds of every block at its place
@@ -85,20 +85,17 @@ module _ {s : List ℕ} {from to : ℕ} {σ : Settings} {at state : State} {next
   }
 
   -- nothing is left
-  ended : left ≡ nil → BlockPassed s from to σ at (record { state = state; next = next })
-  ended e = answered (passed whole (omega (arith, P .counts, ap size e)))
-    where
-      whole : After σ (laid σ (P .all .file .block) (at .tick)) at state
-      whole =
-          subst (λ (c : Block). After σ c at state)
-          (sym (P .same ∙ ap (λ (b : Block). P .done ⧺ laid σ b (state .tick)) e ∙ ap (λ (c : Block). P .done ⧺ c) (laid-nil σ (state .tick)) ∙ ⧺-nil (P .done)))
-          (P .after)
+  pub all-done : left ≡ nil → laid σ (P .all .file .block) (at .tick) ≡ P .done
+  all-done e = P .same ∙ ap (λ (b : Block). P .done ⧺ laid σ b (state .tick)) e ∙ ap (λ (c : Block). P .done ⧺ c) (laid-nil σ (state .tick)) ∙ ⧺-nil (P .done)
 
-  pub passing-closed : closesBlock (kindAt s next) ≡ true → BlockPassed s from to σ at (record { state = state; next = next })
-  passing-closed k = ended (stands-closed left (P .rest .file .stands) k)
+  pub none-closed : closesBlock (kindAt s next) ≡ true → left ≡ nil
+  none-closed k = stands-closed left (P .rest .file .stands) k
 
-  pub passing-ended : to ≤ next → BlockPassed s from to σ at (record { state = state; next = next })
-  passing-ended l = ended (stands-end left (P .rest .file .stands) l)
+  pub none-ended : to ≤ next → left ≡ nil
+  none-ended l = stands-end left (P .rest .file .stands) l
+
+  pub passing-done : {m : ℕ} → left ≡ nil → BlockPassed s from to σ at (record { state = state; next = next; ifs = m })
+  passing-done e = answered (passed (subst (λ (c : Block). After σ c at state) (sym (all-done e)) (P .after)) (omega (arith, P .counts, ap size e)))
 
   -- a statement is left
   module _ (l : next < to) (k : closesBlock (kindAt s next) ≡ false) where
@@ -106,13 +103,13 @@ module _ {s : List ℕ} {from to : ℕ} {σ : Settings} {at state : State} {next
     statement-next = record { entered = P .rest; early = l; goes-on = k }
 
     module _ {r : Passage} (S : StatementPassed s next to σ state r) where
-      abbrev one : Block
+      abbrev pub one : Block
       one = laid σ (only left) (state .tick)
 
       abbrev two : Block
       two = laid σ (afterFirst left) (state .tick + time σ one)
 
-      step : Passes σ one (next + firstSize left) state r
+      pub step : Passes σ one (next + firstSize left) state r
       step = S .right left (P .rest .file .stands)
 
       -- what is left is the statement and what follows it

@@ -1,8 +1,8 @@
 -- Measuring an IF: its test, both sides from there on, and the tick at which they meet.
 use Prim.Native.Nat.{ℕ, _+_, _-_, _≤_, _<_, max}
 use native.Mathlib.Omega.{arith}
-use mathlib.Core.Path.{_≡_, refl, ap, sym, subst, _∙_}
-use mathlib.Core.List.{List}
+use mathlib.Core.Path.{_≡_, refl, ap, ap₂, sym, subst, _∙_}
+use mathlib.Core.List.{List, [], _∷_, _++_, append-nil}
 use Rattle.model.specs.declared.Settings.{Settings}
 use Rattle.model.specs.declared.Form.the-variants.{Equalised}
 use Rattle.model.specs.Records.{kindAt, recordAt, IF}
@@ -11,7 +11,6 @@ use Rattle.model.specs.Times.{time}
 use Rattle.model.specs.Equalising.{merge}
 use Rattle.model.specs.Layout.{before, fill, filled}
 use Rattle.model.specs.Placement.{Fits}
-use Rattle.model.proofs.Sound.{OfForm}
 use Rattle.theory.proofs.Times.{time-⧺}
 use Rattle.theory.proofs.Windows.{Free, later, free-tested, free-later}
 use Rattle.records.proofs.Blocks.{size-waiting}
@@ -19,22 +18,17 @@ use Rattle.reading.specs.Ranges.{Stands, firstPart, secondPart, afterFirst, tes
 use Rattle.placing.specs.declared.clock.State.{State}
 use Rattle.layout.specs.declared.measure.Passage.{Passage}
 use Rattle.placing.specs.Merging.{waits}
-use Rattle.placing.specs.States.{cap, Shows, Laying, After, Stepped, aside}
+use Rattle.placing.specs.States.{cap, Laying, After, Stepped, backTo}
 use Rattle.layout.specs.Ranges.{only}
 use Rattle.layout.specs.Measured.{laid, Passes, Met, Meeting, Meets, Entered, Statement, BlockPassed, StatementPassed}
+use Rattle.layout.specs.Meetings.{meetings}
 use Rattle.placing.proofs.Settling.{waits-⧺, size-settled}
 use Rattle.placing.proofs.Moves.{shows-on}
 use Rattle.reading.proofs.Standing.{if-at, first-side, second-side, sides-end}
+use Rattle.layout.proofs.Noting.{meetings-⧺, plain-before, plain-fill}
 use Rattle.layout.proofs.Unrolled.{laid-branch, laid-free, filled-ends}
 use Rattle.layout.proofs.Passing.{in-time, too-late, passed, passed-late, laying-on}
 use Rattle.layout.proofs.PassingSteps.{block, stands, answered-of}
-
--- a state of its own for a side shows what the state shows
-aside-shows : {σ : Settings} {s : State} → Shows σ s → Shows σ (aside s)
-aside-shows S = shows-on 0 S (omega arith) (omega arith) refl (omega arith) (omega arith)
-
-pub passed-from : {s : List ℕ} {j to : ℕ} {σ : Settings} {x y : State} {r : Passage} → x ≡ y → BlockPassed s j to σ x r → BlockPassed s j to σ y r
-passed-from {s} {j} {to} {σ} {x} {y} {r} e B = subst (λ (z : State). BlockPassed s j to σ z r) e B
 
 -- An IF from t on, whose test ended at `test` and whose sides are laid as a and d and meet at e.
 module _ {σ : Settings} {from test : State} (q : Test) (a d : Block) (fits : Fits σ) (A : After σ (before σ (from .tick) 1 ⧺ act (check q) nil) from test) where
@@ -89,7 +83,7 @@ module _ {s : List ℕ} {i to : ℕ} {σ : Settings} {from : State} (S : Stateme
   abbrev pub two : Block
   two = secondPart (block S)
 
-  abbrev q : Test
+  abbrev pub q : Test
   q = testOf (recordAt s i)
 
   pub is-if : block S ≡ branch q one two (afterFirst (block S))
@@ -114,6 +108,9 @@ module _ {s : List ℕ} {i to : ℕ} {σ : Settings} {from : State} (S : Stateme
 
   pub test-tick : test .tick ≡ from .tick + time σ lead + 1
   test-tick = omega (arith, tested .tick, time-⧺ σ lead (act (check q) nil))
+
+  pub test-wait : test .wait ≡ 0
+  test-wait = tested .wait ∙ waits-⧺ (from .wait) lead (act (check q) nil)
 
   pub test-free : Free σ 1 (test .tick)
   test-free = subst (Free σ 1) (sym test-tick) (free-tested σ (S .entered .laying .settings .fits) 0 (from .tick) (S .entered .free))
@@ -143,6 +140,38 @@ module _ {s : List ℕ} {i to : ℕ} {σ : Settings} {from : State} (S : Stateme
   told {r} A =
       answered-of S (branch q one two (afterFirst (block S))) is-if (subst (λ (c : Block). Passes σ c (i + (3 + size one + size two)) from r) (sym laid-whole) A)
 
+  -- where each side ends, and where they meet
+  pub first-free : Free σ 1 (test .tick + time σ first)
+  first-free = laid-free σ (S .entered .laying .settings .fits) one 1 (test .tick) (one-there .fills .of-form) (omega arith) test-free
+
+  pub second-free : Free σ 1 (test .tick + time σ second)
+  second-free = laid-free σ (S .entered .laying .settings .fits) two 1 (test .tick) (two-there .fills .of-form) (omega arith) test-free
+
+  pub end-free : Free σ 1 end
+  end-free = free-later σ (S .entered .laying .settings .fits) end (test .tick + time σ first) (test .tick + time σ second) (omega arith) first-free second-free
+
+  -- its meeting, and those in its sides
+  side-meetings : (a : Block) → meetings σ (filled σ (test .tick) a end) (test .tick) ≡ meetings σ a (test .tick)
+  side-meetings a =
+      let t = test .tick + time σ a in
+      meetings-⧺ σ a (fill σ (end - t) t end) (test .tick)
+      ∙ ap (λ (ms : List ℕ). meetings σ a (test .tick) ++ ms) (plain-fill σ (end - t) t end t)
+      ∙ append-nil (meetings σ a (test .tick))
+
+  pub whole-meetings : meetings σ whole (from .tick) ≡ end ∷ (meetings σ first (test .tick) ++ meetings σ second (test .tick))
+  whole-meetings =
+      let F = filled σ (test .tick) first end in
+      let G = filled σ (test .tick) second end in
+      let v = from .tick + time σ lead in
+      let f = filled-ends σ (S .entered .laying .settings .fits) first (test .tick) end first-free end-free (omega arith) in
+      let g = filled-ends σ (S .entered .laying .settings .fits) second (test .tick) end second-free end-free (omega arith) in
+      let e : test .tick + max (time σ F) (time σ G) ≡ end = omega arith in
+      meetings-⧺ σ lead (branch q F G nil) (from .tick)
+      ∙ ap (λ (ms : List ℕ). ms ++ meetings σ (branch q F G nil) v) (plain-before σ (from .tick) 1 (from .tick))
+      ∙ ap (λ (u : ℕ). (u + max (time σ F) (time σ G)) ∷ (meetings σ F u ++ (meetings σ G u ++ []))) (sym test-tick)
+      ∙ ap (λ (m : ℕ). m ∷ (meetings σ F (test .tick) ++ (meetings σ G (test .tick) ++ []))) e
+      ∙ ap₂ (λ (x y : List ℕ). end ∷ (x ++ y)) (side-meetings first) (append-nil (meetings σ G (test .tick)) ∙ side-meetings second)
+
   -- it lasts at least as long as its test and each side
   filled-longer : (a : Block) → time σ a ≤ time σ (filled σ (test .tick) a end)
   filled-longer a = omega (arith, time-⧺ σ a (fill σ (end - (test .tick + time σ a)) (test .tick + time σ a) end))
@@ -157,33 +186,30 @@ module _ {s : List ℕ} {i to : ℕ} {σ : Settings} {from : State} (S : Stateme
         filled-longer second,
       )
 
-  pub test-late : σ .period < test .tick → StatementPassed s i to σ from (record { state = test; next = i })
+  pub test-late : {m : ℕ} → σ .period < test .tick → StatementPassed s i to σ from (record { state = test; next = i; ifs = m })
   test-late h = told (passed-late (omega (arith, not-before)) h)
 
   module _ (h : test .tick ≤ σ .period) where
-    laying : Laying σ test
+    pub laying : Laying σ test
     laying = laying-on (S .entered .laying) tested h
-
-    pub side-laying : Laying σ (aside test)
-    side-laying = record { settings = laying .settings; shows = aside-shows (laying .shows); within = h }
 
     pub side-free : Free σ 0 (test .tick)
     side-free = later σ (laying .settings .fits) 0 (test .tick) (omega arith) test-free
 
     -- THE FIRST SIDE
 
-    unfoldable pub one-entered : Entered s (i + 1) to σ (aside test)
-    one-entered = record { file = record { block = one; stands = one-there; inside = S .entered .file .inside }; laying = side-laying; free = side-free }
+    unfoldable pub one-entered : Entered s (i + 1) to σ test
+    one-entered = record { file = record { block = one; stands = one-there; inside = S .entered .file .inside }; laying = laying; free = side-free }
 
-    module _ {a : Passage} (A : BlockPassed s (i + 1) to σ (aside test) a) where
-      one-passes : Passes σ first (i + 1 + size one) (aside test) a
+    module _ {a : Passage} (A : BlockPassed s (i + 1) to σ test a) where
+      one-passes : Passes σ first (i + 1 + size one) test a
       one-passes = A .right one one-there
 
       pub one-late : σ .period < a .state .tick → StatementPassed s i to σ from a
       one-late l = told (passed-late (omega (arith, not-before, too-late one-passes l)) l)
 
       module _ (l : a .state .tick ≤ σ .period) where
-        pub one-after : After σ first (aside test) (a .state)
+        pub one-after : After σ first test (a .state)
         one-after = one-passes .after (in-time one-passes l)
 
         pub one-goes : a .next ≡ i + 1 + size one
@@ -194,18 +220,29 @@ module _ {s : List ℕ} {i to : ℕ} {σ : Settings} {from : State} (S : Stateme
         pub two-at : Stands Equalised s (a .next + 1) to two
         two-at = subst (λ (j : ℕ). Stands Equalised s j to two) (sym (ap (λ (j : ℕ). j + 1) one-goes)) two-there
 
-        unfoldable pub two-entered : Entered s (a .next + 1) to σ (aside test)
-        two-entered = record { file = record { block = two; stands = two-at; inside = S .entered .file .inside }; laying = side-laying; free = side-free }
+        -- its records are counted after those of the first
+        abbrev pub second-start : State
+        second-start = backTo test 0 (a .state .records)
 
-        module _ {d : Passage} (D : BlockPassed s (a .next + 1) to σ (aside test) d) where
-          two-passes : Passes σ second (a .next + 1 + size two) (aside test) d
+        pub second-laying : Laying σ second-start
+        second-laying = record {
+          settings = laying .settings;
+          shows = shows-on 0 (laying .shows) (omega arith) (omega arith) refl (omega arith) (one-after .shows .few);
+          within = h;
+        }
+
+        unfoldable pub two-entered : Entered s (a .next + 1) to σ second-start
+        two-entered = record { file = record { block = two; stands = two-at; inside = S .entered .file .inside }; laying = second-laying; free = side-free }
+
+        module _ {d : Passage} (D : BlockPassed s (a .next + 1) to σ second-start d) where
+          two-passes : Passes σ second (a .next + 1 + size two) second-start d
           two-passes = D .right two two-at
 
           pub two-late : σ .period < d .state .tick → StatementPassed s i to σ from d
           two-late m = told (passed-late (omega (arith, not-before, too-late two-passes m)) m)
 
           module _ (m : d .state .tick ≤ σ .period) where
-            pub two-after : After σ second (aside test) (d .state)
+            pub two-after : After σ second second-start (d .state)
             two-after = two-passes .after (in-time two-passes m)
 
             pub two-goes : d .next ≡ i + 1 + size one + 1 + size two
@@ -213,24 +250,17 @@ module _ {s : List ℕ} {i to : ℕ} {σ : Settings} {from : State} (S : Stateme
 
             -- BOTH
 
-            free-end : {c : Block} {r : State} (b : Block) → c ≡ laid σ b (test .tick) → OfForm Equalised b → After σ c (aside test) r → Free σ 1 (r .tick)
-            free-end b e p B =
-                subst (Free σ 1) (sym (B .tick ∙ ap (λ (c : Block). test .tick + time σ c) e))
-                (laid-free σ (laying .settings .fits) b 1 (test .tick) p (omega arith) test-free)
-
-            pub meeting : Meeting σ test (a .state) (d .state)
+            pub meeting : Meeting σ (a .state) (d .state)
             meeting = record {
-              test = laying;
-              one = laying-on side-laying one-after l;
-              two = laying-on side-laying two-after m;
-              free-one = free-end one refl (one-there .fills .of-form) one-after;
-              free-two = free-end two refl (two-there .fills .of-form) two-after;
+              one = laying-on laying one-after l;
+              two = laying-on second-laying two-after m;
+              free-one = subst (Free σ 1) (sym (one-after .tick)) first-free;
+              free-two = subst (Free σ 1) (sym (two-after .tick)) second-free;
             }
 
-            module _ {r : State} (M : Meets σ test (a .state) (d .state) r) where
+            module _ {r : State} (M : Meets σ (a .state) (d .state) r) where
               met : Met σ test first second r
-              met = M .right first second one-after two-after
+              met = M .right test first second test-wait one-after two-after
 
-              pub branch-passed : StatementPassed s i to σ from (record { state = r; next = d .next + 1 })
-              branch-passed = told (passed (branch-after q first second (laying .settings .fits) tested met
-                  (subst (Free σ 1) (one-after .tick) (meeting .free-one)) (subst (Free σ 1) (two-after .tick) (meeting .free-two))) (omega (arith, two-goes)))
+              pub branch-passed : {p : ℕ} → StatementPassed s i to σ from (record { state = r; next = d .next + 1; ifs = p })
+              branch-passed = told (passed (branch-after q first second (laying .settings .fits) tested met first-free second-free) (omega (arith, two-goes)))

@@ -9,7 +9,7 @@ use Rattle.model.specs.declared.Form.the-variants.{Equalised}
 use Rattle.model.specs.Records.{kindAt, recordAt, TIMES}
 use Rattle.model.specs.Trees.{Test, check, Block, nil, act, times, _⧺_, size}
 use Rattle.model.specs.Times.{time}
-use Rattle.model.specs.Layout.{before, lay}
+use Rattle.model.specs.Layout.{before}
 use Rattle.model.specs.Placement.{Fits}
 use Rattle.model.proofs.Sound.{OfForm}
 use Rattle.theory.proofs.Times.{time-⧺}
@@ -20,7 +20,7 @@ use Rattle.placing.specs.declared.clock.State.{State}
 use Rattle.layout.specs.declared.measure.Passage.{Passage}
 use Rattle.placing.specs.States.{Laying, After, Stepped}
 use Rattle.layout.specs.Ranges.{only}
-use Rattle.layout.specs.Measured.{laid, Passes, Entered, Statement, BlockPassed, StatementPassed, Rounds}
+use Rattle.layout.specs.Measured.{laid, Passes, Entered, Statement, BlockPassed, StatementPassed}
 use Rattle.placing.proofs.Going.{after-nil, after-⧺}
 use Rattle.reading.proofs.Standing.{times-at, body-stands, body-ends}
 use Rattle.layout.proofs.Standing.{some-rounds}
@@ -65,17 +65,12 @@ module _ {s : List ℕ} {i to : ℕ} {σ : Settings} {from : State} (S : Stateme
   pub body-inside : i + 1 + size body < to
   body-inside = body-ends (block S) (stands S) (S .early) (S .goes-on) (ap opensBlock k) (λ e. omega (arith, e, k))
 
-  -- the rounds to walk, by a count that was read from its record
-  pub rounds-there : {c n : ℕ} → c ≡ count → Rounds s (i + 1) to c n → Rounds s (i + 1) to count n
-  rounds-there {c} {n} e R = subst (λ (m : ℕ). Rounds s (i + 1) to m n) e R
-
-  -- so many rounds are laid, and `last` are to be walked
+  -- so many rounds are laid, of `last`
   pub record Rounding (last : ℕ) (state : State) (next round : ℕ) : Type 0 where
     pub upto : round ≤ last
     pub laying : Laying σ state
     pub free : Free σ 0 (state .tick)
     pub after : After σ (rounds σ body round (from .tick)) from state
-    pub first : round ≡ 0 → next ≡ i + 1
     pub later : 1 ≤ round → next ≡ i + 1 + size body
 
   unfoldable pub rounding-start : (last : ℕ) → Rounding last from (i + 1) 0
@@ -84,16 +79,10 @@ module _ {s : List ℕ} {i to : ℕ} {σ : Settings} {from : State} (S : Stateme
     laying = S .entered .laying;
     free = S .entered .free;
     after = subst (λ (c : Block). After σ c from from) (sym (rounds-none σ body (from .tick))) (after-nil (S .entered .laying .shows));
-    first = λ h. refl;
     later = λ h. absurd (omega arith);
   }
 
-  module _ {last : ℕ} (R : Rounds s (i + 1) to count last) where
-    -- as many as the count
-    rounds-same : rounds σ body last (from .tick) ≡ rounds σ body count (from .tick)
-    unfolding rounds
-    rounds-same = ap (λ (c : Block). lay σ c (from .tick)) (R .same body body-there)
-
+  module _ {last : ℕ} (R : last ≡ count) where
     -- the loop is its rounds, and the CHECK from u on
     abbrev pub check-tick : ℕ
     check-tick = from .tick + time σ (rounds σ body last (from .tick))
@@ -104,9 +93,9 @@ module _ {s : List ℕ} {i to : ℕ} {σ : Settings} {from : State} (S : Stateme
     pub laid-whole : laid σ (only (times test count body (afterFirst (block S)))) (from .tick) ≡ whole
     laid-whole =
         laid-times σ (S .entered .laying .settings .fits) test count body (from .tick) body-form (S .entered .free)
-        ∙ ap (λ (c : Block). c ⧺ (before σ (from .tick + time σ c) 1 ⧺ act (check test) nil)) (sym rounds-same)
+        ∙ ap (λ (n : ℕ). let c = rounds σ body n (from .tick) in c ⧺ (before σ (from .tick + time σ c) 1 ⧺ act (check test) nil)) (sym R)
 
-    told : {r : Passage} → Passes σ whole (i + (2 + size body)) from r → StatementPassed s i to σ from r
+    pub told : {r : Passage} → Passes σ whole (i + (2 + size body)) from r → StatementPassed s i to σ from r
     told {r} A =
         answered-of S (times test count body (afterFirst (block S))) is-times
         (subst (λ (c : Block). Passes σ c (i + (2 + size body)) from r) (sym laid-whole) A)
@@ -118,13 +107,13 @@ module _ {s : List ℕ} {i to : ℕ} {σ : Settings} {from : State} (S : Stateme
       body-entered = record { file = record { block = body; stands = body-there; inside = S .entered .file .inside }; laying = P .laying; free = P .free }
 
       module _ (l : round < last) {r : Passage} (B : BlockPassed s (i + 1) to σ state r) where
-        abbrev one : Block
+        abbrev pub one : Block
         one = laid σ body (state .tick)
 
-        passes : Passes σ one (i + 1 + size body) state r
+        pub passes : Passes σ one (i + 1 + size body) state r
         passes = B .right body body-there
 
-        more : rounds σ body (round + 1) (from .tick) ≡ rounds σ body round (from .tick) ⧺ one
+        pub more : rounds σ body (round + 1) (from .tick) ≡ rounds σ body round (from .tick) ⧺ one
         more =
             rounds-more σ (S .entered .laying .settings .fits) body round (from .tick) body-form (S .entered .free)
             ∙ ap (λ (t : ℕ). rounds σ body round (from .tick) ⧺ laid σ body t) (sym (P .after .tick))
@@ -154,27 +143,20 @@ module _ {s : List ℕ} {i to : ℕ} {σ : Settings} {from : State} (S : Stateme
               laying = laying-on (P .laying) A h;
               free = subst (Free σ 0) (sym (A .tick)) (laid-free σ (P .laying .settings .fits) body 0 (state .tick) body-form (omega arith) (P .free));
               after = subst (λ (c : Block). After σ c from (r .state)) (sym more) (after-⧺ (rounds σ body round (from .tick)) one (P .after) A);
-              first = λ z. absurd (omega arith);
               later = λ z. passes .goes (in-time passes h);
             }
 
       -- THE CHECK
 
       module _ (l : last ≤ round) where
-        done : round ≡ last
+        pub done : round ≡ last
         done = omega (arith, P .upto)
 
         -- the END stands at next
         pub at-end : next ≡ i + 1 + size body
-        at-end = go round refl
-          where
-            go : (n : ℕ) → round ≡ n → next ≡ i + 1 + size body
-            go zero e =
-                let z = R .none body body-there (omega (arith, done)) (λ h. omega (arith, some-rounds (block S) (stands S) (S .early) (S .goes-on) k)) in
-                omega (arith, P .first e)
-            go (suc n) e = P .later (omega arith)
+        at-end = P .later (omega (arith, done, R, some-rounds (block S) (stands S) (S .early) (S .goes-on) k))
 
-        pub rounds-passed : {r : State} → Stepped σ state 1 r → StatementPassed s i to σ from (record { state = r; next = next + 1 })
+        pub rounds-passed : {r : State} {m : ℕ} → Stepped σ state 1 r → StatementPassed s i to σ from (record { state = r; next = next + 1; ifs = m })
         rounds-passed {r} T = told (passed (after-⧺ (rounds σ body last (from .tick)) (before σ check-tick 1 ⧺ act (check test) nil) P′ C) (omega (arith, at-end)))
           where
             P′ : After σ (rounds σ body last (from .tick)) from state
@@ -187,5 +169,5 @@ module _ {s : List ℕ} {i to : ℕ} {σ : Settings} {from : State} (S : Stateme
 pub record PassingRounds (s : List ℕ) (i to : ℕ) (σ : Settings) (from : State) (last : ℕ) (state : State) (next round : ℕ) : Type 0 where
   pub loop : Statement s i to σ from
   pub kind : kindAt s i ≡ TIMES
-  pub rounds : Rounds s (i + 1) to (recordAt s i .count) last
+  pub count-is : last ≡ recordAt s i .count
   pub turn : Rounding loop kind last state next round

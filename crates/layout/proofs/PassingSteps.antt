@@ -2,16 +2,15 @@
 use Prim.Native.Nat.{ℕ, _+_, _≤_, _%_}
 use native.Mathlib.Omega.{arith}
 use mathlib.Core.Path.{_≡_, refl, ap, sym, subst, _∙_}
-use mathlib.Core.Bool.{Bool, true, false, false≢true}
+use mathlib.Core.Bool.{false≢true}
 use mathlib.Core.List.{List}
-use lib.Dec.{eqb, ltb}
-use borrow.Author.Tests.{ltb-true, ltb-false}
+use lib.Dec.{eqb}
 use Rattle.model.specs.declared.Settings.{Settings}
 use Rattle.model.specs.declared.Form.the-variants.{Equalised}
 use Rattle.model.specs.Records.{Rec, kindAt, recordAt, SKIP, IF, TIMES}
 use Rattle.model.specs.Trees.{Act, set, read, write, check, beat, save, Block, nil, skip, act, _⧺_, actRec}
-use Rattle.model.specs.Times.{ticks, time}
-use Rattle.model.specs.Layout.{before, idles, fill}
+use Rattle.model.specs.Times.{ticks}
+use Rattle.model.specs.Layout.{before}
 use Rattle.model.specs.Replies.{longest}
 use Rattle.model.proofs.Shapes.{Fit}
 use Rattle.model.proofs.Sound.{OfForm}
@@ -24,10 +23,9 @@ use Rattle.timing.specs.Times.{stepTicks}
 use Rattle.timing.proofs.Firsts.{act-ticks}
 use Rattle.placing.specs.declared.clock.State.{State}
 use Rattle.layout.specs.declared.measure.Passage.{Passage}
-use Rattle.placing.specs.States.{Layable, After, Stepped}
+use Rattle.placing.specs.States.{Layable, After, Stepped, Skipped}
 use Rattle.layout.specs.Ranges.{only}
 use Rattle.layout.specs.Measured.{laid, Passes, Statement, StatementPassed}
-use Rattle.placing.proofs.Filling.{skip-within, skip-late}
 use Rattle.reading.proofs.Standing.{stands-once, skip-at}
 use Rattle.layout.proofs.Standing.{act-at}
 use Rattle.layout.proofs.Unrolled.{laid-skip, laid-act}
@@ -73,11 +71,11 @@ module _ {s : List ℕ} {i to : ℕ} {σ : Settings} {from : State} (S : Stateme
 
     -- A SKIP
 
-    pub skip-passed : x .kind ≡ SKIP → {r : State} → After σ (fill σ (x .count) (from .tick) (σ .period + 1)) from r
-        → StatementPassed s i to σ from (record { state = r; next = i + 1 })
-    skip-passed k {r} A =
+    pub skip-passed : x .kind ≡ SKIP → {r : State} {m : ℕ} → Skipped σ (x .count) from r → StatementPassed s i to σ from (record { state = r; next = i + 1; ifs = m })
+    skip-passed k {r} {m} K =
         answered-of (skip n (afterFirst block)) is
-        (subst (λ (c : Block). Passes σ c (i + 1) from (record { state = r; next = i + 1 })) (sym (laid-skip σ n (from .tick))) (go (ltb (σ .period) end) refl))
+        (subst (λ (c : Block). Passes σ c (i + 1) from (record { state = r; next = i + 1; ifs = m })) (sym (laid-skip σ n (from .tick)))
+        (record { late = K′ .late; after = K′ .after; goes = λ h. refl }))
       where
         n : ℕ
         n = recordAt s i .count
@@ -85,17 +83,8 @@ module _ {s : List ℕ} {i to : ℕ} {σ : Settings} {from : State} (S : Stateme
         is : block ≡ skip n (afterFirst block)
         is = skip-at block stands (S .early) (S .goes-on) (kind-is ∙ k)
 
-        A′ : After σ (fill σ n (from .tick) (σ .period + 1)) from r
-        A′ = subst (λ (m : ℕ). After σ (fill σ m (from .tick) (σ .period + 1)) from r) count-there A
-
-        end : ℕ
-        end = from .tick + time σ (idles σ n (from .tick))
-
-        go : (o : Bool) → ltb (σ .period) end ≡ o → Passes σ (idles σ n (from .tick)) (i + 1) from (record { state = r; next = i + 1 })
-        go true h =
-            let l = ltb-true (σ .period) end h in
-            record { late = λ y. omega (arith, A′ .tick, skip-late σ n (from .tick) l); after = λ y. absurd (omega arith); goes = λ y. refl }
-        go false h = passed (subst (λ (c : Block). After σ c from r) (skip-within σ n (from .tick) (ltb-false (σ .period) end h)) A′) refl
+        K′ : Skipped σ n from r
+        K′ = subst (λ (j : ℕ). Skipped σ j from r) count-there K
 
     -- ANY OTHER
 
@@ -112,8 +101,8 @@ module _ {s : List ℕ} {i to : ℕ} {σ : Settings} {from : State} (S : Stateme
       pub step-short : {d : ℕ} → d ≡ stepTicks σ (recordOf x) → (1 ≤ d) × (d ≤ longest σ)
       step-short h = let a = act-short (S .entered .laying .settings) (is-act .act-of) act-fit in omega (arith, act-lasts)
 
-      pub act-passed : {d : ℕ} {r : State} → d ≡ stepTicks σ (recordOf x) → Stepped σ from d r → StatementPassed s i to σ from (record { state = r; next = i + 1 })
-      act-passed {d} {r} h T =
+      pub act-passed : {d p : ℕ} {r : State} → d ≡ stepTicks σ (recordOf x) → Stepped σ from d r → StatementPassed s i to σ from (record { state = r; next = i + 1; ifs = p })
+      act-passed {d} {p} {r} h T =
           answered-of (act (is-act .act-of) (afterFirst block)) (is-act .is)
           (passed (subst (λ (c : Block). After σ c from r) (same ∙ sym (laid-act σ (is-act .act-of) (from .tick))) (T .after (is-act .act-of) (act-lasts ∙ sym h))) refl)
         where

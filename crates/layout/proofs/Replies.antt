@@ -30,10 +30,11 @@ use Rattle.placing.specs.declared.clock.State.{State}
 use Rattle.placing.specs.States.{Layable, After, started}
 use Rattle.reading.specs.Ranges.{SoundFile}
 use Rattle.layout.specs.Measured.{FilePassed}
+use Rattle.layout.specs.Meetings.{FileMeasured}
 use Rattle.layout.specs.Written.{FileFits}
 use Rattle.layout.specs.Answers.{InRange, laidReply, LaysOut}
 use Rattle.reading.proofs.Standing.{stands-file}
-use Rattle.layout.proofs.Whole.{opened-total, total-is, size-is}
+use Rattle.layout.proofs.Whole.{few-ifs, opened-total, total-is, size-is}
 
 -- ROWS
 
@@ -46,6 +47,10 @@ above-all : (room n : ℕ) → 5461 < n → noRoom room n ≡ true
 above-all room n h = ap (λ (x : Bool). ltb room (12 * n) || x) (lt-ltb 5461 n h) ∙ or-true (ltb room (12 * n))
 
 -- A FILE THAT WAS READ
+
+-- what was measured with the settings of a table
+pub by-settings : {s old new : List ℕ} {r : State} {σ τ : Settings} → σ ≡ τ → FileMeasured s σ old new r → FileMeasured s τ old new r
+by-settings {s} {old} {new} {r} e m = subst (λ (ρ : Settings). FileMeasured s ρ old new r) e m
 
 -- the first row that refuses decides, and a refusal keeps the buffer
 turned : (file : List ℕ) (σ : Settings) (old : List ℕ) (x : Refusal) → refusal x ≡ laidReply σ (fileTree file) (length old) → LaysOut file σ old old (LaidOut.Refused x)
@@ -145,13 +150,14 @@ module _ {file : List ℕ} {σ : Settings} {r : State} {m : ℕ} (T : InTime fil
     counted : size result ≡ n
     counted = counts (room-left (length old) n x .few)
 
-    pub has-room : FileFits file σ old
-    has-room = record {
+    pub has-room : {none table : List ℕ} → length none ≡ 1821 → FileMeasured file σ none table r → FileFits file σ table old
+    has-room e M = record {
       sound = T .sound;
       settings = T .settings;
       in-time = omega (arith, totals, T .short);
       few = omega (arith, counted, room-left (length old) n x .few);
       room = omega (arith, length-block result, counted, room-left (length old) n x .fits-buffer);
+      holds = M .noted e (omega (arith, ended .tick, T .short)) (omega (arith, few-ifs σ tree, counted, room-left (length old) n x .few));
     }
 
     replies : finished (12 * n ∷ (r .tick + r .left + σ .beat) ∷ []) ≡ laidReply σ tree (length old)

@@ -1,5 +1,5 @@
 -- The statements of an equalised file: it has no loop but TIMES, which has at least one round.
-use Prim.Native.Nat.{ℕ, _+_, _≤_, _<_}
+use Prim.Native.Nat.{ℕ, _≤_, _<_}
 use native.Mathlib.Omega.{arith}
 use mathlib.Core.Path.{_≡_, refl, ap, subst}
 use mathlib.Core.Bool.{false, false≢true}
@@ -7,7 +7,7 @@ use mathlib.Core.Logic.{inr}
 use mathlib.Core.List.{List}
 use Rattle.model.specs.declared.Form.the-variants.{Equalised}
 use Rattle.model.specs.Records.{Rec, kindAt, recordAt, SKIP, IF, TIMES}
-use Rattle.model.specs.Trees.{Block, nil, skip, act, branch, while, times, size}
+use Rattle.model.specs.Trees.{Block, nil, skip, act, branch, while, times}
 use Rattle.reading.specs.Closing.{closesBlock}
 use Rattle.reading.specs.Ranges.{Stands, firstSize, testOf}
 use Rattle.reading.proofs.FirstKinds.{IsAct}

@@ -155,7 +155,6 @@ module _ (σ : Settings) where
         let k = formed Equalised a p in
         lay-⧺ (copies n (unroll a)) b t (rounds-loop-free a k n) (rounds-command-free a k n) f
 
-    -- one more round
     -- the first round, and the others
     pub rounds-first : (a : Block) (n t : ℕ) → OfForm Equalised a → Free σ 0 t → rounds a (suc n) t ≡ laid σ a t ⧺ rounds a n (t + time σ (laid σ a t))
     unfolding rounds laid
@@ -163,6 +162,7 @@ module _ (σ : Settings) where
         let F = formed Equalised a p in
         lay-⧺ (unroll a) (copies n (unroll a)) t (unrolled-loop-free a F) (unrolled-command-free a F) f
 
+    -- one more round
     pub rounds-more : (a : Block) (n t : ℕ) → OfForm Equalised a → Free σ 0 t → rounds a (n + 1) t ≡ rounds a n t ⧺ laid σ a (t + time σ (rounds a n t))
     unfolding laid rounds
     rounds-more a n t p f =

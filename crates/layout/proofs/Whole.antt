@@ -1,7 +1,7 @@
 -- The whole file: from the commands of tick 0 over the laid block to the last BEAT.
 use Prim.Native.Nat.{ℕ, _+_, _*_, _-_, _%_, _/_, _≤_, _<_}
 use native.Mathlib.Omega.{arith}
-use native.Mathlib.Nat.{zero-mod}
+use native.Mathlib.Nat.{zero-mod, zero-add}
 use mathlib.Core.Path.{_≡_, refl, ap, ap₂, sym, subst, _∙_}
 use mathlib.Core.Bool.{Bool, true, false, cond}
 use mathlib.Core.List.{List, _++_, append-assoc}
@@ -10,7 +10,6 @@ use lib.Dec.{eqb}
 use borrow.Author.Tests.{eqb-true, eqb-false, eq-eqb, ne-eqb}
 use Rattle.model.specs.declared.Form.the-variants.{Equalised}
 use Rattle.model.specs.declared.Settings.{Settings}
-use Rattle.model.specs.Records.{BEAT}
 use Rattle.model.specs.Trees.{beat, save, Block, nil, skip, act, _⧺_, size, fileTree}
 use Rattle.model.specs.Times.{time}
 use Rattle.model.specs.Equalising.{waiting, merge}
@@ -27,12 +26,14 @@ use Rattle.layout.specs.declared.measure.Passage.{Passage}
 use Rattle.placing.specs.Merging.{settled, waits}
 use Rattle.placing.specs.States.{Layable, Shows, Laying, After, started}
 use Rattle.reading.specs.Ranges.{SoundFile}
-use Rattle.layout.specs.Measured.{laid, Entered, BlockPassed, FilePassed}
+use Rattle.layout.specs.Measured.{laid, Entered}
+use Rattle.layout.specs.Meetings.{meetings, Holds, BlockMeasured, FileMeasured}
 use Rattle.placing.specs.Placed.{bytesOf, Lays, tailBytes}
 use Rattle.layout.specs.Written.{BlockFits, BlockLaid, FileFits}
 use Rattle.placing.proofs.Settling.{settled-⧺, waits-⧺, merge-settled, Alike, alike-eq, alike-sym, alike-trans, alike-skip}
 use Rattle.placing.proofs.Going.{after-⧺, after-alike}
 use Rattle.placing.proofs.Ticking.{left-is}
+use Rattle.layout.proofs.Noting.{holds-notes, meetings-⧺, few-meetings}
 use Rattle.reading.proofs.Standing.{stands-file}
 
 -- TICK 0
@@ -91,14 +92,29 @@ module _ {σ : Settings} (L : Layable σ) {o : State} (A : After σ opening star
   after-opened : {r : State} (b : Block) → After σ (laid σ b (o .tick)) o r → After σ (opened σ (unroll b)) started r
   after-opened {r} b B = subst (λ (c : Block). After σ c started r) (sym (opened-laid b)) (after-⧺ opening (laid σ b (o .tick)) A B)
 
-  pub file-late : {s : List ℕ} → σ .period < o .tick → FilePassed s σ o
-  file-late {s} h = record { late = λ l. h; after = λ l. absurd (omega (arith, opened-lasts (fileTree s))) }
+  -- and the meetings are those of the laid block
+  opened-meetings : (b : Block) → meetings σ (opened σ (unroll b)) 0 ≡ meetings σ (laid σ b (o .tick)) (o .tick)
+  opened-meetings b =
+      ap (λ (c : Block). meetings σ c 0) (opened-laid b)
+      ∙ ap (meetings σ (laid σ b (o .tick))) (ap (λ (t : ℕ). t + σ .save) (zero-add (σ .beat)) ∙ sym start-tick)
 
-  pub file-passed : {s : List ℕ} {r : Passage} → SoundFile Equalised s → BlockPassed s 0 (length s / 12) σ o r → FilePassed s σ (r .state)
-  file-passed {s} S B =
-      let P = B .right (fileTree s) (stands-file Equalised s S) in
+  pub file-late : {s old new : List ℕ} → σ .period < o .tick → FileMeasured s σ old new o
+  file-late {s} h = record {
+    passed = record { late = λ l. h; after = λ l. absurd (omega (arith, opened-lasts (fileTree s))) };
+    noted = λ e l m. absurd (omega (arith, opened-lasts (fileTree s)));
+  }
+
+  pub file-measured : {s old new : List ℕ} {r : Passage} → SoundFile Equalised s → BlockMeasured s 0 (length s / 12) σ o 0 old new r → FileMeasured s σ old new (r .state)
+  file-measured {s} {old} {new} S B =
+      let there = stands-file Equalised s S in
+      let P = B .passed .right (fileTree s) there in
       let e = opened-lasts (fileTree s) in
-      record { late = λ l. P .late (omega arith); after = λ l. after-opened (fileTree s) (P .after (omega arith)) }
+      let z = opened-meetings (fileTree s) in
+      record {
+        passed = record { late = λ l. P .late (omega arith); after = λ l. after-opened (fileTree s) (P .after (omega arith)) };
+        noted = λ k l m. subst (λ (ms : List ℕ). Holds ms 0 new) (sym z)
+            (holds-notes (B .noted (fileTree s) there (omega arith) .notes) k (omega (arith, ap length z)));
+      }
 
 -- THE END
 
@@ -129,6 +145,22 @@ module _ (σ : Settings) (b : Block) where
       let c = opened σ (unroll b) in
       let x = lastBeat σ (time σ (body σ (unroll b))) in
       ap (merge 0) (⧺-assoc c (toBound σ (time σ c)) x) ∙ merge-⧺ 0 c (toBound σ (time σ c) ⧺ x)
+
+  -- each meeting is an IF of the result
+  pub few-ifs : 3 * length (meetings σ (opened σ (unroll b)) 0) ≤ size (layout σ b)
+  unfolding layout
+  few-ifs =
+      let c = opened σ (unroll b) in
+      let t = time σ c in
+      let x = lastBeat σ (time σ (body σ (unroll b))) in
+      omega (
+        arith,
+        few-meetings σ 0 (body σ (unroll b) ⧺ x) 0,
+        ap length (meetings-⧺ σ (body σ (unroll b)) x 0),
+        length-append (meetings σ (body σ (unroll b)) 0) (meetings σ x (0 + time σ (body σ (unroll b)))),
+        ap length (meetings-⧺ σ c (toBound σ t) 0),
+        length-append (meetings σ c 0) (meetings σ (toBound σ t) (0 + t)),
+      )
 
   pub opened-total : time σ (opened σ (unroll b)) ≤ total σ b
   unfolding total
@@ -189,7 +221,7 @@ module _ {σ : Settings} (L : Layable σ) where
 
 -- WRITING IT
 
-module _ {s : List ℕ} {σ : Settings} {out : List ℕ} (F : FileFits s σ out) where
+module _ {s : List ℕ} {σ : Settings} {table out : List ℕ} (F : FileFits s σ table out) where
   abbrev whole : List ℕ
   whole = blockBytes (layout σ (fileTree s))
 
@@ -235,7 +267,7 @@ module _ {s : List ℕ} {σ : Settings} {out : List ℕ} (F : FileFits s σ out)
     in-time : o .tick + time σ (laid σ (fileTree s) (o .tick)) ≤ σ .period
     in-time = omega (arith, F .in-time, opened-total σ (fileTree s), opened-lasts (F .settings) A (fileTree s))
 
-    pub block-fits : BlockFits s 0 (length s / 12) σ o (lent new at)
+    pub block-fits : BlockFits s 0 (length s / 12) σ o 0 table (lent new at)
     unfolding file-entered
     block-fits = record {
       entered = file-entered (F .settings) A (F .sound) (omega (arith, in-time));
@@ -246,9 +278,10 @@ module _ {s : List ℕ} {σ : Settings} {out : List ℕ} (F : FileFits s σ out)
           room = omega (arith, ap (λ (c : Block). length (blockBytes c)) middle-is, part-fits (blockBytes middle) (blockBytes (ending σ (fileTree s))) P);
         };
       };
+      holds = subst (λ (ms : List ℕ). Holds ms 0 table) (opened-meetings (F .settings) A (fileTree s)) (F .holds);
     }
 
-    module _ {ys : List ℕ} {r : Passage} (B : BlockLaid s 0 (length s / 12) σ o (lent new at) ys r) where
+    module _ {ys : List ℕ} {r : Passage} (B : BlockLaid s 0 (length s / 12) σ o 0 (lent new at) ys r) where
       lays : Lays σ (laid σ (fileTree s) (o .tick)) o (lent new at) ys (r .state)
       lays = B .right (fileTree s) (stands-file Equalised s (F .sound)) .lays
 

@@ -1,9 +1,10 @@
--- Writing an IF: its test, and then both sides, which are measured from there on and filled up to the tick where they meet.
-use Prim.Native.Nat.{ℕ, _+_, _*_, _-_, _≤_, max}
+-- Writing an IF: its test, and then both sides, filled up to the tick where they meet, which stands in the table.
+use Prim.Native.Nat.{ℕ, _+_, _*_, _≤_, _<_, max}
 use native.Mathlib.Omega.{arith}
 use mathlib.Core.Path.{_≡_, refl, ap, sym, subst, _∙_}
-use mathlib.Core.List.{List, _++_, append-assoc}
-use lib.ListN.{length, length-append}
+use mathlib.Core.List.{List, _∷_, _++_, append-assoc}
+use lib.ListN.{length, getD, length-append}
+use Rattle.model.specs.declared.Form.the-variants.{Equalised}
 use Rattle.model.specs.declared.Settings.{Settings}
 use Rattle.model.specs.Records.{Rec, recordBytes, kindAt, recordAt, IF}
 use Rattle.model.specs.Trees.{Test, check, Block, nil, act, branch, _⧺_, size, testRec, elseRec, endRec}
@@ -12,28 +13,31 @@ use Rattle.model.specs.Equalising.{waiting, merge}
 use Rattle.model.specs.Layout.{before, filled}
 use Rattle.model.specs.Replies.{over}
 use Rattle.model.proofs.Stands.{At}
-use Rattle.records.specs.Blocks.{blockBytes, skipRecords, skipBytes, Wrote}
+use Rattle.records.specs.Blocks.{blockBytes, skipRecords, skipBytes}
 use Rattle.records.proofs.Blocks.{waiting-bytes, branch-bytes, size-waiting, length-block}
-use Rattle.records.proofs.Over.{Part, lent, back, part-first, part-fits, part-fits-last, part-last, part-at, part-length}
-use Rattle.records.proofs.Laying.{wrote-next}
-use Rattle.reading.specs.Ranges.{firstPart, secondPart, afterFirst, testOf}
+use Rattle.records.proofs.Over.{Part, lent, back, part-first, part-fits, part-fits-last, part-lent, part-last, part-at, part-length}
+use Rattle.reading.specs.Ranges.{Stands, firstPart, secondPart, afterFirst, testOf}
 use Rattle.placing.specs.declared.clock.State.{State}
 use Rattle.layout.specs.declared.measure.Passage.{Passage}
 use Rattle.placing.specs.Merging.{settled, waits}
-use Rattle.placing.specs.States.{aside}
+use Rattle.placing.specs.States.{cap, backTo}
 use Rattle.layout.specs.Ranges.{only}
-use Rattle.layout.specs.Measured.{laid, Meeting, Meets, Entered, Statement, BlockPassed}
+use Rattle.layout.specs.Measured.{laid, Met, Statement}
+use Rattle.layout.specs.Meetings.{meetings, Holds}
 use Rattle.placing.specs.Placed.{bytesOf, stepBytes, StepLaid}
-use Rattle.layout.specs.Written.{LaidFits, sideBytes, SideFits, SideLaid, StatementFits, StatementLaid}
+use Rattle.layout.specs.Written.{LaidFits, SideFits, SideLays, SideLaid, StatementFits, StatementLaid}
 use Rattle.placing.proofs.Settling.{size-settled, bytes-settled}
+use Rattle.placing.proofs.Moves.{shows-on}
+use Rattle.placing.proofs.Writing.{laidBytes}
 use Rattle.reading.proofs.Standing.{if-at}
-use Rattle.layout.proofs.Unrolled.{laid-branch}
-use Rattle.layout.proofs.PassingBranches.{one, two, is-if, one-there, end, whole, laid-whole, not-before, passed-from}
-use Rattle.layout.proofs.PassingBranches.{one-entered, two-entered, two-at, one-goes, two-goes, meeting, branch-passed, one-after, two-after}
-use Rattle.layout.proofs.WritingSteps.{block, fits-as, passed-laid}
+use Rattle.layout.proofs.Noting.{holds-first, holds-rest, holds-left, holds-right}
+use Rattle.layout.proofs.Unrolled.{laid-branch, filled-ends}
+use Rattle.layout.proofs.PassingBranches.{branch-after, one, two, is-if, one-there, two-there, tested, test-wait, end, whole, laid-whole, first-free, second-free, end-free}
+use Rattle.layout.proofs.PassingBranches.{whole-meetings, not-before, laying, side-free}
+use Rattle.layout.proofs.WritingSteps.{block, fits-as, answered-as}
 
 -- the IF at i with the record x
-module _ {s : List ℕ} {i to : ℕ} {σ : Settings} {from : State} {old : List ℕ} (F : StatementFits s i to σ from old) (k : kindAt s i ≡ IF)
+module _ {s : List ℕ} {i to : ℕ} {σ : Settings} {from : State} {p : ℕ} {table old : List ℕ} (F : StatementFits s i to σ from p table old) (k : kindAt s i ≡ IF)
     {x : Rec} (e : x ≡ recordAt s i) where
   abbrev S : Statement s i to σ from
   S = F .statement
@@ -109,7 +113,7 @@ module _ {s : List ℕ} {i to : ℕ} {σ : Settings} {from : State} {old : List 
 
     -- its bytes: the test, and each side up to the record that closes it
     abbrev side-bytes : Block → Rec → List ℕ
-    side-bytes b y = sideBytes σ (aside test) b meets y
+    side-bytes b y = blockBytes (merge 0 (side b)) ++ recordBytes y
 
     whole-bytes : bytesOf from all ≡ stepBytes σ from 1 x ++ (side-bytes A elseRec ++ side-bytes D endRec)
     whole-bytes =
@@ -141,112 +145,161 @@ module _ {s : List ℕ} {i to : ℕ} {σ : Settings} {from : State} {old : List 
     pub test-upto : (from .records ≤ test .records) × (test .records ≤ 5462)
     test-upto = (omega (arith, test-records), omega (arith, test-records, sizes, the-if .room .few))
 
-    -- THE SIDES ARE MEASURED
+    no-wait : test .wait ≡ 0
+    no-wait = test-wait S k (T .state)
 
-    module _ {start : State} (h : start ≡ aside test) where
-      pub one-starts : Entered s (i + 1) to σ start
-      one-starts = subst (Entered s (i + 1) to σ) (sym h) (one-entered S k (T .state) soon)
+    -- its meeting stands in the table, and those in its sides
+    abbrev ms-one : List ℕ
+    ms-one = meetings σ (laid σ A (test .tick)) (test .tick)
 
-      module _ {a : Passage} (P : BlockPassed s (i + 1) to σ start a) where
-        one-passed : BlockPassed s (i + 1) to σ (aside test) a
-        one-passed = passed-from h P
+    abbrev ms-two : List ℕ
+    ms-two = meetings σ (laid σ D (test .tick)) (test .tick)
 
-        one-soon : a .state .tick ≤ σ .period
-        one-soon =
-            let l : test .tick + time σ (laid σ A (test .tick)) ≤ σ .period = omega (arith, in-time) in
-            omega (arith, one-passed .right A (one-there S k (T .state)) .after l .tick)
+    all-meetings : meetings σ all (from .tick) ≡ meets ∷ (ms-one ++ ms-two)
+    all-meetings = whole-meetings S k (T .state)
+
+    held : Holds (meets ∷ (ms-one ++ ms-two)) p table
+    held = subst (λ (ms : List ℕ). Holds ms p table) (ap (λ (c : Block). meetings σ c (from .tick)) is-all ∙ all-meetings) (F .holds)
+
+    pub table-at : (p < 1821) × (getD table p 0 ≡ meets)
+    table-at = holds-first held
+
+    -- THE SIDES ARE WRITTEN, up to tick m, and the next byte is at n
+
+    -- a side of its own from a state with the clock of the test, and no tick of SKIP that waits
+    abbrev starts : ℕ → State
+    starts n = backTo test 0 n
+
+    module _ {m : ℕ} (g : m ≡ getD table p 0) {n : ℕ} (f : n ≡ laidBytes from test) where
+      meets-at : meets ≡ m
+      meets-at = sym (table-at .1) ∙ sym g
+
+      test-part : Part (bytesOf from all) (side-bytes A elseRec ++ side-bytes D endRec) old new n
+      test-part =
+          subst (λ (bs : List ℕ). Part bs (side-bytes A elseRec ++ side-bytes D endRec) old new n) (sym whole-bytes)
+          (part-first (stepBytes σ from 1 x) (subst (λ (bs : List ℕ). length bs ≤ length old) whole-bytes (the-if .room .room)) (T .wrote)
+          (f ∙ omega (arith, test-records, test-length)))
+
+      pub test-at : n ≤ length new
+      test-at = part-at test-part
+
+      pub one-fits : SideFits s (i + 1) to σ test m elseRec (p + 1) table (lent new n)
+      one-fits =
+          subst (λ (j : ℕ). SideFits s (i + 1) to σ test j elseRec (p + 1) table (lent new n)) meets-at (record {
+            entered = record {
+              file = record { block = A; stands = one-there S k (T .state); inside = S .entered .file .inside };
+              laying = laying S k (T .state) soon;
+              free = side-free S k (T .state) soon;
+            };
+            reaches = omega arith;
+            upto = in-time;
+            free = end-free S k (T .state);
+            few = omega (arith, sizes, the-if .room .few, test-records, ap (λ (w : ℕ). size (merge w (side A))) no-wait);
+            room = subst (λ (w : ℕ). length (blockBytes (merge w (side A)) ++ recordBytes elseRec) ≤ length (lent new n)) (sym no-wait)
+                (part-fits (side-bytes A elseRec) (side-bytes D endRec) test-part);
+            holds = holds-left ms-one ms-two (holds-rest (ms-one ++ ms-two) held);
+          })
+
+      module _ {ys : List ℕ} {a : Passage} (L : SideLaid s (i + 1) to σ test m elseRec (p + 1) (lent new n) ys a) where
+        abbrev new-2 : List ℕ
+        new-2 = back new n ys
+
+        one-lays : SideLays σ A meets elseRec (i + 1 + size A) (p + 1) test (lent new n) ys a
+        one-lays =
+            subst (λ (j : ℕ). SideLays σ A j elseRec (i + 1 + size A) (p + 1) test (lent new n) ys a) (sym meets-at) (L .right A (one-there S k (T .state)))
+
+        one-records : a .state .records ≡ test .records + size (merge 0 (side A)) + 1
+        one-records = omega (arith, one-lays .closed .records, ap (λ (w : ℕ). size (merge w (side A))) no-wait)
+
+        pub one-upto : (from .records ≤ a .state .records) × (a .state .records ≤ 5462)
+        one-upto = (omega (arith, one-records, test-records), omega (arith, one-records, test-records, sizes, the-if .room .few))
 
         pub one-ends : a .next ≡ i + 1 + size A
-        one-ends = one-goes S k (T .state) soon one-passed one-soon
+        one-ends = one-lays .goes
 
-        pub two-starts : Entered s (a .next + 1) to σ start
-        two-starts = subst (Entered s (a .next + 1) to σ) (sym h) (two-entered S k (T .state) soon one-passed one-soon)
+        one-wrote : ys ≡ over (side-bytes A elseRec) (lent new n)
+        one-wrote = one-lays .wrote ∙ ap (λ (w : ℕ). over (blockBytes (merge w (side A)) ++ recordBytes elseRec) (lent new n)) no-wait
 
-        module _ {d : Passage} (Q : BlockPassed s (a .next + 1) to σ start d) where
-          two-passed : BlockPassed s (a .next + 1) to σ (aside test) d
-          two-passed = passed-from h Q
+        module _ {l : ℕ} (h : l ≡ laidBytes from (a .state)) where
+          one-part : Part (bytesOf from all) (side-bytes D endRec) old new-2 l
+          one-part =
+              subst (Part (bytesOf from all) (side-bytes D endRec) old new-2)
+              (omega (
+                arith,
+                f,
+                h,
+                one-records,
+                test-records,
+                length-append (blockBytes (merge 0 (side A))) (recordBytes elseRec),
+                length-block (merge 0 (side A)),
+              ))
+              (part-lent {n = length (side-bytes A elseRec)} (side-bytes A elseRec) test-part one-wrote refl)
 
-          two-soon : d .state .tick ≤ σ .period
-          two-soon =
-              let l : test .tick + time σ (laid σ D (test .tick)) ≤ σ .period = omega (arith, in-time) in
-              omega (arith, two-passed .right D (two-at S k (T .state) soon one-passed one-soon) .after l .tick)
+          pub one-at : l ≤ length new-2
+          one-at = part-at one-part
 
-          pub two-ends : d .next ≡ i + 1 + size A + 1 + size D
-          two-ends = two-goes S k (T .state) soon one-passed one-soon two-passed two-soon
+          pub one-long : length new-2 ≡ length old
+          one-long = part-length one-part
 
-          pub both-meet : Meeting σ test (a .state) (d .state)
-          both-meet = meeting S k (T .state) soon one-passed one-soon two-passed two-soon
+          two-at : Stands Equalised s (a .next + 1) to D
+          two-at = subst (λ (j : ℕ). Stands Equalised s (j + 1) to D) (sym one-ends) (two-there S k (T .state))
 
-          -- THE SIDES ARE WRITTEN, up to tick m, and the next byte is at n
-
-          module _ {m : ℕ} (g : m ≡ max (a .state .tick) (d .state .tick)) {n : ℕ} (f : n ≡ 12 * (test .records - from .records)) where
-            meets-at : meets ≡ m
-            meets-at =
-                omega (
-                  arith,
-                  g,
-                  one-after S k (T .state) soon one-passed one-soon .tick,
-                  two-after S k (T .state) soon one-passed one-soon two-passed two-soon .tick,
-                )
-
-            test-part : Part (bytesOf from all) (side-bytes A elseRec ++ side-bytes D endRec) old new n
-            test-part =
-                subst (λ (bs : List ℕ). Part bs (side-bytes A elseRec ++ side-bytes D endRec) old new n) (sym whole-bytes)
-                (part-first (stepBytes σ from 1 x) (subst (λ (bs : List ℕ). length bs ≤ length old) whole-bytes (the-if .room .room)) (T .wrote)
-                (f ∙ omega (arith, test-records, test-length)))
-
-            pub test-at : n ≤ length new
-            test-at = part-at test-part
-
-            pub one-fits : SideFits s (i + 1) to σ start m elseRec (lent new n)
-            unfolding one-entered
-            one-fits = subst (λ (z : State). SideFits s (i + 1) to σ z m elseRec (lent new n)) (sym h)
-                (subst (λ (j : ℕ). SideFits s (i + 1) to σ (aside test) j elseRec (lent new n)) meets-at (record {
-                  entered = one-entered S k (T .state) soon;
+          module _ {z : State} (st : z ≡ starts (a .state .records)) where
+            pub two-fits : SideFits s (a .next + 1) to σ z m endRec (a .ifs) table (lent new-2 l)
+            two-fits = subst (λ (z : State). SideFits s (a .next + 1) to σ z m endRec (a .ifs) table (lent new-2 l)) (sym st)
+                (subst (λ (j : ℕ). SideFits s (a .next + 1) to σ (starts (a .state .records)) j endRec (a .ifs) table (lent new-2 l)) meets-at (record {
+                  entered = record {
+                    file = record { block = D; stands = two-at; inside = S .entered .file .inside };
+                    laying = record {
+                      settings = S .entered .laying .settings;
+                      shows = shows-on 0 (laying S k (T .state) soon .shows) (omega arith) (omega arith) refl (omega arith) (one-upto .1);
+                      within = soon;
+                    };
+                    free = side-free S k (T .state) soon;
+                  };
                   reaches = omega arith;
                   upto = in-time;
-                  few = omega (arith, sizes, the-if .room .few);
-                  room = part-fits (side-bytes A elseRec) (side-bytes D endRec) test-part;
+                  free = end-free S k (T .state);
+                  few = omega (arith, one-records, test-records, sizes, the-if .room .few);
+                  room = part-fits-last one-part;
+                  holds = subst (λ (j : ℕ). Holds ms-two j table) (sym (one-lays .ifs)) (holds-right ms-one ms-two (holds-rest (ms-one ++ ms-two) held));
                 }))
 
-            module _ {ys : List ℕ} {l : ℕ} (L : SideLaid s (i + 1) to σ start m elseRec (lent new n) ys l) where
-              abbrev new-2 : List ℕ
-              new-2 = back new n ys
+            module _ {zs : List ℕ} {d : Passage} (E : SideLaid s (a .next + 1) to σ z m endRec (a .ifs) (lent new-2 l) zs d) where
+              two-lays : SideLays σ D meets endRec (a .next + 1 + size D) (a .ifs) (starts (a .state .records)) (lent new-2 l) zs d
+              two-lays =
+                  subst (λ (j : ℕ). SideLays σ D j endRec (a .next + 1 + size D) (a .ifs) (starts (a .state .records)) (lent new-2 l) zs d) (sym meets-at)
+                  (subst (λ (z : State). SideLaid s (a .next + 1) to σ z m endRec (a .ifs) (lent new-2 l) zs d) st E .right D two-at)
 
-              one-wrote : Wrote (side-bytes A elseRec) (lent new n) ys l
-              one-wrote =
-                  subst (λ (j : ℕ). Wrote (sideBytes σ (aside test) A j elseRec) (lent new n) ys l) (sym meets-at)
-                  (subst (λ (z : State). SideLaid s (i + 1) to σ z m elseRec (lent new n) ys l) h L .right A (one-there S k (T .state)))
+              pub two-ends : d .next ≡ i + 1 + size A + 1 + size D
+              two-ends = omega (arith, two-lays .goes, one-ends)
 
-              one-part : Part (bytesOf from all) (side-bytes D endRec) old new-2 (n + l)
-              one-part = wrote-next (side-bytes A elseRec) test-part one-wrote
+              ends-at : d .state .tick ≡ meets
+              ends-at = two-lays .closed .tick
+                  ∙ filled-ends σ (S .entered .laying .settings .fits) (laid σ D (test .tick)) (test .tick) meets (second-free S k (T .state)) (end-free S k (T .state)) (omega arith)
 
-              pub one-at : n + l ≤ length new-2
-              one-at = part-at one-part
+              met : Met σ test (laid σ A (test .tick)) (laid σ D (test .tick)) (d .state)
+              met = record {
+                shows = two-lays .closed .shows;
+                tick = ends-at;
+                wait = two-lays .closed .wait;
+                records = counted
+                    ∙ ap (λ (t : ℕ). cap (test .records + (2 + size (merge 0 (filled σ (test .tick) (laid σ A (test .tick)) t)) + size (merge 0 (filled σ (test .tick) (laid σ D (test .tick)) t)))))
+                    (sym ends-at);
+              }
+                where
+                  counted : d .state .records ≡ cap (test .records + (2 + size (merge 0 (side A)) + size (merge 0 (side D))))
+                  counted = omega (arith, two-lays .closed .records, one-records, test-records, sizes, the-if .room .few)
 
-              pub one-long : length new-2 ≡ length old
-              one-long = part-length one-part
-
-              pub two-fits : SideFits s (a .next + 1) to σ start m endRec (lent new-2 (n + l))
-              unfolding two-entered
-              two-fits = subst (λ (z : State). SideFits s (a .next + 1) to σ z m endRec (lent new-2 (n + l))) (sym h)
-                  (subst (λ (j : ℕ). SideFits s (a .next + 1) to σ (aside test) j endRec (lent new-2 (n + l))) meets-at (record {
-                    entered = two-entered S k (T .state) soon one-passed one-soon;
-                    reaches = omega arith;
-                    upto = in-time;
-                    few = omega (arith, sizes, the-if .room .few);
-                    room = part-fits-last one-part;
-                  }))
-
-              module _ {zs : List ℕ} {j : ℕ} {r : State} (E : SideLaid s (a .next + 1) to σ start m endRec (lent new-2 (n + l)) zs j)
-                  (M : Meets σ test (a .state) (d .state) r) where
-                two-wrote : Wrote (side-bytes D endRec) (lent new-2 (n + l)) zs j
-                two-wrote =
-                    subst (λ (o : ℕ). Wrote (sideBytes σ (aside test) D o endRec) (lent new-2 (n + l)) zs j) (sym meets-at)
-                    (subst (λ (z : State). SideLaid s (a .next + 1) to σ z m endRec (lent new-2 (n + l)) zs j) h E .right D
-                    (two-at S k (T .state) soon one-passed one-soon))
-
-                pub branch-laid : StatementLaid s i to σ from old (back new-2 (n + l) zs) (record { state = r; next = d .next + 1 })
-                branch-laid =
-                    passed-laid F (branch-passed S k (T .state) soon one-passed one-soon two-passed two-soon M)
-                    (part-last one-part (two-wrote .laid) ∙ ap (λ (c : Block). over (bytesOf from c) old) (sym is-all))
+              pub branch-laid : StatementLaid s i to σ from p old (back new-2 l zs) (record { state = d .state; next = d .next + 1; ifs = d .ifs })
+              branch-laid =
+                  answered-as F (branch q A D (afterFirst (block F))) (is-if S k (T .state)) all (laid-whole S k (T .state))
+                  (record {
+                    lays = record {
+                      after = branch-after q (laid σ A (test .tick)) (laid σ D (test .tick)) (S .entered .laying .settings .fits) (tested S k (T .state)) met
+                          (first-free S k (T .state)) (second-free S k (T .state));
+                      wrote = part-last one-part (two-lays .wrote);
+                    };
+                    goes = omega (arith, two-ends);
+                    ifs = omega (arith, two-lays .ifs, one-lays .ifs, ap length all-meetings, length-append ms-one ms-two);
+                  })

@@ -3,8 +3,8 @@ use Prim.Native.Nat.{ℕ, suc, _+_, _-_, _≤_, _<_}
 use native.Mathlib.Omega.{arith}
 use native.Mathlib.Nat.{sub-zero}
 use mathlib.Core.Path.{_≡_, refl, ap, sym, subst, _∙_}
-use mathlib.Core.List.{List}
-use lib.ListN.{length}
+use mathlib.Core.List.{List, _++_, append-nil}
+use lib.ListN.{length, length-append}
 use Rattle.model.specs.declared.Settings.{Settings}
 use Rattle.model.specs.Records.{Rec, kindAt, recordAt, TIMES}
 use Rattle.model.specs.Trees.{check, Block, nil, act, times, _⧺_, size, actRec}
@@ -16,24 +16,26 @@ use Rattle.records.proofs.Over.{lent, back}
 use Rattle.reading.specs.Ranges.{afterFirst}
 use Rattle.placing.specs.declared.clock.State.{State}
 use Rattle.layout.specs.declared.measure.Passage.{Passage}
-use Rattle.layout.specs.Measured.{laid, Rounds, BlockPassed}
+use Rattle.layout.specs.Measured.{laid, BlockPassed}
+use Rattle.layout.specs.Meetings.{meetings, Holds}
 use Rattle.placing.specs.Placed.{stepBytes, StepLaid}
 use Rattle.layout.specs.Written.{LaidFits, StatementFits, BlockFits, BlockLaid, LaysTo, StatementLaid}
 use Rattle.placing.proofs.Settling.{alike-eq}
 use Rattle.layout.proofs.Unrolled.{rounds, rounds-none, rounds-first}
 use Rattle.placing.proofs.Writing.{laidBytes, Writing, writing-start, writing-same, writing-room, writing-next, writing-end}
+use Rattle.layout.proofs.Noting.{holds-left, holds-right, meetings-⧺, plain-step}
 use Rattle.layout.proofs.Passing.{passed}
 use Rattle.layout.proofs.PassingRounds.{body, test, count, is-times, body-there, body-form, check-tick, whole, laid-whole}
-use Rattle.layout.proofs.PassingRounds.{Rounding, rounding-start, body-entered, rounding-next, at-end}
-use Rattle.layout.proofs.WritingSteps.{block, fits-as, answered-as, step-fits, step-lays}
+use Rattle.layout.proofs.PassingRounds.{Rounding, rounding-start, body-entered, more, rounding-next, at-end}
+use Rattle.layout.proofs.WritingSteps.{block, fits-as, holds-as, answered-as, step-fits, step-lays}
 
 -- a block that is laid has passed
-pub block-passed : {s : List ℕ} {i to : ℕ} {σ : Settings} {at : State} {old new : List ℕ} {r : Passage} → BlockLaid s i to σ at old new r → BlockPassed s i to σ at r
+pub block-passed : {s : List ℕ} {i to : ℕ} {σ : Settings} {at : State} {k : ℕ} {old new : List ℕ} {r : Passage} → BlockLaid s i to σ at k old new r → BlockPassed s i to σ at r
 block-passed L = record { right = λ b B. passed (L .right b B .lays .after) (L .right b B .goes) }
 
--- the loop at i, of whose rounds `last` are walked
-module _ {s : List ℕ} {i to : ℕ} {σ : Settings} {from : State} {old : List ℕ} (F : StatementFits s i to σ from old) (k : kindAt s i ≡ TIMES)
-    {last : ℕ} (R : Rounds s (i + 1) to (recordAt s i .count) last) where
+-- the loop at i, of `last` rounds
+module _ {s : List ℕ} {i to : ℕ} {σ : Settings} {from : State} {p : ℕ} {table old : List ℕ} (F : StatementFits s i to σ from p table old) (k : kindAt s i ≡ TIMES)
+    {last : ℕ} (R : last ≡ recordAt s i .count) where
   abbrev a : Block
   a = body (F .statement) k
 
@@ -48,22 +50,39 @@ module _ {s : List ℕ} {i to : ℕ} {σ : Settings} {from : State} {old : List 
   the-loop =
       fits-as F (times (test (F .statement) k) (count (F .statement) k) a (afterFirst (block F))) (is-times (F .statement) k) all (laid-whole (F .statement) k R)
 
+  -- its meetings are those of its rounds
+  the-meetings : meetings σ all (from .tick) ≡ meetings σ (rounds σ a last (from .tick)) (from .tick)
+  the-meetings =
+      meetings-⧺ σ (rounds σ a last (from .tick)) (check-from (check-tick (F .statement) k R)) (from .tick)
+      ∙ ap (λ (ms : List ℕ). meetings σ (rounds σ a last (from .tick)) (from .tick) ++ ms)
+      (plain-step σ 1 (check (test (F .statement) k)) (check-tick (F .statement) k R))
+      ∙ append-nil (meetings σ (rounds σ a last (from .tick)) (from .tick))
+
+  held : Holds (meetings σ (rounds σ a last (from .tick)) (from .tick)) p table
+  held =
+      subst (λ (ms : List ℕ). Holds ms p table) the-meetings
+      (holds-as F (times (test (F .statement) k) (count (F .statement) k) a (afterFirst (block F))) (is-times (F .statement) k) all (laid-whole (F .statement) k R))
+
   -- what is left after some rounds
   abbrev left-from : State → ℕ → Block
   left-from state round = rounds σ a (last - round) (state .tick) ⧺ check-from (check-tick (F .statement) k R)
 
-  pub record WritingRounds (state : State) (next round : ℕ) (new : List ℕ) : Type 0 where
+  pub record WritingRounds (state : State) (next round n : ℕ) (new : List ℕ) : Type 0 where
     pub rounding : Rounding (F .statement) k last state next round
     pub writing : Writing σ all (left-from state round) from state old new
+    pub ifs : n ≡ p + length (meetings σ (rounds σ a round (from .tick)) (from .tick))
+    pub holds : Holds (meetings σ (rounds σ a (last - round) (state .tick)) (state .tick)) n table
 
-  pub rounds-start : WritingRounds from (i + 1) 0 old
+  pub rounds-start : WritingRounds from (i + 1) 0 p old
   rounds-start = record {
     rounding = rounding-start (F .statement) k last;
     writing = writing-same (writing-start (F .statement .entered .laying .shows) (the-loop .room))
         (alike-eq (ap (λ (n : ℕ). rounds σ a n (from .tick) ⧺ check-from (check-tick (F .statement) k R)) (sym (sub-zero last))));
+    ifs = omega (arith, ap (λ (c : Block). length (meetings σ c (from .tick))) (rounds-none σ a (from .tick)));
+    holds = subst (λ (n : ℕ). Holds (meetings σ (rounds σ a n (from .tick)) (from .tick)) p table) (sym (sub-zero last)) held;
   }
 
-  module _ {state : State} {next round : ℕ} {new : List ℕ} (W : WritingRounds state next round new) where
+  module _ {state : State} {next round n : ℕ} {new : List ℕ} (W : WritingRounds state next round n new) where
     -- A ROUND
 
     module _ (l : round < last) where
@@ -73,15 +92,22 @@ module _ {s : List ℕ} {i to : ℕ} {σ : Settings} {from : State} {old : List 
       abbrev others : Block
       others = rounds σ a (last - (round + 1)) (state .tick + time σ one) ⧺ check-from (check-tick (F .statement) k R)
 
+      abbrev rest : Block
+      rest = rounds σ a (last - (round + 1)) (state .tick + time σ one)
+
+      first : rounds σ a (last - round) (state .tick) ≡ one ⧺ rest
+      first =
+          let m : last - round ≡ suc (last - (round + 1)) = omega arith in
+          ap (λ (j : ℕ). rounds σ a j (state .tick)) m
+          ∙ rounds-first σ (W .rounding .laying .settings .fits) a (last - (round + 1)) (state .tick) (body-form (F .statement) k) (W .rounding .free)
+
       split : Writing σ all (one ⧺ others) from state old new
       split = writing-same (W .writing) (alike-eq (
-          ap (λ (n : ℕ). rounds σ a n (state .tick) ⧺ check-from (check-tick (F .statement) k R)) n
-          ∙ ap (λ (c : Block). c ⧺ check-from (check-tick (F .statement) k R))
-          (rounds-first σ (W .rounding .laying .settings .fits) a (last - (round + 1)) (state .tick) (body-form (F .statement) k) (W .rounding .free))
-          ∙ ⧺-assoc one (rounds σ a (last - (round + 1)) (state .tick + time σ one)) (check-from (check-tick (F .statement) k R))))
-        where
-          n : last - round ≡ suc (last - (round + 1))
-          n = omega arith
+          ap (λ (c : Block). c ⧺ check-from (check-tick (F .statement) k R)) first ∙ ⧺-assoc one rest (check-from (check-tick (F .statement) k R))))
+
+      -- the meetings in this round, and those in the others
+      both : Holds (meetings σ one (state .tick) ++ meetings σ rest (state .tick + time σ one)) n table
+      both = subst (λ (ms : List ℕ). Holds ms n table) (ap (λ (c : Block). meetings σ c (state .tick)) first ∙ meetings-⧺ σ one rest (state .tick)) (W .holds)
 
       soon : state .tick + time σ one ≤ σ .period
       soon =
@@ -95,22 +121,42 @@ module _ {s : List ℕ} {i to : ℕ} {σ : Settings} {from : State} {old : List 
           )
 
       -- the next byte is at n
-      pub body-fits : {n : ℕ} → n ≡ laidBytes from state → BlockFits s (i + 1) to σ state (lent new n)
+      pub body-fits : {m : ℕ} → m ≡ laidBytes from state → BlockFits s (i + 1) to σ state n table (lent new m)
       unfolding body-entered
-      body-fits h = rw h (record { entered = body-entered (F .statement) k R (W .rounding); fits = record { within = soon; room = writing-room one others split } })
+      body-fits h = rw h (record {
+        entered = body-entered (F .statement) k R (W .rounding);
+        fits = record { within = soon; room = writing-room one others split };
+        holds = holds-left (meetings σ one (state .tick)) (meetings σ rest (state .tick + time σ one)) both;
+      })
 
-      module _ {n : ℕ} (h : n ≡ laidBytes from state) {ys : List ℕ} {r : Passage} (B′ : BlockLaid s (i + 1) to σ state (lent new n) ys r) where
-        B : BlockLaid s (i + 1) to σ state (lent new (laidBytes from state)) ys r
-        B = subst (λ (m : ℕ). BlockLaid s (i + 1) to σ state (lent new m) ys r) h B′
+      module _ {m : ℕ} (h : m ≡ laidBytes from state) {ys : List ℕ} {r : Passage} (B′ : BlockLaid s (i + 1) to σ state n (lent new m) ys r) where
+        B : BlockLaid s (i + 1) to σ state n (lent new (laidBytes from state)) ys r
+        B = subst (λ (v : ℕ). BlockLaid s (i + 1) to σ state n (lent new v) ys r) h B′
 
-        laid-one : LaysTo σ one (i + 1 + size a) state (lent new (laidBytes from state)) ys r
+        laid-one : LaysTo σ one (i + 1 + size a) n state (lent new (laidBytes from state)) ys r
         laid-one = B .right a (body-there (F .statement) k)
 
-        pub rounds-next : WritingRounds (r .state) (r .next) (round + 1) (back new n ys)
-        rounds-next = subst (λ (m : ℕ). WritingRounds (r .state) (r .next) (round + 1) (back new m ys)) (sym h) (record {
+        more-meetings : meetings σ (rounds σ a (round + 1) (from .tick)) (from .tick) ≡ meetings σ (rounds σ a round (from .tick)) (from .tick) ++ meetings σ one (state .tick)
+        more-meetings =
+            ap (λ (c : Block). meetings σ c (from .tick)) (more (F .statement) k R (W .rounding) l (block-passed B))
+            ∙ meetings-⧺ σ (rounds σ a round (from .tick)) one (from .tick)
+            ∙ ap (λ (t : ℕ). meetings σ (rounds σ a round (from .tick)) (from .tick) ++ meetings σ one t) (sym (W .rounding .after .tick))
+
+        pub rounds-next : WritingRounds (r .state) (r .next) (round + 1) (r .ifs) (back new m ys)
+        rounds-next = subst (λ (v : ℕ). WritingRounds (r .state) (r .next) (round + 1) (r .ifs) (back new v ys)) (sym h) (record {
           rounding = rounding-next (F .statement) k R (W .rounding) l (block-passed B) (omega (arith, soon, laid-one .lays .after .tick));
           writing = subst (λ (t : ℕ). Writing σ all (rounds σ a (last - (round + 1)) t ⧺ check-from (check-tick (F .statement) k R)) from (r .state) old (back new (laidBytes from state) ys))
               (sym (laid-one .lays .after .tick)) (writing-next one others split (laid-one .lays));
+          ifs = omega (
+            arith,
+            W .ifs,
+            laid-one .ifs,
+            ap length more-meetings,
+            length-append (meetings σ (rounds σ a round (from .tick)) (from .tick)) (meetings σ one (state .tick)),
+          );
+          holds = subst (λ (t : ℕ). Holds (meetings σ (rounds σ a (last - (round + 1)) t) t) (r .ifs) table) (sym (laid-one .lays .after .tick))
+              (subst (λ (v : ℕ). Holds (meetings σ rest (state .tick + time σ one)) v table) (sym (laid-one .ifs))
+              (holds-right (meetings σ one (state .tick)) (meetings σ rest (state .tick + time σ one)) both));
         })
 
     -- THE CHECK
@@ -132,24 +178,25 @@ module _ {s : List ℕ} {i to : ℕ} {σ : Settings} {from : State} {old : List 
           none : last - round ≡ 0
           none = omega arith
 
-      module _ {x : Rec} (e : x ≡ actRec (check (test (F .statement) k))) {n : ℕ} (h : n ≡ laidBytes from state) where
-        pub check-fits : length (stepBytes σ state 1 x) ≤ length (lent new n)
+      module _ {x : Rec} (e : x ≡ actRec (check (test (F .statement) k))) {m : ℕ} (h : m ≡ laidBytes from state) where
+        pub check-fits : length (stepBytes σ state 1 x) ≤ length (lent new m)
         check-fits = rw h (step-fits σ 1 (check (test (F .statement) k)) e (writing-room (check-from (state .tick)) nil final))
 
-        pub rounds-laid : {ys : List ℕ} {r : State} → StepLaid σ state 1 x (lent new n) ys r
-            → StatementLaid s i to σ from old (back new n ys) (record { state = r; next = next + 1 })
+        pub rounds-laid : {ys : List ℕ} {r : State} → StepLaid σ state 1 x (lent new m) ys r
+            → StatementLaid s i to σ from p old (back new m ys) (record { state = r; next = next + 1; ifs = n })
         rounds-laid {ys} {r} L′ =
-            let L = subst (λ (m : ℕ). StepLaid σ state 1 x (lent new m) ys r) h L′ in
-            subst (λ (m : ℕ). StatementLaid s i to σ from old (back new m ys) (record { state = r; next = next + 1 })) (sym h)
+            let L = subst (λ (v : ℕ). StepLaid σ state 1 x (lent new v) ys r) h L′ in
+            subst (λ (v : ℕ). StatementLaid s i to σ from p old (back new v ys) (record { state = r; next = next + 1; ifs = n })) (sym h)
             (answered-as F (times (test (F .statement) k) (count (F .statement) k) a (afterFirst (block F))) (is-times (F .statement) k) all (laid-whole (F .statement) k R)
             (record {
               lays = writing-end (writing-next (check-from (state .tick)) nil final (step-lays σ 1 (check (test (F .statement) k)) e refl L));
               goes = omega (arith, at-end (F .statement) k R (W .rounding) l);
+              ifs = W .ifs ∙ ap (λ (v : ℕ). p + length (meetings σ (rounds σ a v (from .tick)) (from .tick))) done ∙ ap (λ (ms : List ℕ). p + length ms) (sym the-meetings);
             }))
 
 -- all that is known at a turn of the loop
-pub record WritingLoop (s : List ℕ) (i to : ℕ) (σ : Settings) (from : State) (old : List ℕ) (last : ℕ) (state : State) (next round : ℕ) (new : List ℕ) : Type 0 where
-  pub loop : StatementFits s i to σ from old
+pub record WritingLoop (s : List ℕ) (i to : ℕ) (σ : Settings) (from : State) (p : ℕ) (table old : List ℕ) (last : ℕ) (state : State) (next round n : ℕ) (new : List ℕ) : Type 0 where
+  pub loop : StatementFits s i to σ from p table old
   pub kind : kindAt s i ≡ TIMES
-  pub rounds : Rounds s (i + 1) to (recordAt s i .count) last
-  pub turn : WritingRounds loop kind rounds state next round new
+  pub count-is : last ≡ recordAt s i .count
+  pub turn : WritingRounds loop kind count-is state next round n new

@@ -10,20 +10,22 @@ use Rattle.model.specs.Trees.{Block, _⧺_, size}
 use Rattle.model.specs.Times.{time}
 use Rattle.model.specs.Equalising.{merge}
 use Rattle.model.specs.Layout.{fill, filled}
-use Rattle.records.specs.Blocks.{blockBytes, skipRecords, skipBytes, Wrote}
+use Rattle.model.specs.Replies.{over}
+use Rattle.theory.proofs.Times.{time-⧺}
+use Rattle.records.specs.Blocks.{blockBytes, skipBytes}
 use Rattle.records.proofs.Blocks.{length-block}
-use Rattle.records.proofs.Over.{Part, lent, back, part-first, part-fits-last, part-at, part-length}
-use Rattle.records.proofs.Laying.{wrote-last, wrote-room}
+use Rattle.records.proofs.Over.{Part, lent, back, part-first, part-fits-last, part-at, part-length, part-last}
 use Rattle.placing.specs.declared.clock.State.{State}
 use Rattle.layout.specs.declared.measure.Passage.{Passage}
 use Rattle.placing.specs.Merging.{settled, waits}
 use Rattle.placing.specs.States.{After}
 use Rattle.layout.specs.Measured.{laid}
-use Rattle.placing.specs.Placed.{bytesOf, closingBytes, EndFits}
-use Rattle.layout.specs.Written.{BlockFits, BlockLaid, LaysTo, sideBytes, SideFits, SideLaid}
-use Rattle.placing.proofs.Settling.{waits-⧺, size-settled, size-merge, bytes-settled, bytes-merge}
+use Rattle.placing.specs.Placed.{bytesOf, closingBytes, EndFits, Closed, EndLaid}
+use Rattle.layout.specs.Written.{BlockFits, BlockLaid, LaysTo, sideBytes, SideFits, SideLays, SideLaid}
+use Rattle.placing.proofs.Settling.{waits-⧺, bytes-settled, bytes-merge}
 use Rattle.reading.proofs.Standing.{stands-once}
 use Rattle.placing.proofs.Writing.{laidBytes}
+use Rattle.layout.proofs.Meeting.{size-merges}
 use Rattle.layout.proofs.Passing.{laying-on}
 
 -- a side that is laid as b, after w ticks of SKIP, filled by c and closed by x: what is settled of b, and then its end
@@ -34,10 +36,7 @@ side-bytes : (w : ℕ) (b c : Block) (x : Rec) → blockBytes (merge w (b ⧺ c)
 side-bytes w b c x =
     ap (λ (bs : List ℕ). bs ++ recordBytes x) (bytes-merge w (b ⧺ c) ∙ ap₂ _++_ (bytes-settled w b c) (ap skipBytes (waits-⧺ w b c))) ∙ simp append-assoc
 
-side-size : (w : ℕ) (b c : Block) → size (merge w (b ⧺ c)) ≡ size (settled w b) + size (settled (waits w b) c) + skipRecords (waits w (b ⧺ c))
-side-size w b c = omega (arith, size-merge w (b ⧺ c), size-settled w b c)
-
-module _ {s : List ℕ} {i to : ℕ} {σ : Settings} {at : State} {e : ℕ} {x : Rec} {old : List ℕ} (F : SideFits s i to σ at e x old) where
+module _ {s : List ℕ} {i to : ℕ} {σ : Settings} {at : State} {e : ℕ} {x : Rec} {k : ℕ} {table old : List ℕ} (F : SideFits s i to σ at e x k table old) where
   abbrev b : Block
   b = laid σ (F .entered .file .block) (at .tick)
 
@@ -50,30 +49,31 @@ module _ {s : List ℕ} {i to : ℕ} {σ : Settings} {at : State} {e : ℕ} {x :
   room : length (bytesOf at b ++ endBytes (at .wait) b c x) ≤ length old
   room = subst (λ (bs : List ℕ). length bs ≤ length old) split (F .room)
 
-  few : at .records + (size (settled (at .wait) b) + size (settled (waits (at .wait) b) c)) ≤ 5461
-  few = omega (arith, F .few, side-size (at .wait) b c)
+  sizes : size (merge (at .wait) (filled σ (at .tick) b e)) ≡ size (settled (at .wait) b) + size (merge (waits (at .wait) b) c)
+  sizes = size-merges (at .wait) b c
 
-  pub side-fits : BlockFits s i to σ at old
+  pub side-fits : BlockFits s i to σ at k table old
   side-fits = record {
     entered = F .entered;
     fits = record {
       within = omega (arith, F .reaches, F .upto);
-      room = record { few = omega (arith, few); room = omega (arith, room, length-append (bytesOf at b) (endBytes (at .wait) b c x)) };
+      room = record { few = omega (arith, F .few, sizes); room = omega (arith, room, length-append (bytesOf at b) (endBytes (at .wait) b c x)) };
     };
+    holds = F .holds;
   }
 
-  module _ {new : List ℕ} {r : Passage} (B : BlockLaid s i to σ at old new r) where
-    laid-block : LaysTo σ b (i + size (F .entered .file .block)) at old new r
+  module _ {new : List ℕ} {r : Passage} (B : BlockLaid s i to σ at k old new r) where
+    laid-block : LaysTo σ b (i + size (F .entered .file .block)) k at old new r
     laid-block = B .right (F .entered .file .block) (F .entered .file .stands)
 
     after : After σ b at (r .state)
     after = laid-block .lays .after
 
     counts : r .state .records ≡ at .records + size (settled (at .wait) b)
-    counts = omega (arith, after .records, few)
+    counts = omega (arith, after .records, F .few, sizes)
 
     pub side-upto : (at .records ≤ r .state .records) × (r .state .records ≤ 5462)
-    side-upto = (omega (arith, counts), omega (arith, counts, few))
+    side-upto = (omega (arith, counts), omega (arith, counts, F .few, sizes))
 
     -- the next byte is at n
     module _ {n : ℕ} (h : n ≡ laidBytes at (r .state)) where
@@ -93,28 +93,42 @@ module _ {s : List ℕ} {i to : ℕ} {σ : Settings} {at : State} {e : ℕ} {x :
       ends =
           ap₂ (λ (t m : ℕ). blockBytes (settled m (fill σ (e - t) t e)) ++ (skipBytes (waits m (fill σ (e - t) t e)) ++ recordBytes x)) (after .tick) (after .wait)
 
-      filling : settled (r .state .wait) (fill σ (e - r .state .tick) (r .state .tick) e) ≡ settled (waits (at .wait) b) c
-      filling = ap₂ (λ (t m : ℕ). settled m (fill σ (e - t) t e)) (after .tick) (after .wait)
+      filling : size (merge (r .state .wait) (fill σ (e - r .state .tick) (r .state .tick) e)) ≡ size (merge (waits (at .wait) b) c)
+      filling = ap₂ (λ (t m : ℕ). size (merge m (fill σ (e - t) t e))) (after .tick) (after .wait)
+
+      lasts : time σ (fill σ (e - r .state .tick) (r .state .tick) e) ≡ time σ c
+      lasts = ap (λ (t : ℕ). time σ (fill σ (e - t) t e)) (after .tick)
 
       pub end-fits : EndFits σ (r .state) e x (lent new n)
       end-fits = record {
-        laying = laying-on (F .entered .laying) after (omega (arith, after .tick, F .reaches, F .upto));
-        reaches = omega (arith, after .tick, F .reaches);
-        upto = F .upto;
-        few = omega (arith, ap size filling, counts, few);
+        can = record {
+          laying = laying-on (F .entered .laying) after (omega (arith, after .tick, F .reaches, F .upto));
+          reaches = omega (arith, after .tick, F .reaches);
+          upto = F .upto;
+          free = F .free;
+        };
+        few = omega (arith, filling, counts, F .few, sizes);
         room = subst (λ (bs : List ℕ). length bs ≤ length (lent new n)) (sym ends) (part-fits-last part);
       }
 
-      module _ {ys : List ℕ} {m : ℕ} (E : Wrote (closingBytes σ (r .state) e x) (lent new n) ys m) where
-        ended : Wrote (endBytes (at .wait) b c x) (lent new n) ys m
-        ended = subst (λ (bs : List ℕ). Wrote bs (lent new n) ys m) ends E
+      module _ {ys : List ℕ} {q : State} (E : EndLaid σ (r .state) e x (lent new n) ys q) where
+        closed : Closed σ (filled σ (at .tick) b e) at q
+        closed = record {
+          shows = E .closed .shows;
+          tick = omega (arith, E .closed .tick, after .tick, lasts, time-⧺ σ b c);
+          wait = E .closed .wait;
+          records = omega (arith, E .closed .records, counts, filling, sizes);
+        }
 
-        pub side-room : n + m ≤ length old
-        side-room = wrote-room part ended
-
-        pub side-laid : SideLaid s i to σ at e x old (back new n ys) (n + m)
+        pub side-laid : SideLaid s i to σ at e x k old (back new n ys) (record { state = q; next = r .next; ifs = r .ifs })
         side-laid = record {
           right = λ d D.
-              subst (λ (z : Block). Wrote (sideBytes σ at z e x) old (back new n ys) (n + m)) (stands-once (F .entered .file .block) d (F .entered .file .stands) D)
-              (wrote-last part ended);
+              subst (λ (z : Block). SideLays σ z e x (i + size z) k at old (back new n ys) (record { state = q; next = r .next; ifs = r .ifs }))
+              (stands-once (F .entered .file .block) d (F .entered .file .stands) D)
+              (record {
+                closed = closed;
+                wrote = part-last part (E .wrote ∙ ap (λ (bs : List ℕ). over bs (lent new n)) ends);
+                goes = laid-block .goes;
+                ifs = laid-block .ifs;
+              });
         }

@@ -1,5 +1,6 @@
 -- Writing a statement that opens no block: a SKIP, or a step with its record.
 use Prim.Native.Nat.{ℕ, _+_, _≤_}
+use native.Mathlib.Omega.{arith}
 use mathlib.Core.Path.{_≡_, refl, ap, sym, subst, _∙_}
 use mathlib.Core.List.{List, _++_}
 use lib.ListN.{length}
@@ -8,7 +9,7 @@ use Rattle.model.specs.declared.Settings.{Settings}
 use Rattle.model.specs.Records.{Rec, recordAt, SKIP, IF, TIMES}
 use Rattle.model.specs.Trees.{Act, Block, nil, skip, act, _⧺_, actRec}
 use Rattle.model.specs.Times.{ticks, time}
-use Rattle.model.specs.Layout.{before, idles, fill}
+use Rattle.model.specs.Layout.{before, idles}
 use Rattle.model.specs.Replies.{over}
 use Rattle.records.specs.declared.Record.{Record}
 use Rattle.records.specs.Records.{recordOf}
@@ -21,13 +22,14 @@ use Rattle.placing.specs.declared.clock.State.{State}
 use Rattle.layout.specs.declared.measure.Passage.{Passage}
 use Rattle.placing.specs.Merging.{waits}
 use Rattle.layout.specs.Ranges.{only}
-use Rattle.layout.specs.Measured.{laid, Passes, StatementPassed}
+use Rattle.layout.specs.Measured.{laid, StatementPassed}
+use Rattle.layout.specs.Meetings.{meetings, Holds}
 use Rattle.placing.specs.Placed.{bytesOf, Room, Lays, stepBytes, StepLaid}
 use Rattle.layout.specs.Written.{LaidFits, StatementFits, LaysTo, StatementLaid}
 use Rattle.placing.proofs.Settling.{bytes-settled}
-use Rattle.placing.proofs.Filling.{skip-within}
 use Rattle.reading.proofs.Standing.{stands-once, skip-at}
 use Rattle.layout.proofs.Unrolled.{laid-skip, laid-act}
+use Rattle.layout.proofs.Noting.{plain-idles, plain-step}
 use Rattle.layout.proofs.Passing.{passed}
 use Rattle.layout.proofs.PassingSteps.{kind-there, count-there, is-act, act-lasts}
 
@@ -53,10 +55,10 @@ module _ (σ : Settings) {s : State} (d : ℕ) {x : Rec} (p : Act) (e : x ≡ ac
 -- A STATEMENT
 
 -- what is laid has passed
-pub laid-passed : {s : List ℕ} {i to : ℕ} {σ : Settings} {at : State} {old new : List ℕ} {r : Passage} → StatementLaid s i to σ at old new r → StatementPassed s i to σ at r
+pub laid-passed : {s : List ℕ} {i to : ℕ} {σ : Settings} {at : State} {k : ℕ} {old new : List ℕ} {r : Passage} → StatementLaid s i to σ at k old new r → StatementPassed s i to σ at r
 laid-passed L = record { right = λ b B. passed (L .right b B .lays .after) (L .right b B .goes) }
 
-module _ {s : List ℕ} {i to : ℕ} {σ : Settings} {from : State} {old : List ℕ} (F : StatementFits s i to σ from old) where
+module _ {s : List ℕ} {i to : ℕ} {σ : Settings} {from : State} {k : ℕ} {table old : List ℕ} (F : StatementFits s i to σ from k table old) where
   abbrev pub block : Block
   block = F .statement .entered .file .block
 
@@ -68,55 +70,50 @@ module _ {s : List ℕ} {i to : ℕ} {σ : Settings} {from : State} {old : List 
     pub fits-as : LaidFits σ c from old
     fits-as = subst (λ (x : Block). LaidFits σ x from old) (ap (λ (y : Block). laid σ (only y) (from .tick)) e ∙ f) (F .fits)
 
-    pub answered-as : {new : List ℕ} {r : Passage} → LaysTo σ c (i + firstSize b) from old new r → StatementLaid s i to σ from old new r
+    pub holds-as : Holds (meetings σ c (from .tick)) k table
+    holds-as = subst (λ (x : Block). Holds (meetings σ x (from .tick)) k table) (ap (λ (y : Block). laid σ (only y) (from .tick)) e ∙ f) (F .holds)
+
+    pub answered-as : {new : List ℕ} {r : Passage} → LaysTo σ c (i + firstSize b) k from old new r → StatementLaid s i to σ from k old new r
     answered-as {new} {r} L = record {
       right = λ y Y.
-          subst (λ (z : Block). LaysTo σ (laid σ (only z) (from .tick)) (i + firstSize z) from old new r) (sym e ∙ stands-once block y stands Y)
-          (subst (λ (x : Block). LaysTo σ x (i + firstSize b) from old new r) (sym f) L);
+          subst (λ (z : Block). LaysTo σ (laid σ (only z) (from .tick)) (i + firstSize z) k from old new r) (sym e ∙ stands-once block y stands Y)
+          (subst (λ (x : Block). LaysTo σ x (i + firstSize b) k from old new r) (sym f) L);
     }
-
-  -- what passed and was written is laid
-  pub passed-laid : {new : List ℕ} {r : Passage} → StatementPassed s i to σ from r → new ≡ over (bytesOf from (laid σ (only block) (from .tick))) old
-      → StatementLaid s i to σ from old new r
-  passed-laid {new} {r} P e =
-      answered-as block refl _ refl (record { lays = record { after = Q .after (F .fits .within); wrote = e }; goes = Q .goes (F .fits .within) })
-    where
-      Q : Passes σ (laid σ (only block) (from .tick)) (i + firstSize block) from r
-      Q = P .right block stands
 
   -- the record at i
   module _ {x : Record} (e : recordOf x ≡ recordAt s i) where
-    -- a SKIP is laid as the filling up to a tick past P
-    module _ (k : x .kind ≡ SKIP) where
+    -- a SKIP
+    module _ (h : x .kind ≡ SKIP) where
       abbrev n : ℕ
       n = recordAt s i .count
 
       is-skip : block ≡ skip n (afterFirst block)
-      is-skip = skip-at block stands (F .statement .early) (F .statement .goes-on) (kind-there (F .statement) e k)
+      is-skip = skip-at block stands (F .statement .early) (F .statement .goes-on) (kind-there (F .statement) e h)
 
-      within : from .tick + time σ (idles σ n (from .tick)) ≤ σ .period
-      within = fits-as (skip n (afterFirst block)) is-skip (idles σ n (from .tick)) (laid-skip σ n (from .tick)) .within
+      as-skips : laid σ (only (skip n (afterFirst block))) (from .tick) ≡ idles σ (x .count) (from .tick)
+      as-skips = laid-skip σ n (from .tick) ∙ ap (λ (m : ℕ). idles σ m (from .tick)) (sym (count-there (F .statement) e))
 
-      as-filled : laid σ (only (skip n (afterFirst block))) (from .tick) ≡ fill σ (x .count) (from .tick) (σ .period + 1)
-      as-filled =
-          laid-skip σ n (from .tick)
-          ∙ sym (skip-within σ n (from .tick) within)
-          ∙ ap (λ (m : ℕ). fill σ m (from .tick) (σ .period + 1)) (sym (count-there (F .statement) e))
+      skip-fits : LaidFits σ (idles σ (x .count) (from .tick)) from old
+      skip-fits = fits-as (skip n (afterFirst block)) is-skip _ as-skips
 
-      pub skip-room : Room (fill σ (x .count) (from .tick) (σ .period + 1)) from old
-      skip-room = fits-as (skip n (afterFirst block)) is-skip _ as-filled .room
+      pub skip-soon : from .tick + time σ (idles σ (x .count) (from .tick)) ≤ σ .period
+      skip-soon = skip-fits .within
 
-      pub skip-laid : {new : List ℕ} {r : State} → Lays σ (fill σ (x .count) (from .tick) (σ .period + 1)) from old new r
-          → StatementLaid s i to σ from old new (record { state = r; next = i + 1 })
-      skip-laid L = answered-as (skip n (afterFirst block)) is-skip _ as-filled (record { lays = L; goes = refl })
+      pub skip-room : Room (idles σ (x .count) (from .tick)) from old
+      skip-room = skip-fits .room
+
+      pub skip-laid : {new : List ℕ} {r : State} → Lays σ (idles σ (x .count) (from .tick)) from old new r
+          → StatementLaid s i to σ from k old new (record { state = r; next = i + 1; ifs = k })
+      skip-laid L = answered-as (skip n (afterFirst block)) is-skip _ as-skips
+          (record { lays = L; goes = refl; ifs = omega (arith, ap length (plain-idles σ (x .count) (from .tick) (from .tick))) })
 
     -- any other is a step
-    module _ (k : x .kind ≡ SKIP → ⊥) (m : x .kind ≡ IF → ⊥) (l : x .kind ≡ TIMES → ⊥) {d : ℕ} (h : d ≡ stepTicks σ (recordOf x)) where
+    module _ (no : x .kind ≡ SKIP → ⊥) (m : x .kind ≡ IF → ⊥) (l : x .kind ≡ TIMES → ⊥) {d : ℕ} (h : d ≡ stepTicks σ (recordOf x)) where
       abbrev the : IsAct (recordAt s i) block
-      the = is-act (F .statement) e k m l
+      the = is-act (F .statement) e no m l
 
       lasts : ticks σ (the .act-of) ≡ d
-      lasts = act-lasts (F .statement) e k m l ∙ sym h
+      lasts = act-lasts (F .statement) e no m l ∙ sym h
 
       as-step : laid σ (only (act (the .act-of) (afterFirst block))) (from .tick) ≡ before σ (from .tick) d ⧺ act (the .act-of) nil
       as-step = laid-act σ (the .act-of) (from .tick) ∙ ap (λ (n : ℕ). before σ (from .tick) n ⧺ act (the .act-of) nil) lasts
@@ -124,6 +121,12 @@ module _ {s : List ℕ} {i to : ℕ} {σ : Settings} {from : State} {old : List 
       pub act-fits : length (stepBytes σ from d (recordOf x)) ≤ length old
       act-fits = step-fits σ d (the .act-of) (e ∙ the .same) (fits-as (act (the .act-of) (afterFirst block)) (the .is) _ as-step .room)
 
-      pub act-laid : {new : List ℕ} {r : State} → StepLaid σ from d (recordOf x) old new r → StatementLaid s i to σ from old new (record { state = r; next = i + 1 })
+      pub act-laid : {new : List ℕ} {r : State} → StepLaid σ from d (recordOf x) old new r
+          → StatementLaid s i to σ from k old new (record { state = r; next = i + 1; ifs = k })
       act-laid L =
-          answered-as (act (the .act-of) (afterFirst block)) (the .is) _ as-step (record { lays = step-lays σ d (the .act-of) (e ∙ the .same) lasts L; goes = refl })
+          answered-as (act (the .act-of) (afterFirst block)) (the .is) _ as-step
+          (record {
+            lays = step-lays σ d (the .act-of) (e ∙ the .same) lasts L;
+            goes = refl;
+            ifs = omega (arith, ap length (plain-step σ d (the .act-of) (from .tick)));
+          })

@@ -1,5 +1,9 @@
 -- What the contracts of laying out cite beside the model's definitions.
 pub mod Ranges
+pub mod Idling
 pub mod Measured
+pub mod Meetings
+pub mod Lent
+pub mod Clocked
 pub mod Written
 pub mod Answers

@@ -9,13 +9,14 @@ use Rattle.model.specs.Records.{kindAt}
 use Rattle.model.specs.Trees.{Block, size, fileTree}
 use Rattle.model.specs.Times.{time}
 use Rattle.model.specs.Equalising.{merge}
-use Rattle.model.specs.Layout.{copies, unroll, filled, lay, opened}
+use Rattle.model.specs.Layout.{unroll, filled, lay, opened}
 use Rattle.theory.proofs.Windows.{Free}
+use Rattle.records.specs.Blocks.{skipRecords}
 use Rattle.reading.specs.Closing.{closesBlock}
 use Rattle.reading.specs.Ranges.{Stands, InFile, firstSize}
 use Rattle.placing.specs.declared.clock.State.{State}
 use Rattle.layout.specs.declared.measure.Passage.{Passage}
-use Rattle.placing.specs.States.{cap, Shows, Laying, After, aside, started}
+use Rattle.placing.specs.States.{cap, Shows, Laying, After, backTo, started}
 use Rattle.layout.specs.Ranges.{only}
 
 -- an equalised block laid from tick t on
@@ -35,16 +36,20 @@ pub record Met (σ : Settings) (s : State) (a d : Block) (r : State) : Type 0 wh
   pub wait : r .wait ≡ 0
   pub records : r .records ≡ cap (s .records + (2 + size (merge 0 (filled σ (s .tick) a (r .tick))) + size (merge 0 (filled σ (s .tick) d (r .tick)))))
 
--- they end at x and y
-pub record Meeting (σ : Settings) (s x y : State) : Type 0 where
-  pub test : Laying σ s
+-- the clock of the later side, after n records and those of what waits there, and of what closes both sides
+abbrev pub metAt : State → ℕ → State
+metAt l n = record { tick = l .tick; left = l .left; windows = l .windows; wait = 0; records = cap (n + (2 + skipRecords (l .wait))) }
+
+-- the sides of an IF end at x and y
+pub record Meeting (σ : Settings) (x y : State) : Type 0 where
   pub one : Laying σ x
   pub two : Laying σ y
   pub free-one : Free σ 1 (x .tick)
   pub free-two : Free σ 1 (y .tick)
 
-pub record Meets (σ : Settings) (s x y r : State) : Type 0 where
-  pub right : (a d : Block) → After σ a (aside s) x → After σ d (aside s) y → Met σ s a d r
+-- the second was counted after the first
+pub record Meets (σ : Settings) (x y r : State) : Type 0 where
+  pub right : (s : State) (a d : Block) → s .wait ≡ 0 → After σ a s x → After σ d (backTo s 0 (x .records)) y → Met σ s a d r
 
 -- a block of the file is laid from s on
 pub record Entered (s : List ℕ) (i to : ℕ) (σ : Settings) (at : State) : Type 0 where
@@ -64,11 +69,6 @@ pub record BlockPassed (s : List ℕ) (i to : ℕ) (σ : Settings) (at : State) 
 
 pub record StatementPassed (s : List ℕ) (i to : ℕ) (σ : Settings) (at : State) (r : Passage) : Type 0 where
   pub right : (b : Block) → Stands Equalised s i to b → Passes σ (laid σ (only b) (at .tick)) (i + firstSize b) at r
-
--- n rounds of the body at i are as many as c: none are walked of an empty one
-pub record Rounds (s : List ℕ) (i to c n : ℕ) : Type 0 where
-  pub same : (a : Block) → Stands Equalised s i to a → copies n (unroll a) ≡ copies c (unroll a)
-  pub none : (a : Block) → Stands Equalised s i to a → n ≡ 0 → (c ≡ 0 → ⊥) → size a ≡ 0
 
 -- the whole file from tick 0 on, up to its last step
 pub record FilePassed (s : List ℕ) (σ : Settings) (r : State) : Type 0 where

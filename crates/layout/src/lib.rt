@@ -1,5 +1,7 @@
 // The equalised file unrolled, with heartbeats and checkpoints at their ticks. One pass measures the result, and one writes it.
+mod lent;
 mod measure;
+mod skips;
 mod write;
 
 ghost use mathlib.Core.Path.{_≡_};
@@ -17,6 +19,7 @@ use model::Settings;
 use records::no_room;
 use records::settings::Decoded;
 use records::skips::skip_records;
+use timing::ticks::ticks_of;
 use write::write_file;
 
 // The longest of the steps that are no commands.
@@ -44,7 +47,9 @@ fn lay_out_sound(file: &[u8], n: Settings, out: &mut [u8]) -> LaidOut
     if short_window(n) {
         return LaidOut::Refused(Refusal::ShortWindow);
     }
-    let end = measure_file(file, n);
+    let t = ticks_of(n);
+    let mut meets: [u32; 1821] = [0; 1821];
+    let end = measure_file(file, &t, &mut meets);
     let total = end.tick as u64 + end.left as u64 + n.beat as u64;
     if (n.period as u64) < total {
         return LaidOut::Refused(Refusal::OverPeriod);
@@ -53,7 +58,7 @@ fn lay_out_sound(file: &[u8], n: Settings, out: &mut [u8]) -> LaidOut
     if no_room(out.len(), records) {
         return LaidOut::Refused(Refusal::NoRoom);
     }
-    write_file(file, n, out);
+    write_file(file, n, &meets, out);
     LaidOut::Written {
         bytes: 12 * records,
         total: total as u32,

@@ -1,30 +1,47 @@
-// The first pass: where laying a block ends, and how many records it takes. Nothing is written, and only the period ends it early.
+// The first pass: where laying a block ends, how many records it takes, and the tick where the sides of each IF meet. Only the period
+// ends it early. The settings are a lent table, t, whose last number is the period; the first number of the clock is the tick.
 ghost use mathlib.Core.Path.{_≡_};
-ghost use Prim.Native.Nat.{_*_, _+_, _≤_, _<_, max};
-ghost use lib.ListN.{length};
+ghost use Prim.Native.Nat.{_+_, _≤_, _<_, max};
+ghost use mathlib.Core.Bool.{true, _||_};
+ghost use lib.Dec.{eqb};
 ghost use Rattle.model.specs.declared.Form.the-variants.{Equalised};
 ghost use Rattle.model.specs.Records.{kindAt, recordAt, IF, TIMES};
-ghost use Rattle.placing.specs.States.{Layable, aside};
+ghost use Rattle.placing.specs.States.{Layable};
 ghost use Rattle.reading.specs.Ranges.{SoundFile};
-ghost use Rattle.layout.specs.Measured.{Meeting, Meets, Entered, Statement, BlockPassed, StatementPassed, Rounds, FilePassed};
+ghost use Rattle.records.specs.Records.{recordOf};
+ghost use Rattle.layout.specs.Measured.{metAt, Meeting, Meets};
+ghost use Rattle.layout.specs.Meetings.{Noting, FileMeasured};
+ghost use Rattle.timing.specs.Times.{settingsIn};
+ghost use Rattle.layout.specs.Clocked.{StepStarts, StepEnds, BlockLent, StatementLent, BlockClocked, StatementClocked};
+use crate::lent::load;
+use crate::lent::place;
+use crate::lent::store;
+use crate::skips::idle_rounds;
+use crate::skips::measure_idle;
 use model::Settings;
 use placing::clock::State;
+use placing::clock::back;
 use placing::clock::commanded;
 use placing::clock::counted;
+use placing::clock::fill_count;
 use placing::clock::filled;
 use placing::clock::start;
 use placing::clock::stepped;
 use reading::blocks::closes;
+use records::Record;
 use records::kind_at;
 use records::kinds;
 use records::record_at;
 use records::skips::skip_records;
+use timing::ticks::settings_in;
 use timing::ticks::step_ticks;
 
-// The state after a part of the file, and the index of the record after it. A tick above the period says that alone.
+// The state after a part of the file, the index of the record after it, and the next place of the table of meetings. Writing answers
+// it; measuring leaves the state and the place on the clock.
 pub struct Passage {
     pub state: State,
     pub next: usize,
+    pub ifs: usize,
 }
 
 pub fn later(x: u32, y: u32) -> u32
@@ -36,153 +53,219 @@ pub fn later(x: u32, y: u32) -> u32
     x
 }
 
-// A side of an IF counts its own records.
-pub fn side(s: State) -> State
-    ensures { λ r. ⌜ r ≡ aside s ⌝ }
+// The clock of the later side, after the records that are counted up to there.
+fn met(late: State, count: usize) -> State
+    requires { ⌜ count ≤ 5463 ⌝ }
+    ensures { λ r. ⌜ r ≡ metAt late count ⌝ }
 {
     State {
-        tick: s.tick,
-        left: s.left,
-        windows: s.windows,
+        tick: late.tick,
+        left: late.left,
+        windows: late.windows,
         wait: 0,
-        records: 0,
+        records: counted(count, 2 + skip_records(late.wait as u64)),
     }
 }
 
-// Where the sides of an IF meet that end at these states: the earlier is filled up to the later.
-pub fn meet(n: Settings, test: State, one: State, two: State) -> State
-    requires { ⌜ Meeting n test one two ⌝ }
-    ensures { λ r. ⌜ Meets n test one two r ⌝ }
+// Where the sides of an IF meet that end at these states, the second counted after the first: the earlier is filled up to the later.
+fn meet(n: Settings, one: State, two: State) -> State
+    requires { ⌜ Meeting n one two ⌝ }
+    ensures { λ r. ⌜ Meets n one two r ⌝ }
 {
-    let end = later(one.tick, two.tick);
-    let x = filled(n, one, end - one.tick, end);
-    let y = filled(n, two, end - two.tick, end);
-    let first = x.records + skip_records(x.wait as u64);
-    let second = y.records + skip_records(y.wait as u64);
-    State {
-        tick: end,
-        left: x.left,
-        windows: x.windows,
-        wait: 0,
-        records: counted(test.records, 2 + first + second),
+    if one.tick < two.tick {
+        return met(
+            two,
+            fill_count(n, back(one, one.wait, two.records), two.tick),
+        );
+    }
+    met(one, fill_count(n, two, one.tick))
+}
+
+// The tick where the sides of an IF meet, noted at its place, if the table has that.
+fn note(meets: &mut [u32; 1821], k: usize, tick: u32)
+    ensures { λ _. ⌜ Noting k tick (now (meets .entry)) (now (meets .exit)) ⌝ }
+{
+    if k < 1821 {
+        meets[k] = tick;
     }
 }
 
-// The rounds to walk of a loop whose body starts at i: an empty body needs none.
-pub fn rounds(s: &[u8], i: usize, to: usize, count: u32) -> u32
-    requires { ⌜ (12 * i + 12 ≤ length (now s)) × (i < to) ⌝ }
-    ensures { λ r. ⌜ Rounds (now (s .entry)) i to count r ⌝ }
+// Whether a record of that kind opens a block of an equalised file.
+fn nests(kind: u8) -> bool
+    ensures { λ r. ⌜ r ≡ (eqb kind IF || eqb kind TIMES) ⌝ }
+{
+    (kind == kinds::IF) | (kind == kinds::TIMES)
+}
+
+// A step, or a SKIP, with the record r.
+fn measure_step(t: &[u32; 16], r: Record, from: State) -> State
+    requires { ⌜ StepStarts (settingsIn (now t)) (recordOf r) from ⌝ }
+    ensures { λ x. ⌜ StepEnds (settingsIn (now (t .entry))) (recordOf r) from x ⌝ }
+{
+    let n = settings_in(t);
+    if r.kind == kinds::SKIP {
+        return filled(n, from, r.count);
+    }
+    stepped(n, from, step_ticks(n, r))
+}
+
+// The side of an IF at i: an empty one is not walked.
+fn measure_side(
+    s: &[u8],
+    i: usize,
+    to: usize,
+    t: &[u32; 16],
+    clock: &mut [u32; 6],
+    meets: &mut [u32; 1821],
+) -> usize
+    requires { ⌜ (BlockLent (now s) i to (now t) (now clock)) × (i < to) ⌝ }
+    ensures { λ r. ⌜ BlockClocked (now (s .entry)) i to (now (t .entry)) (now (clock .entry)) (now (clock .exit)) (now (meets .entry)) (now (meets .exit)) r ⌝ }
 {
     if closes(kind_at(s, i)) {
-        return 0;
+        return i;
     }
-    count
+    measure_block(s, i, to, t, clock, meets)
 }
 
-// The IF at i.
-fn measure_branch(s: &[u8], i: usize, to: usize, n: Settings, from: State) -> Passage
-    requires { ⌜ (Statement (now s) i to n from) × (kindAt (now s) i ≡ IF) ⌝ }
-    ensures { λ r. ⌜ StatementPassed (now (s .entry)) i to n from r ⌝ }
+// The IF at i. Its second side starts at the tick of its first, and its records are counted after those.
+fn measure_branch(
+    s: &[u8],
+    i: usize,
+    to: usize,
+    t: &[u32; 16],
+    clock: &mut [u32; 6],
+    meets: &mut [u32; 1821],
+) -> usize
+    requires { ⌜ (StatementLent (now s) i to (now t) (now clock)) × (kindAt (now s) i ≡ IF) ⌝ }
+    ensures { λ r. ⌜ StatementClocked (now (s .entry)) i to (now (t .entry)) (now (clock .entry)) (now (clock .exit)) (now (meets .entry)) (now (meets .exit)) r ⌝ }
 {
-    let test = stepped(n, from, 1);
-    if n.period < test.tick {
-        return Passage {
-            state: test,
-            next: i,
-        };
+    let test = stepped(settings_in(t), load(clock), 1);
+    store(clock, test);
+    if t[15] < test.tick {
+        return i;
     }
-    let first = measure_block(s, i + 1, to, n, side(test));
-    let one = first.state;
-    if n.period < one.tick {
-        return first;
+    let k = place(clock);
+    let mid = measure_side(s, i + 1, to, t, clock, meets);
+    let one = load(clock);
+    if t[15] < one.tick {
+        return mid;
     }
-    let second = measure_block(s, first.next + 1, to, n, side(test));
-    let two = second.state;
-    if n.period < two.tick {
-        return second;
+    let start = back(test, 0, one.records);
+    store(clock, start);
+    let end = measure_side(s, mid + 1, to, t, clock, meets);
+    let two = load(clock);
+    if t[15] < two.tick {
+        return end;
     }
-    Passage {
-        state: meet(n, test, one, two),
-        next: second.next + 1,
-    }
+    let state = meet(settings_in(t), one, two);
+    store(clock, state);
+    note(meets, k, state.tick);
+    end + 1
 }
 
 // The loop at i, with that count.
-fn measure_rounds(s: &[u8], i: usize, to: usize, count: u32, n: Settings, from: State) -> Passage
-    requires { ⌜ (Statement (now s) i to n from) × (kindAt (now s) i ≡ TIMES) × (count ≡ recordAt (now s) i .count) ⌝ }
-    ensures { λ r. ⌜ StatementPassed (now (s .entry)) i to n from r ⌝ }
+fn measure_rounds(
+    s: &[u8],
+    i: usize,
+    to: usize,
+    count: u32,
+    t: &[u32; 16],
+    clock: &mut [u32; 6],
+    meets: &mut [u32; 1821],
+) -> usize
+    requires { ⌜ (StatementLent (now s) i to (now t) (now clock)) × (kindAt (now s) i ≡ TIMES) × (count ≡ recordAt (now s) i .count) ⌝ }
+    ensures { λ r. ⌜ StatementClocked (now (s .entry)) i to (now (t .entry)) (now (clock .entry)) (now (clock .exit)) (now (meets .entry)) (now (meets .exit)) r ⌝ }
 {
     let body = i + 1;
-    let last = rounds(s, body, to, count);
-    let mut state = from;
     let mut next = body;
     let mut round: u32 = 0;
-    while round < last {
-        let e = measure_block(s, body, to, n, state);
-        state = e.state;
-        next = e.next;
-        if n.period < state.tick {
-            return e;
+    while round < count {
+        next = measure_block(s, body, to, t, clock, meets);
+        if t[15] < clock[0] {
+            return next;
         }
         round += 1;
     }
-    Passage {
-        state: stepped(n, state, 1),
-        next: next + 1,
-    }
+    let state = stepped(settings_in(t), load(clock), 1);
+    store(clock, state);
+    next + 1
 }
 
-// The statement at i.
-fn measure_statement(s: &[u8], i: usize, to: usize, n: Settings, from: State) -> Passage
-    requires { ⌜ Statement (now s) i to n from ⌝ }
-    ensures { λ r. ⌜ StatementPassed (now (s .entry)) i to n from r ⌝ }
+// The IF or the loop at i.
+fn measure_inner(
+    s: &[u8],
+    i: usize,
+    to: usize,
+    t: &[u32; 16],
+    clock: &mut [u32; 6],
+    meets: &mut [u32; 1821],
+) -> usize
+    requires { ⌜ (StatementLent (now s) i to (now t) (now clock)) × ((eqb (kindAt (now s) i) IF || eqb (kindAt (now s) i) TIMES) ≡ true) ⌝ }
+    ensures { λ r. ⌜ StatementClocked (now (s .entry)) i to (now (t .entry)) (now (clock .entry)) (now (clock .exit)) (now (meets .entry)) (now (meets .exit)) r ⌝ }
 {
     let r = record_at(s, i);
     if r.kind == kinds::IF {
-        return measure_branch(s, i, to, n, from);
+        return measure_branch(s, i, to, t, clock, meets);
     }
-    if r.kind == kinds::TIMES {
-        return measure_rounds(s, i, to, r.count, n, from);
+    let idle = idle_rounds(s, i + 1, to, r.count, t[15]);
+    if idle.only {
+        store(clock, measure_idle(t, load(clock), idle.ticks));
+        return idle.next + 1;
     }
-    let next = i + 1;
-    if r.kind == kinds::SKIP {
-        let state = filled(n, from, r.count, n.period + 1);
-        return Passage { state, next };
-    }
-    let state = stepped(n, from, step_ticks(n, r));
-    Passage { state, next }
+    measure_rounds(s, i, to, r.count, t, clock, meets)
 }
 
 // The block at `from`, up to the record that closes it.
-pub fn measure_block(s: &[u8], from: usize, to: usize, n: Settings, at: State) -> Passage
-    requires { ⌜ Entered (now s) from to n at ⌝ }
-    ensures { λ r. ⌜ BlockPassed (now (s .entry)) from to n at r ⌝ }
+fn measure_block(
+    s: &[u8],
+    from: usize,
+    to: usize,
+    t: &[u32; 16],
+    clock: &mut [u32; 6],
+    meets: &mut [u32; 1821],
+) -> usize
+    requires { ⌜ BlockLent (now s) from to (now t) (now clock) ⌝ }
+    ensures { λ r. ⌜ BlockClocked (now (s .entry)) from to (now (t .entry)) (now (clock .entry)) (now (clock .exit)) (now (meets .entry)) (now (meets .exit)) r ⌝ }
 {
-    let mut state = at;
+    let mut state = load(clock);
     let mut next = from;
     while next < to {
-        if closes(kind_at(s, next)) {
-            return Passage { state, next };
+        let r = record_at(s, next);
+        if closes(r.kind) {
+            store(clock, state);
+            return next;
         }
-        let e = measure_statement(s, next, to, n, state);
-        state = e.state;
-        next = e.next;
-        if n.period < state.tick {
-            return e;
+        if nests(r.kind) {
+            store(clock, state);
+            next = measure_inner(s, next, to, t, clock, meets);
+            state = load(clock);
+            if t[15] < state.tick {
+                return next;
+            }
+            continue;
+        }
+        state = measure_step(t, r, state);
+        next += 1;
+        if t[15] < state.tick {
+            store(clock, state);
+            return next;
         }
     }
-    Passage { state, next }
+    store(clock, state);
+    next
 }
 
 // The whole file, from tick 0 up to its last step.
-pub fn measure_file(s: &[u8], n: Settings) -> State
-    requires { ⌜ (SoundFile Equalised (now s)) × (Layable n) ⌝ }
-    ensures { λ r. ⌜ FilePassed (now (s .entry)) n r ⌝ }
+pub fn measure_file(s: &[u8], t: &[u32; 16], meets: &mut [u32; 1821]) -> State
+    requires { ⌜ (SoundFile Equalised (now s)) × (Layable (settingsIn (now t))) ⌝ }
+    ensures { λ r. ⌜ FileMeasured (now (s .entry)) (settingsIn (now (t .entry))) (now (meets .entry)) (now (meets .exit)) r ⌝ }
 {
-    let opened = commanded(n, start());
-    if n.period < opened.tick {
+    let opened = commanded(settings_in(t), start());
+    if t[15] < opened.tick {
         return opened;
     }
-    let e = measure_block(s, 0, s.len() / 12, n, opened);
-    e.state
+    let mut clock: [u32; 6] = [0; 6];
+    store(&mut clock, opened);
+    measure_block(s, 0, s.len() / 12, t, &mut clock, meets);
+    load(&clock)
 }

@@ -5,7 +5,7 @@ pub mod Going
 pub mod Ticking
 pub mod Moves
 pub mod Filling
-pub mod Turns
+pub mod Windowing
 pub mod Writing
 pub mod PieceBytes
-pub mod WritingTurns
+pub mod WritingWindows

@@ -10,15 +10,18 @@ use borrow.Author.Tests.{eq-eqb, ne-eqb}
 use Rattle.model.specs.declared.Settings.{Settings}
 use Rattle.model.specs.Records.{Rec, rec, recordBytes, bytes, BEAT}
 use Rattle.model.specs.Trees.{beat, save, Block, nil, skip, act, actRec, size, flatten}
+use Rattle.model.specs.Equalising.{merge}
 use Rattle.model.specs.Layout.{commands, before}
 use Rattle.model.specs.Replies.{longest, over}
-use Rattle.records.specs.Blocks.{blockBytes, skipBytes, Wrote}
+use Rattle.records.specs.Blocks.{blockBytes, skipRecords, skipBytes, Wrote}
 use Rattle.records.proofs.Blocks.{length-block, waiting-bytes}
 use Rattle.records.proofs.Over.{Part, lent, back, part-first, part-end, part-last}
 use Rattle.placing.specs.declared.clock.State.{State}
 use Rattle.placing.specs.Merging.{settled, waits}
-use Rattle.placing.specs.States.{Laying}
-use Rattle.placing.specs.Placed.{bytesOf, Lays}
+use Rattle.placing.specs.States.{Laying, After, backTo}
+use Rattle.placing.specs.Placed.{bytesOf, Lays, Closed}
+use Rattle.placing.proofs.Settling.{size-merge}
+use Rattle.placing.proofs.Moves.{shows-on}
 use Rattle.placing.proofs.Ticking.{commands-due, before-waits, before-none}
 use Rattle.placing.proofs.Writing.{laidBytes}
 
@@ -98,6 +101,26 @@ module _ (s : State) (c : Block) (x : Rec) (old : List ℕ) (room : length (ende
 pub lays-wrote : {σ : Settings} {s r : State} {n : ℕ} (c : Block) {old new : List ℕ} → Lays σ c s old new r → s .records + size (settled (s .wait) c) ≤ 5461
     → n ≡ laidBytes s r → Wrote (bytesOf s c) old new n
 lays-wrote {s = s} c L h e = record { laid = L .wrote; count = omega (arith, L .after .records, length-block (settled (s .wait) c)) }
+
+-- what waits behind a piece is counted with it
+pub settled-few : (m n : ℕ) (c : Block) → m + size (merge n c) ≤ 5461 → m + size (settled n c) ≤ 5461
+settled-few m n c h = omega (arith, size-merge n c)
+
+-- and the record that closes it
+module _ {σ : Settings} {s f : State} (c : Block) (A : After σ c s f) (few : s .records + size (merge (s .wait) c) ≤ 5461) {k : ℕ} (e : k ≡ skipRecords (f .wait)) where
+  closing-counts : f .records + k ≡ s .records + size (merge (s .wait) c)
+  closing-counts = omega (arith, A .records, size-merge (s .wait) c, e ∙ ap skipRecords (A .wait))
+
+  pub closing-few : f .records + k ≤ 5461
+  closing-few = omega (arith, closing-counts)
+
+  pub closing : Closed σ c s (backTo f 0 (f .records + k + 1))
+  closing = record {
+    shows = shows-on 0 (A .shows) (omega arith) (omega arith) refl (omega arith) (omega (arith, closing-few));
+    tick = A .tick;
+    wait = refl;
+    records = omega (arith, closing-counts);
+  }
 
 -- THE TAIL
 

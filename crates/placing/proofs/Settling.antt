@@ -1,5 +1,5 @@
 -- Merging from left to right: what is settled of two blocks, and blocks that merge alike.
-use Prim.Native.Nat.{ℕ, _+_, _≤_}
+use Prim.Native.Nat.{ℕ, _+_}
 use native.Mathlib.Omega.{arith}
 use native.Mathlib.Nat.{add-zero, add-assoc}
 use mathlib.Core.Path.{_≡_, refl, ap, ap₂, sym, _∙_}
@@ -47,15 +47,6 @@ merge-settled n (while q m x b) =
 merge-settled n (times q m x b) =
     ap (λ (c : Block). waiting n (times q m (merge 0 x) c)) (merge-settled 0 b)
     ∙ sym (waiting-⧺ n (times q m (merge 0 x) (settled 0 b)) (waiting (waits 0 b) nil))
-
--- a tick waits only once it has passed
-pub waits-time : (σ : Settings) (n : ℕ) (b : Block) → waits n b ≤ n + time σ b
-waits-time σ n nil = omega arith
-waits-time σ n (skip m b) = omega (arith, waits-time σ (n + m) b)
-waits-time σ n (act p b) = omega (arith, waits-time σ 0 b)
-waits-time σ n (branch q x y b) = omega (arith, waits-time σ 0 b)
-waits-time σ n (while q m x b) = omega (arith, waits-time σ 0 b)
-waits-time σ n (times q m x b) = omega (arith, waits-time σ 0 b)
 
 -- SIZES AND BYTES
 

@@ -3,14 +3,14 @@ use Prim.Native.Nat.{ℕ, _+_, _*_, _-_, _≤_}
 use native.Mathlib.Omega.{arith}
 use mathlib.Core.Path.{_≡_, refl, ap, sym, subst, _∙_}
 use mathlib.Core.List.{List, _++_}
-use lib.ListN.{length}
+use lib.ListN.{length, length-append}
 use Rattle.model.specs.declared.Settings.{Settings}
 use Rattle.model.specs.Records.{bytes}
 use Rattle.model.specs.Trees.{Block, nil, _⧺_, size, flatten}
 use Rattle.model.proofs.Trees.{⧺-nil, ⧺-assoc}
 use Rattle.records.specs.Blocks.{blockBytes}
 use Rattle.records.proofs.Blocks.{length-block}
-use Rattle.records.proofs.Over.{Part, lent, back, part-start, part-at, part-fits, part-lent, part-end}
+use Rattle.records.proofs.Over.{Part, lent, back, part-start, part-first, part-at, part-fits, part-lent, part-end}
 use Rattle.placing.specs.declared.clock.State.{State}
 use Rattle.placing.specs.Merging.{settled, waits}
 use Rattle.placing.specs.States.{Shows, After}
@@ -104,6 +104,31 @@ module _ {σ : Settings} {whole : Block} {from : State} {old : List ℕ} where
             W .room .few,
             size-settled (s .wait) c rest,
           )
+
+-- the first piece is c, over the whole buffer
+module _ (c rest : Block) {from : State} {old : List ℕ} (R : Room (c ⧺ rest) from old) where
+  bytes-first : bytesOf from (c ⧺ rest) ≡ bytesOf from c ++ blockBytes (settled (waits (from .wait) c) rest)
+  bytes-first = bytes-settled (from .wait) c rest
+
+  pub first-room : Room c from old
+  first-room = record {
+    few = omega (arith, R .few, size-settled (from .wait) c rest);
+    room = omega (arith, R .room, ap length bytes-first, length-append (bytesOf from c) (blockBytes (settled (waits (from .wait) c) rest)));
+  }
+
+  pub writing-first : {σ : Settings} {new : List ℕ} {r : State} → Lays σ c from old new r → Writing σ (c ⧺ rest) rest from r old new
+  writing-first {σ} {new} {r} L = record {
+    done = c;
+    same = alike-eq refl;
+    after = L .after;
+    room = R;
+    part = subst (λ (bs : List ℕ). Part bs (bytesOf r rest) old new (laidBytes from r)) (sym all)
+        (part-first (bytesOf from c) (subst (λ (bs : List ℕ). length bs ≤ length old) all (R .room)) (L .wrote)
+        (omega (arith, L .after .records, R .few, size-settled (from .wait) c rest, length-block (settled (from .wait) c))));
+  }
+    where
+      all : bytesOf from (c ⧺ rest) ≡ bytesOf from c ++ bytesOf r rest
+      all = bytes-first ∙ ap (λ (n : ℕ). bytesOf from c ++ blockBytes (settled n rest)) (sym (L .after .wait))
 
 -- all is laid
 pub writing-end : {σ : Settings} {whole : Block} {from s : State} {old new : List ℕ} → Writing σ whole nil from s old new → Lays σ whole from old new s

@@ -6,12 +6,14 @@ use lib.ListN.{length}
 use Rattle.model.specs.declared.Settings.{Settings}
 use Rattle.model.specs.Records.{Rec, recordBytes}
 use Rattle.model.specs.Trees.{Block, beat, actRec, size}
+use Rattle.model.specs.Times.{time}
+use Rattle.model.specs.Equalising.{merge}
 use Rattle.model.specs.Layout.{before, fill, lastValue}
 use Rattle.model.specs.Replies.{over}
 use Rattle.records.specs.Blocks.{blockBytes, skipBytes}
 use Rattle.placing.specs.declared.clock.State.{State}
 use Rattle.placing.specs.Merging.{settled, waits}
-use Rattle.placing.specs.States.{Laying, After, Stepped}
+use Rattle.placing.specs.States.{Shows, After, Stepped, Fillable}
 
 -- the bytes written while c is laid from s on
 abbrev pub bytesOf : State → Block → List ℕ
@@ -42,11 +44,20 @@ closingBytes σ s e x =
     bytesOf s c ++ (skipBytes (waits (s .wait) c) ++ recordBytes x)
 
 pub record EndFits (σ : Settings) (s : State) (e : ℕ) (x : Rec) (out : List ℕ) : Type 0 where
-  pub laying : Laying σ s
-  pub reaches : s .tick ≤ e
-  pub upto : e ≤ σ .period
-  pub few : s .records + size (settled (s .wait) (fill σ (e - s .tick) (s .tick) e)) ≤ 5461
+  pub can : Fillable σ s e
+  pub few : s .records + size (merge (s .wait) (fill σ (e - s .tick) (s .tick) e)) ≤ 5461
   pub room : length (closingBytes σ s e x) ≤ length out
+
+-- the state behind c, laid from s on, and the record that closes it
+pub record Closed (σ : Settings) (c : Block) (s r : State) : Type 0 where
+  pub shows : Shows σ r
+  pub tick : r .tick ≡ s .tick + time σ c
+  pub wait : r .wait ≡ 0
+  pub records : r .records ≡ s .records + size (merge (s .wait) c) + 1
+
+pub record EndLaid (σ : Settings) (s : State) (e : ℕ) (x : Rec) (old new : List ℕ) (r : State) : Type 0 where
+  pub closed : Closed σ (fill σ (e - s .tick) (s .tick) e) s r
+  pub wrote : new ≡ over (closingBytes σ s e x) old
 
 -- the tail of the file from s on: SKIPs to the next multiple of H, and the last BEAT
 abbrev pub tailBytes : Settings → State → List ℕ

@@ -1,11 +1,13 @@
 -- What a state of laying out says, and how it goes on.
-use Prim.Native.Nat.{ℕ, _+_, _*_, _%_, _≤_, _<_, min}
+use Prim.Native.Nat.{ℕ, _+_, _*_, _-_, _%_, _≤_, _<_, min}
 use mathlib.Core.Path.{_≡_}
 use Rattle.model.specs.declared.Settings.{Settings}
 use Rattle.model.specs.Trees.{Act, Block, nil, skip, act, _⧺_, size}
 use Rattle.model.specs.Times.{ticks, time}
-use Rattle.model.specs.Layout.{before}
+use Rattle.model.specs.Equalising.{merge}
+use Rattle.model.specs.Layout.{before, idles, fill}
 use Rattle.model.specs.Placement.{Fits}
+use Rattle.theory.proofs.Windows.{Free}
 use Rattle.placing.specs.declared.clock.State.{State}
 use Rattle.placing.specs.Merging.{settled, waits}
 
@@ -50,13 +52,31 @@ pub record Readied (σ : Settings) (s : State) (d : ℕ) (r : State) : Type 0 wh
 pub record Stepped (σ : Settings) (s : State) (d : ℕ) (r : State) : Type 0 where
   pub after : (p : Act) → ticks σ p ≡ d → After σ (before σ (s .tick) d ⧺ act p nil) s r
 
--- the state in which a side of an IF starts: its records are counted from 0
-abbrev pub aside : State → State
-aside s = record { tick = s .tick; left = s .left; windows = s .windows; wait = 0; records = 0 }
-
 -- k ticks of SKIP, no more than are left
 pub record Idled (s : State) (k : ℕ) (r : State) : Type 0 where
   pub after : (σ : Settings) → Shows σ s → After σ (skip k nil) s r
+
+-- k single ticks of SKIP are laid from s on; or the tick is above P, as it is once they are laid
+pub record Skipped (σ : Settings) (k : ℕ) (s r : State) : Type 0 where
+  pub late : σ .period < s .tick + time σ (idles σ k (s .tick)) → σ .period < r .tick
+  pub after : s .tick + time σ (idles σ k (s .tick)) ≤ σ .period → After σ (idles σ k (s .tick)) s r
+  pub few : r .records ≤ 5462
+
+-- SKIPs may fill up to tick e, where a step ends
+pub record Fillable (σ : Settings) (s : State) (e : ℕ) : Type 0 where
+  pub laying : Laying σ s
+  pub reaches : s .tick ≤ e
+  pub upto : e ≤ σ .period
+  pub free : Free σ 1 e
+
+-- and then n records are laid, with the SKIP that waits there; or more than a file can have, both ways
+pub record FillCounted (σ : Settings) (s : State) (e n : ℕ) : Type 0 where
+  pub few : n ≤ 5463
+  pub counts : cap n ≡ cap (s .records + size (merge (s .wait) (fill σ (e - s .tick) (s .tick) e)))
+
+-- the clock of s, while w ticks of SKIP wait, after n records
+abbrev pub backTo : State → ℕ → ℕ → State
+backTo s w n = record { tick = s .tick; left = s .left; windows = s .windows; wait = w; records = n }
 
 -- tick 0, before its commands
 abbrev pub started : State

@@ -1,12 +1,10 @@
 // Where laying out stands, and what each piece makes of it. Nothing here divides: the ticks and windows left are counted down.
 ghost use mathlib.Core.Path.{_≡_};
-ghost use Prim.Native.Nat.{_+_, _-_, _^_, _≤_, min};
-ghost use mathlib.Core.Bool.{cond};
-ghost use lib.Dec.{ltb};
+ghost use Prim.Native.Nat.{_+_, _^_, _≤_};
 ghost use Rattle.model.specs.Trees.{skip};
-ghost use Rattle.model.specs.Layout.{commands, fill};
+ghost use Rattle.model.specs.Layout.{commands};
 ghost use Rattle.model.specs.Replies.{longest};
-ghost use Rattle.placing.specs.States.{cap, Laying, After, Readied, Stepped, Idled, started};
+ghost use Rattle.placing.specs.States.{cap, Laying, After, Readied, Stepped, Idled, Skipped, Fillable, FillCounted, backTo, started};
 use model::Settings;
 use records::skips::skip_records;
 
@@ -35,9 +33,9 @@ pub fn start() -> State
     }
 }
 
-// A count of records, and more.
+// A count of records and more, which stops one past the longest file.
 pub fn counted(records: usize, more: usize) -> usize
-    requires { ⌜ (records ≤ 5462) × (more ≤ 2 ^ 20) ⌝ }
+    requires { ⌜ (records ≤ 2 ^ 20) × (more ≤ 2 ^ 20) ⌝ }
     ensures { λ r. ⌜ r ≡ cap (records + more) ⌝ }
 {
     let n = records + more;
@@ -98,25 +96,6 @@ pub fn stepped(n: Settings, from: State, d: u32) -> State
     }
 }
 
-fn least(x: u32, y: u32) -> u32
-    ensures { λ r. ⌜ r ≡ min x y ⌝ }
-{
-    if x < y {
-        return x;
-    }
-    y
-}
-
-// The single ticks of SKIP that this window takes: at most k, up to the tick `end`, and one where the commands led past it.
-pub fn idle_ticks(s: State, k: u32, end: u32) -> u32
-    ensures { λ r. ⌜ r ≡ min k (min (s .left) (cond (ltb (s .tick) end) (end - s .tick) 1)) ⌝ }
-{
-    if s.tick < end {
-        return least(k, least(s.left, end - s.tick));
-    }
-    least(k, least(s.left, 1))
-}
-
 // k single ticks of SKIP, no more than are left.
 pub fn idled(s: State, k: u32) -> State
     requires { ⌜ (k ≤ s .left) × (s .tick ≤ 2 ^ 30) × (s .wait ≤ 2 ^ 30) × (k ≤ 2 ^ 30) ⌝ }
@@ -131,18 +110,44 @@ pub fn idled(s: State, k: u32) -> State
     }
 }
 
-// At most so many single ticks of SKIP while the tick is below `end`, window by window.
-pub fn filled(n: Settings, from: State, most: u32, end: u32) -> State
-    requires { ⌜ (Laying n from) × (end ≤ n .period + 1) ⌝ }
-    ensures { λ r. ⌜ After n (fill n most (from .tick) end) from r ⌝ }
+// So many single ticks of SKIP, window by window; given up once the tick is above the period.
+pub fn filled(n: Settings, from: State, count: u32) -> State
+    requires { ⌜ Laying n from ⌝ }
+    ensures { λ r. ⌜ Skipped n count from r ⌝ }
 {
     let mut s = from;
-    let mut k = most;
-    while (0 < k) & (s.tick < end) {
-        s = readied(n, s, 1);
-        let j = idle_ticks(s, k, end);
-        s = idled(s, j);
-        k -= j;
+    let mut k = count;
+    while (s.left < k) & (s.tick <= n.period) {
+        k -= s.left;
+        s = commanded(n, s);
     }
-    s
+    if n.period < s.tick {
+        return s;
+    }
+    idled(s, k)
+}
+
+// The records once single ticks of SKIP fill up to the tick `end`, with the SKIP that waits there; counted only while a file can have as many.
+pub fn fill_count(n: Settings, from: State, end: u32) -> usize
+    requires { ⌜ Fillable n from end ⌝ }
+    ensures { λ r. ⌜ FillCounted n from end r ⌝ }
+{
+    let mut s = from;
+    while (s.left < end - s.tick) & (s.records < 5462) {
+        s = commanded(n, s);
+    }
+    s.records + skip_records((s.wait + (end - s.tick)) as u64)
+}
+
+// The clock of one state, while so many ticks of SKIP wait, after so many records.
+pub fn back(clock: State, wait: u32, records: usize) -> State
+    ensures { λ r. ⌜ r ≡ backTo clock wait records ⌝ }
+{
+    State {
+        tick: clock.tick,
+        left: clock.left,
+        windows: clock.windows,
+        wait,
+        records,
+    }
 }

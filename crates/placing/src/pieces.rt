@@ -4,14 +4,16 @@ ghost use Prim.Native.Nat.{_+_, _*_, _-_, _≤_};
 ghost use lib.ListN.{length};
 ghost use Rattle.model.specs.Records.{rec};
 ghost use Rattle.model.specs.Trees.{skip};
-ghost use Rattle.model.specs.Layout.{commands, before, fill, lastValue};
+ghost use Rattle.model.specs.Times.{time};
+ghost use Rattle.model.specs.Layout.{commands, before, idles, fill, lastValue};
 ghost use Rattle.model.specs.Replies.{longest, over};
 ghost use Rattle.records.specs.Records.{recordOf};
 ghost use Rattle.records.specs.Blocks.{Wrote};
-ghost use Rattle.placing.specs.States.{Layable, Laying};
-ghost use Rattle.placing.specs.Placed.{bytesOf, Room, Lays, stepBytes, StepLaid, closingBytes, EndFits, tailBytes};
+ghost use Rattle.placing.specs.States.{Layable, Laying, Fillable};
+ghost use Rattle.placing.specs.Placed.{bytesOf, Room, Lays, stepBytes, StepLaid, EndFits, EndLaid, tailBytes};
 use crate::clock::State;
-use crate::clock::idle_ticks;
+use crate::clock::back;
+use crate::clock::commanded;
 use crate::clock::idled;
 use crate::clock::readied;
 use crate::clock::stepped;
@@ -21,6 +23,7 @@ use records::kinds;
 use records::put_bare;
 use records::put_record;
 use records::skips::put_skip;
+use records::skips::skip_records;
 
 // The bytes of the records laid from one state to another.
 pub fn written(from: State, to: State) -> usize
@@ -68,34 +71,48 @@ pub fn put_step(n: Settings, from: State, d: u32, r: Record, out: &mut [u8]) -> 
     stepped(n, from, d)
 }
 
-// At most so many single ticks of SKIP while the tick is below `end`, window by window.
-pub fn put_skips(n: Settings, from: State, most: u32, end: u32, out: &mut [u8]) -> State
-    requires { ⌜ (Laying n from) × (end ≤ n .period + 1) × (Room (fill n most (from .tick) end) from (now out)) ⌝ }
-    ensures { λ r. ⌜ Lays n (fill n most (from .tick) end) from (now (out .entry)) (now (out .exit)) r ⌝ }
+// So many single ticks of SKIP, window by window.
+pub fn put_skips(n: Settings, from: State, count: u32, out: &mut [u8]) -> State
+    requires { ⌜ (Laying n from) × (from .tick + time n (idles n count (from .tick)) ≤ n .period) × (Room (idles n count (from .tick)) from (now out)) ⌝ }
+    ensures { λ r. ⌜ Lays n (idles n count (from .tick)) from (now (out .entry)) (now (out .exit)) r ⌝ }
 {
     let mut s = from;
-    let mut k = most;
-    while (0 < k) & (s.tick < end) {
+    let mut k = count;
+    while s.left < k {
         let at = written(from, s);
-        put_before(n, s, 1, &mut out[at..]);
-        s = readied(n, s, 1);
-        let j = idle_ticks(s, k, end);
-        s = idled(s, j);
-        k -= j;
+        let next = commanded(n, s);
+        put_commands(n, s, &mut out[at..]);
+        k -= s.left;
+        s = next;
     }
-    s
+    idled(s, k)
 }
 
-// The end of a side of an IF that is laid up to s: SKIPs to the tick `end`, and the record that closes it; the bytes written.
-pub fn close_side(n: Settings, s: State, end: u32, kind: u8, out: &mut [u8]) -> usize
-    requires { ⌜ EndFits n s end (rec kind 0 0 0 0 0) (now out) ⌝ }
-    ensures { λ r. ⌜ Wrote (closingBytes n s end (rec kind 0 0 0 0 0)) (now (out .entry)) (now (out .exit)) r ⌝ }
+// Single ticks of SKIP up to the tick `end`, window by window.
+fn put_filling(n: Settings, from: State, end: u32, out: &mut [u8]) -> State
+    requires { ⌜ (Fillable n from end) × (Room (fill n (end - from .tick) (from .tick) end) from (now out)) ⌝ }
+    ensures { λ r. ⌜ Lays n (fill n (end - from .tick) (from .tick) end) from (now (out .entry)) (now (out .exit)) r ⌝ }
 {
-    let f = put_skips(n, s, end - s.tick, end, out);
+    let mut s = from;
+    while s.left < end - s.tick {
+        let at = written(from, s);
+        let next = commanded(n, s);
+        put_commands(n, s, &mut out[at..]);
+        s = next;
+    }
+    idled(s, end - s.tick)
+}
+
+// The end of a side of an IF that is laid up to s: SKIPs to the tick `end`, and the record that closes it; the state after it.
+pub fn close_side(n: Settings, s: State, end: u32, kind: u8, out: &mut [u8]) -> State
+    requires { ⌜ EndFits n s end (rec kind 0 0 0 0 0) (now out) ⌝ }
+    ensures { λ r. ⌜ EndLaid n s end (rec kind 0 0 0 0 0) (now (out .entry)) (now (out .exit)) r ⌝ }
+{
+    let f = put_filling(n, s, end, out);
     let at = written(s, f);
     let last = at + put_skip(&mut out[at..], f.wait);
     put_bare(&mut out[last..], kind, 0, 0);
-    last + 12
+    back(f, 0, f.records + skip_records(f.wait as u64) + 1)
 }
 
 // The value of the last BEAT, which starts at that tick: the windows that the rest of the period takes.

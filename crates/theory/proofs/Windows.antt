@@ -20,7 +20,7 @@ use Rattle.theory.proofs.Clock.{mod-within, mod-over, mod-round}
 -- LAYING OUT TAKES NO TICK AWAY
 
 module _ (σ : Settings) where
-  idles-longer : (n t : ℕ) → n ≤ time σ (idles σ n t)
+  pub idles-longer : (n t : ℕ) → n ≤ time σ (idles σ n t)
   idles-longer zero t = omega arith
   idles-longer (suc n) t =
       let u = t + time σ (idle σ t) in
@@ -228,6 +228,10 @@ module _ (σ : Settings) (fits : Fits σ) where
           let m = t % round σ in
           let r : σ .window - 1 < m = lt-of-not-le (λ l. eqb-false m 0 z (sym (round-small t m (omega arith) refl) ∙ e)) in
           opens t e (act (beat 1) nil) (beat-placed 1 t e, tt) (omega arith) (omega arith) (omega arith) (λ m l h. omega arith)
+
+  -- they end before a later step does
+  pub commands-before : (t m : ℕ) → t % σ .window ≡ 0 → 0 < m → Free σ 1 (t + m) → time σ (commands σ t) < m
+  commands-before t m e k f = commanded t e .short m k f
 
   no-command : (t : ℕ) → Past σ 0 t → commands σ t ≡ nil
   no-command t p = rw (ne-eqb (t % σ .window) 0 (λ z. omega arith))

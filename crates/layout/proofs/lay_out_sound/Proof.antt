@@ -1,9 +1,11 @@
 -- Where laying out ends decides rows 8 and 9; where neither refuses, it is the room that writing asks for.
 use native.Mathlib.Omega.{arith}
-use mathlib.Core.Path.{sym, _∙_}
+use Prim.Native.Nat.{ℕ}
+use mathlib.Core.Path.{sym, subst, _∙_}
+use lib.ListN.{length-replicate}
 use borrow.Author.Needs.{needs}
 use Rattle.placing.specs.States.{Layable}
-use Rattle.layout.proofs.Replies.{short-window, layable, over-period, InTime, few-counted, no-room, has-room, written}
+use Rattle.layout.proofs.Replies.{short-window, layable, by-settings, over-period, InTime, few-counted, no-room, has-room, written}
 use Rattle.layout.proofs.lay_out_sound.Statement.{statement}
 use Rattle.layout.proofs.lay_out_sound.Tie as tie
 use Rattle.layout.proofs.lay_out_sound.Reads as reads
@@ -12,12 +14,15 @@ use Rattle.layout.proofs.measure.measure_file.Reads as measure-file-rea
 use Rattle.layout.proofs.short_window.Reads as short-window-reads
 use Rattle.layout.proofs.write.write_file.Reads as write-file-reads
 use Rattle.records.proofs.no_room.Reads as no-room-reads
+use Rattle.timing.proofs.ticks.ticks_of.Reads as ticks-of-reads
 use Rattle.records.proofs.skips.skip_records.Reads as skip-records-reads
 
 abbrev claims : lts.Claims
 claims = (
   short-window-reads.Asked,
   short-window-reads.Learnt,
+  ticks-of-reads.Asked,
+  ticks-of-reads.Learnt,
   measure-file-reads.Asked,
   measure-file-reads.Learnt,
   skip-records-reads.Asked,
@@ -34,19 +39,17 @@ wide c = layable (c .before .before .before .before .pre .1) (sym (c .before .sh
 
 -- nor does row 8
 timed : (c : lts.After-skip-records claims reads.Pre reads.Post) →
-    let k = c .before .before .before .before .before .before .before .before in
-    let a = k .before .before .before .before .before .args in
-    InTime (a .file .now) (a .n) (k .measure-file .result) (c .skip-records .result)
-timed c =
-    let i = c .before .before .before in
-    let k = i .before .before .before .before .before in
-    record {
-      sound = k .before .before .before .before .before .pre .0;
-      settings = wide (k .before);
-      passed = k .measure-file .ensures;
-      short = i .if2 .left;
-      skips = c .skip-records .ensures;
-    }
+    let at-measure-file = c .before .before .before .before .before .before .before .before in
+    let start = at-measure-file .before .before .before .before .before .before .before .before in
+    InTime (start .args .file .now) (start .args .n) (at-measure-file .measure-file .result) (c .skip-records .result)
+timed c = record {
+  sound = (c .before .before .before .before .before .before .before .before .before .before .before .before .before .before .before .before .pre) .0;
+  settings = wide (c .before .before .before .before .before .before .before .before .before .before .before .before);
+  passed = by-settings (c .before .before .before .before .before .before .before .before .before .before .before .ticks-of .ensures)
+      (c .before .before .before .before .before .before .before .before .measure-file .ensures) .passed;
+  short = (c .before .before .before .if2) .left;
+  skips = c .skip-records .ensures;
+}
 
 short-window-requires : tie.Need-short-window-requires
 short-window-requires c κs = search needs
@@ -54,8 +57,11 @@ short-window-requires c κs = search needs
 returns : tie.Need-returns
 returns c = short-window _ _ _ (sym (c .before .short-window .ensures) ∙ c .if1 .taken)
 
+ticks-of-requires : tie.Need-ticks-of-requires
+ticks-of-requires c κs = search needs
+
 measure-file-requires : tie.Need-measure-file-requires
-measure-file-requires c κs = (c .before .before .before .before .pre .0, wide c)
+measure-file-requires c κs = ((c .before .before .before .before .before .before .before .pre) .0, subst Layable (sym (c .before .before .ticks-of .ensures)) (wide (c .before .before .before)))
 
 cast-total : tie.Need-cast-total
 cast-total c = search needs
@@ -76,7 +82,10 @@ cast-if2 : tie.Need-cast-if2
 cast-if2 c = search needs
 
 returns-2 : tie.Need-returns-2
-returns-2 c = let k = c .before .before .before .before .before in over-period (wide (k .before)) (k .measure-file .ensures) _ (c .if2 .taken)
+returns-2 c =
+    let at-ticks-of = c .before .before .before .before .before .before .before .before in
+    over-period (wide (at-ticks-of .before)) (by-settings (at-ticks-of .ticks-of .ensures) (c .before .before .before .before .before .measure-file .ensures) .passed) _
+    (c .if2 .taken)
 
 cast-skip-records : tie.Need-cast-skip-records
 cast-skip-records c = search needs
@@ -104,21 +113,23 @@ returns-3 c = no-room (timed (c .before .before .before)) _ (sym (c .before .no-
 
 write-file-requires : tie.Need-write-file-requires
 write-file-requires c κs =
-    let j = c .before in
-    has-room (timed (j .before .before .before)) _ (sym (j .before .no-room .ensures) ∙ j .if3 .left)
+    let j = c .before .before in
+    has-room (timed (j .before .before .before)) _ (sym (j .before .no-room .ensures) ∙ j .if3 .left) (length-replicate {A = ℕ} 1821 0)
+    (by-settings (c .before .before .before .before .before .before .before .before .before .before .before .before .before .before .before .before .ticks-of .ensures)
+    (c .before .before .before .before .before .before .before .before .before .before .before .before .before .measure-file .ensures))
 
-mul-t16 : tie.Need-mul-t16
-mul-t16 c = omega (arith, few-counted (timed (c .before .before .before .before .before .before .before)))
+mul-t21 : tie.Need-mul-t21
+mul-t21 c = omega (arith, few-counted (timed (c .before .before .before .before .before .before .before .before)))
 
-cast-t22 : tie.Need-cast-t22
-cast-t22 c = let t = timed (c .before .before .before .before .before .before .before) in omega (arith, t .short, t .settings .short)
+cast-t28 : tie.Need-cast-t28
+cast-t28 c = let t = timed (c .before .before .before .before .before .before .before .before) in omega (arith, t .short, t .settings .short)
 
 same-length : tie.Need-same-length
 same-length c = search needs
 
 returns-4 : tie.Need-returns-4
 returns-4 c =
-    let j = c .before .before .before .before in
+    let j = c .before .before .before .before .before in
     written (timed (j .before .before .before)) _ (sym (j .before .no-room .ensures) ∙ j .if3 .left) _ (c .before .before .write-file .ensures)
 
 pub lay-out-sound-spec : {M : Type 1} → statement M
@@ -127,6 +138,7 @@ lay-out-sound-spec =
     (tie.spec
     short-window-requires
     returns
+    ticks-of-requires
     measure-file-requires
     cast-total
     cast-total-2
@@ -144,7 +156,7 @@ lay-out-sound-spec =
     no-room-requires
     returns-3
     write-file-requires
-    mul-t16
-    cast-t22
+    mul-t21
+    cast-t28
     same-length
     returns-4)

@@ -1,42 +1,63 @@
 -- Tick 0 has its commands, and the file's block is measured behind them.
-use mathlib.Core.Path.{sym, subst}
+use mathlib.Core.Path.{refl}
+use Rattle.layout.proofs.WholeClocked.{clock-laying, clock-late, clock-lent, clock-measured}
 use borrow.Author.Needs.{needs}
-use Rattle.placing.specs.States.{Laying, After, started}
-use Rattle.layout.proofs.Whole.{opening, laying-start, after-opening, file-entered, file-late, file-passed}
+use Rattle.timing.specs.Times.{settingsIn}
 use Rattle.layout.proofs.measure.measure_file.Statement.{statement}
 use Rattle.layout.proofs.measure.measure_file.Tie as tie
-use Rattle.layout.proofs.measure.measure_file.Reads as reads
-use Rattle.layout.proofs.measure.measure_file.Lts as lts
-use Rattle.placing.proofs.clock.commanded.Reads as commanded-reads
-use Rattle.placing.proofs.clock.start.Reads as start-reads
-use Rattle.layout.proofs.measure.measure_block.Reads as measure-block-reads
 
-abbrev claims : lts.Claims
-claims = (start-reads.Asked, start-reads.Learnt, commanded-reads.Asked, commanded-reads.Learnt, measure-block-reads.Asked, measure-block-reads.Learnt)
-
-opened : (c : lts.After-commanded claims reads.Pre reads.Post) → After (c .before .before .before .args .n) opening started (c .commanded .result)
-opened c = after-opening (c .before .before .before .pre .1) (c .before .start .ensures) (c .commanded .ensures .0)
+settings-in-requires : tie.Need-settings-in-requires
+settings-in-requires c κs = search needs
 
 start-requires : tie.Need-start-requires
 start-requires c κs = search needs
 
 commanded-requires : tie.Need-commanded-requires
-commanded-requires c κs = subst (Laying _) (sym (c .start .ensures)) (laying-start (c .before .before .pre .1))
+commanded-requires c κs = clock-laying (c .before .before .before .args .t .now) (c .before .before .before .pre .1) ((c .before .settings-in) .ensures) ((c .start) .ensures)
+
+element-copy-out-if1 : tie.Need-element-copy-out-if1
+element-copy-out-if1 c = search needs
 
 returns : tie.Need-returns
-returns c = let o = c .before .before .before in file-late (o .before .before .before .pre .1) (opened o) (c .if1 .taken)
+unfolding settingsIn
+returns c =
+    let start = c .before .before .before .before .before .before .before in
+    clock-late (start .args .t .now) (start .pre .1) ((c .before .before .before .before .before .settings-in) .ensures)
+    ((c .before .before .before .before .start) .ensures) ((c .before .before .before .commanded) .ensures .0) (c .if1 .taken)
+
+store-requires : tie.Need-store-requires
+store-requires c κs = search needs
 
 measure-block-requires : tie.Need-measure-block-requires
+unfolding settingsIn
 measure-block-requires c κs =
-    let o = c .before .before .before in
-    let p = o .before .before .before .pre in
-    file-entered (p .1) (opened o) (p .0) (c .if1 .left)
+    let at-commanded = c .before .before .before .before .before .before .before in
+    let start = at-commanded .before .before .before .before in
+    clock-lent (start .args .t .now) (start .pre .1) ((at-commanded .before .before .settings-in) .ensures) ((at-commanded .before .start) .ensures)
+    ((at-commanded .commanded) .ensures .0) ((start .pre) .0) ((c .before .before .before .before .if1) .left) _ refl ((c .before .before .store) .ensures)
+
+load-requires : tie.Need-load-requires
+load-requires c κs = search needs
 
 returns-2 : tie.Need-returns-2
+unfolding settingsIn
 returns-2 c =
-    let o = c .before .before .before .before .before in
-    let p = o .before .before .before .pre in
-    file-passed (p .1) (opened o) (p .0) (c .before .measure-block .ensures)
+    let at-if1 = c .before .before .before .before .before .before .before in
+    let start = at-if1 .before .before .before .before .before .before .before in
+    clock-measured (start .args .t .now) (start .pre .1) ((at-if1 .before .before .before .before .before .settings-in) .ensures)
+    ((at-if1 .before .before .before .before .start) .ensures) ((at-if1 .before .before .before .commanded) .ensures .0) ((start .pre) .0) ((at-if1 .if1) .left) _ refl
+    ((c .before .before .before .before .before .store) .ensures) ((c .before .before .measure-block) .ensures) (c .load .ensures)
 
 pub measure-file-spec : {M : Type 1} → statement M
-measure-file-spec = tie.close (tie.spec start-requires commanded-requires returns measure-block-requires returns-2)
+measure-file-spec =
+    tie.close
+    (tie.spec
+    settings-in-requires
+    start-requires
+    commanded-requires
+    element-copy-out-if1
+    returns
+    store-requires
+    measure-block-requires
+    load-requires
+    returns-2)

@@ -1,22 +1,21 @@
 -- A block is written statement by statement; the laws of proofs/Writing*.antt say what is laid after each call.
 use Prim.Native.Nat.{ℕ, _+_, _*_, _-_, _<_}
 use native.Mathlib.Omega.{arith}
-use mathlib.Core.Path.{ap, _∙_}
+use mathlib.Core.Path.{refl, ap, _∙_}
 use borrow.Author.Needs.{needs}
-use Rattle.model.specs.Records.{Rec, CHECK}
-use Rattle.model.specs.Trees.{testRec}
 use Rattle.records.proofs.Over.{part-length}
-use Rattle.reading.specs.Ranges.{testOf}
+use Rattle.layout.specs.Idling.{checkRec}
 use Rattle.placing.proofs.Writing.{writing-upto, writing-at}
 use Rattle.reading.proofs.Standing.{closing-told}
 use Rattle.layout.proofs.PassingSteps.{kind-there, count-there, step-short}
-use Rattle.layout.proofs.PassingRounds.{rounds-there, body-inside, at-end}
+use Rattle.layout.proofs.PassingRounds.{body-inside, at-end}
 use Rattle.layout.proofs.PassingBranches.{both-inside}
-use Rattle.layout.proofs.WritingSteps.{skip-room, skip-laid, act-fits, act-laid}
+use Rattle.layout.proofs.WritingSteps.{act-fits, act-laid}
+use Rattle.layout.proofs.IdleLoops.{skips-fit, skips-laid, no-skip}
 use Rattle.layout.proofs.WritingBlocks.{WritingBlock, block-start, block-closed, block-ended, statement-fits, block-on, block-next}
 use Rattle.layout.proofs.WritingRounds.{WritingLoop, rounds-start, body-fits, rounds-next, check-fits, rounds-laid}
-use Rattle.layout.proofs.WritingSides.{side-fits, side-upto, side-at, side-long, end-fits, side-room, side-laid}
-use Rattle.layout.proofs.WritingBranches.{test-fits, test-upto, one-starts, one-ends, two-starts, two-ends, both-meet, test-at, one-fits, one-at, one-long, two-fits, branch-laid}
+use Rattle.layout.proofs.WritingSides.{side-fits, side-upto, side-at, side-long, end-fits, side-laid}
+use Rattle.layout.proofs.WritingBranches.{test-fits, test-upto, table-at, test-at, one-fits, one-upto, one-ends, one-at, one-long, two-fits, two-ends, branch-laid}
 use borrow.Fn.Kinds.{In}
 use borrow.Fn.PlainCycle.{Measures, is, falls, and}
 use Rattle.layout.proofs.write.write_block.Reads as write-block
@@ -34,13 +33,11 @@ use Rattle.layout.proofs.write.+write_block+write_branch+write_rounds+w
 use Rattle.layout.proofs.write.write_statement.Reads as write-statement
 use Rattle.layout.proofs.write.write_statement.Kinds as write-statement-kinds
 use Rattle.layout.proofs.write.+write_block+write_branch+write_rounds+write_side+write_statement.Lts-write_statement as write-statement-lts
-use Rattle.layout.proofs.measure.later.Reads as later-reads
-use Rattle.layout.proofs.measure.measure_block.Reads as measure-block-reads
-use Rattle.layout.proofs.measure.meet.Reads as meet-reads
-use Rattle.layout.proofs.measure.rounds.Reads as rounds-reads
-use Rattle.layout.proofs.measure.side.Reads as side-reads
+use Rattle.layout.proofs.skips.check_of.Reads as check-of-reads
+use Rattle.layout.proofs.skips.idle_at.Reads as idle-at-reads
+use Rattle.layout.proofs.skips.write_idle.Reads as write-idle-reads
+use Rattle.placing.proofs.clock.back.Reads as back-reads
 use Rattle.placing.proofs.pieces.close_side.Reads as close-side-reads
-use Rattle.placing.proofs.pieces.put_skips.Reads as put-skips-reads
 use Rattle.placing.proofs.pieces.put_step.Reads as put-step-reads
 use Rattle.placing.proofs.pieces.written.Reads as written-reads
 use Rattle.reading.proofs.blocks.closes.Reads as closes-reads
@@ -54,124 +51,91 @@ use Rattle.layout.proofs.write.+write_block+write_branch+write_rounds+w
   close,
 }
 
-abbrev μ-write-block : Measures 2 write-block-kinds.ps ℕ
+abbrev μ-write-block : Measures 3 write-block-kinds.ps ℕ
 μ-write-block κs a = 5 * (a .1 .1 .0 - a .1 .0) + 3
 
-abbrev μ-write-branch : Measures 2 write-branch-kinds.ps ℕ
+abbrev μ-write-branch : Measures 3 write-branch-kinds.ps ℕ
 μ-write-branch κs a = 5 * (a .1 .1 .0 - a .1 .0) + 1
 
-abbrev μ-write-rounds : Measures 2 write-rounds-kinds.ps ℕ
+abbrev μ-write-rounds : Measures 3 write-rounds-kinds.ps ℕ
 μ-write-rounds κs a = 5 * (a .1 .1 .0 - a .1 .0) + 1
 
-abbrev μ-write-side : Measures 2 write-side-kinds.ps ℕ
+abbrev μ-write-side : Measures 3 write-side-kinds.ps ℕ
 μ-write-side κs a = 5 * (a .1 .1 .0 - a .1 .0) + 4
 
-abbrev μ-write-statement : Measures 2 write-statement-kinds.ps ℕ
+abbrev μ-write-statement : Measures 3 write-statement-kinds.ps ℕ
 μ-write-statement κs a = 5 * (a .1 .1 .0 - a .1 .0) + 2
 
-abbrev write-block-at : ℕ → In 2 write-block-kinds.ps
+abbrev write-block-at : ℕ → In 3 write-block-kinds.ps
 write-block-at t =
-    and 2 write-block-kinds.ps (is 2 write-block-kinds.ps μ-write-block t) write-block.Pre
+    and 3 write-block-kinds.ps (is 3 write-block-kinds.ps μ-write-block t) write-block.Pre
 
-abbrev write-block-below : ℕ → In 2 write-block-kinds.ps
+abbrev write-block-below : ℕ → In 3 write-block-kinds.ps
 write-block-below t =
-    and 2 write-block-kinds.ps (falls 2 write-block-kinds.ps _<_ μ-write-block t) write-block.Pre
+    and 3 write-block-kinds.ps (falls 3 write-block-kinds.ps _<_ μ-write-block t) write-block.Pre
 
-abbrev write-branch-at : ℕ → In 2 write-branch-kinds.ps
+abbrev write-branch-at : ℕ → In 3 write-branch-kinds.ps
 write-branch-at t =
-    and 2 write-branch-kinds.ps (is 2 write-branch-kinds.ps μ-write-branch t) write-branch.Pre
+    and 3 write-branch-kinds.ps (is 3 write-branch-kinds.ps μ-write-branch t) write-branch.Pre
 
-abbrev write-branch-below : ℕ → In 2 write-branch-kinds.ps
+abbrev write-branch-below : ℕ → In 3 write-branch-kinds.ps
 write-branch-below t =
     and
-    2
+    3
     write-branch-kinds.ps
-    (falls 2 write-branch-kinds.ps _<_ μ-write-branch t)
+    (falls 3 write-branch-kinds.ps _<_ μ-write-branch t)
     write-branch.Pre
 
-abbrev write-rounds-at : ℕ → In 2 write-rounds-kinds.ps
+abbrev write-rounds-at : ℕ → In 3 write-rounds-kinds.ps
 write-rounds-at t =
-    and 2 write-rounds-kinds.ps (is 2 write-rounds-kinds.ps μ-write-rounds t) write-rounds.Pre
+    and 3 write-rounds-kinds.ps (is 3 write-rounds-kinds.ps μ-write-rounds t) write-rounds.Pre
 
-abbrev write-rounds-below : ℕ → In 2 write-rounds-kinds.ps
+abbrev write-rounds-below : ℕ → In 3 write-rounds-kinds.ps
 write-rounds-below t =
     and
-    2
+    3
     write-rounds-kinds.ps
-    (falls 2 write-rounds-kinds.ps _<_ μ-write-rounds t)
+    (falls 3 write-rounds-kinds.ps _<_ μ-write-rounds t)
     write-rounds.Pre
 
-abbrev write-side-at : ℕ → In 2 write-side-kinds.ps
+abbrev write-side-at : ℕ → In 3 write-side-kinds.ps
 write-side-at t =
-    and 2 write-side-kinds.ps (is 2 write-side-kinds.ps μ-write-side t) write-side.Pre
+    and 3 write-side-kinds.ps (is 3 write-side-kinds.ps μ-write-side t) write-side.Pre
 
-abbrev write-side-below : ℕ → In 2 write-side-kinds.ps
+abbrev write-side-below : ℕ → In 3 write-side-kinds.ps
 write-side-below t =
-    and 2 write-side-kinds.ps (falls 2 write-side-kinds.ps _<_ μ-write-side t) write-side.Pre
+    and 3 write-side-kinds.ps (falls 3 write-side-kinds.ps _<_ μ-write-side t) write-side.Pre
 
-abbrev write-statement-at : ℕ → In 2 write-statement-kinds.ps
+abbrev write-statement-at : ℕ → In 3 write-statement-kinds.ps
 write-statement-at t =
     and
-    2
+    3
     write-statement-kinds.ps
-    (is 2 write-statement-kinds.ps μ-write-statement t)
+    (is 3 write-statement-kinds.ps μ-write-statement t)
     write-statement.Pre
 
-abbrev write-statement-below : ℕ → In 2 write-statement-kinds.ps
+abbrev write-statement-below : ℕ → In 3 write-statement-kinds.ps
 write-statement-below t =
     and
-    2
+    3
     write-statement-kinds.ps
-    (falls 2 write-statement-kinds.ps _<_ μ-write-statement t)
+    (falls 3 write-statement-kinds.ps _<_ μ-write-statement t)
     write-statement.Pre
 
 abbrev write-block-Inv-loop : write-block-lts.InvT-loop
-write-block-Inv-loop s from to n at out₀ state₀ next₀ out state next = WritingBlock s from to n at state next out₀ out
+write-block-Inv-loop s from to n at ifs meets out₀ state₀ next₀ k₀ out state next k = WritingBlock s from to n at state next ifs k meets out₀ out
 
 abbrev write-block-μ-loop : write-block-lts.MeasureT-loop
-write-block-μ-loop s from to n at out₀ state₀ next₀ out state next = to - next
+write-block-μ-loop s from to n at ifs meets out₀ state₀ next₀ k₀ out state next k = to - next
 
 abbrev write-block-claims : ℕ → write-block-lts.Claims
-write-block-claims t = (
-  kind-at-reads.Asked,
-  kind-at-reads.Learnt,
-  closes-reads.Asked,
-  closes-reads.Learnt,
-  written-reads.Asked,
-  written-reads.Learnt,
-  write-statement-below t,
-  write-statement.Post,
-)
+write-block-claims t = (kind-at-reads.Asked, kind-at-reads.Learnt, closes-reads.Asked, closes-reads.Learnt, written-reads.Asked, written-reads.Learnt, write-statement-below t, write-statement.Post)
 
 abbrev write-branch-claims : ℕ → write-branch-lts.Claims
-write-branch-claims t = (
-  put-step-reads.Asked,
-  put-step-reads.Learnt,
-  written-reads.Asked,
-  written-reads.Learnt,
-  side-reads.Asked,
-  side-reads.Learnt,
-  measure-block-reads.Asked,
-  measure-block-reads.Learnt,
-  later-reads.Asked,
-  later-reads.Learnt,
-  write-side-below t,
-  write-side.Post,
-  meet-reads.Asked,
-  meet-reads.Learnt,
-)
+write-branch-claims t = (put-step-reads.Asked, put-step-reads.Learnt, written-reads.Asked, written-reads.Learnt, write-side-below t, write-side.Post, back-reads.Asked, back-reads.Learnt)
 
 abbrev write-rounds-claims : ℕ → write-rounds-lts.Claims
-write-rounds-claims t = (
-  rounds-reads.Asked,
-  rounds-reads.Learnt,
-  written-reads.Asked,
-  written-reads.Learnt,
-  write-block-below t,
-  write-block.Post,
-  put-step-reads.Asked,
-  put-step-reads.Learnt,
-)
+write-rounds-claims t = (written-reads.Asked, written-reads.Learnt, write-block-below t, write-block.Post, check-of-reads.Asked, check-of-reads.Learnt, put-step-reads.Asked, put-step-reads.Learnt)
 
 abbrev write-side-claims : ℕ → write-side-lts.Claims
 write-side-claims t = (write-block-below t, write-block.Post, written-reads.Asked, written-reads.Learnt, close-side-reads.Asked, close-side-reads.Learnt)
@@ -182,10 +146,12 @@ write-statement-claims t = (
   record-at-reads.Learnt,
   write-branch-below t,
   write-branch.Post,
+  idle-at-reads.Asked,
+  idle-at-reads.Learnt,
+  write-idle-reads.Asked,
+  write-idle-reads.Learnt,
   write-rounds-below t,
   write-rounds.Post,
-  put-skips-reads.Asked,
-  put-skips-reads.Learnt,
   step-ticks-reads.Asked,
   step-ticks-reads.Learnt,
   put-step-reads.Asked,
@@ -193,491 +159,440 @@ write-statement-claims t = (
 )
 
 write-block-loop-holds : (t : ℕ) → write-block-lts.Need-loop-holds (write-block-claims t) (write-block-at t) write-block.Post write-block-Inv-loop write-block-μ-loop
-write-block-loop-holds t c = block-start (c .before .before .pre .1)
+write-block-loop-holds t c = block-start ((c .before .before .pre) .1)
 
 write-block-kind-at-requires : (t : ℕ) → write-block-lts.Need-kind-at-requires (write-block-claims t) (write-block-at t) write-block.Post write-block-Inv-loop write-block-μ-loop
-write-block-kind-at-requires t c κs = omega (arith, c .before .loop .inv .passing .rest .file .inside)
+write-block-kind-at-requires t c κs = omega (arith, (c .before .loop) .inv .passing .rest .file .inside)
 
 write-block-closes-requires : (t : ℕ) → write-block-lts.Need-closes-requires (write-block-claims t) (write-block-at t) write-block.Post write-block-Inv-loop write-block-μ-loop
 write-block-closes-requires t c κs = search needs
 
 write-block-same-length : (t : ℕ) → write-block-lts.Need-same-length (write-block-claims t) (write-block-at t) write-block.Post write-block-Inv-loop write-block-μ-loop
-write-block-same-length t c = part-length (c .before .before .before .before .loop .inv .writing .part)
+write-block-same-length t c = part-length ((c .before .before .before .before .loop) .inv .writing .part)
 
 write-block-returns : (t : ℕ) → write-block-lts.Need-returns (write-block-claims t) (write-block-at t) write-block.Post write-block-Inv-loop write-block-μ-loop
-write-block-returns t c = block-closed (c .before .before .before .before .loop .inv)
-    (closing-told (c .before .before .kind-at .ensures) (c .before .closes .ensures) (c .if1 .taken))
+write-block-returns t c = block-closed ((c .before .before .before .before .loop) .inv) (closing-told ((c .before .before .kind-at) .ensures) ((c .before .closes) .ensures) ((c .if1) .taken))
 
 write-block-written-requires : (t : ℕ) → write-block-lts.Need-written-requires (write-block-claims t) (write-block-at t) write-block.Post write-block-Inv-loop write-block-μ-loop
-write-block-written-requires t c κs = writing-upto (c .before .before .before .before .loop .inv .writing)
+write-block-written-requires t c κs = writing-upto ((c .before .before .before .before .loop) .inv .writing)
 
 write-block-sub-write-statement : (t : ℕ) → write-block-lts.Need-sub-write-statement (write-block-claims t) (write-block-at t) write-block.Post write-block-Inv-loop write-block-μ-loop
-write-block-sub-write-statement t c = rw (c .written .ensures) (writing-at (c .before .before .before .before .before .loop .inv .writing))
+write-block-sub-write-statement t c = rw (c .written .ensures) (writing-at ((c .before .before .before .before .before .loop) .inv .writing))
 
 write-block-part-write-statement-start : (t : ℕ) → write-block-lts.Need-part-write-statement-start (write-block-claims t) (write-block-at t) write-block.Post write-block-Inv-loop write-block-μ-loop
-write-block-part-write-statement-start t c = rw (c .written .ensures) (writing-at (c .before .before .before .before .before .loop .inv .writing))
+write-block-part-write-statement-start t c = rw (c .written .ensures) (writing-at ((c .before .before .before .before .before .loop) .inv .writing))
 
 write-block-part-write-statement-end : (t : ℕ) → write-block-lts.Need-part-write-statement-end (write-block-claims t) (write-block-at t) write-block.Post write-block-Inv-loop write-block-μ-loop
 write-block-part-write-statement-end t c = search needs
 
 write-block-write-statement-requires : (t : ℕ) → write-block-lts.Need-write-statement-requires (write-block-claims t) (write-block-at t) write-block.Post write-block-Inv-loop write-block-μ-loop
 write-block-write-statement-requires t c κs =
-    let w = c .before .before .before in
-    let v = w .before .before .before in (
-      omega (arith, v .loop .inv .passing .on),
-      statement-fits (v .loop .inv) (w .before .before .loop-test .taken)
-          (closing-told (w .before .kind-at .ensures) (w .closes .ensures) (c .before .before .if1 .left)) (c .before .written .ensures),
+    let at-loop = c .before .before .before .before .before .before in (
+      omega (arith, (at-loop .loop) .inv .passing .on),
+      statement-fits ((at-loop .loop) .inv) ((c .before .before .before .before .before .loop-test) .taken)
+          (closing-told ((c .before .before .before .before .kind-at) .ensures) ((c .before .before .before .closes) .ensures) ((c .before .before .if1) .left))
+          ((c .before .written) .ensures),
     )
 
 write-block-loop-less : (t : ℕ) → write-block-lts.Need-loop-less (write-block-claims t) (write-block-at t) write-block.Post write-block-Inv-loop write-block-μ-loop
 write-block-loop-less t c =
-    let w = c .before .before .before in
-    let v = w .before .before .before in
-    let u = v .before .before .before in
+    let at-if1 = c .before .before .before .before .before .before in
     omega (
       arith,
-      block-on (u .before .loop .inv) (u .loop-test .taken) (closing-told (v .before .before .kind-at .ensures) (v .before .closes .ensures) (v .if1 .left))
-          (w .before .before .written .ensures) (w .write-statement .ensures),
+      block-on ((at-if1 .before .before .before .before .loop) .inv) ((at-if1 .before .before .before .loop-test) .taken)
+          (closing-told ((at-if1 .before .before .kind-at) .ensures) ((at-if1 .before .closes) .ensures) ((at-if1 .if1) .left))
+          ((c .before .before .before .before .before .written) .ensures) ((c .before .before .before .write-statement) .ensures),
     )
 
 write-block-loop-again : (t : ℕ) → write-block-lts.Need-loop-again (write-block-claims t) (write-block-at t) write-block.Post write-block-Inv-loop write-block-μ-loop
 write-block-loop-again t c =
-    let w = c .before .before .before in
-    let v = w .before .before .before in
-    let u = v .before .before .before in
-    block-next (u .before .loop .inv) (u .loop-test .taken) (closing-told (v .before .before .kind-at .ensures) (v .before .closes .ensures) (v .if1 .left))
-    (w .before .before .written .ensures) (w .write-statement .ensures)
+    let at-if1 = c .before .before .before .before .before .before in
+    block-next ((at-if1 .before .before .before .before .loop) .inv) ((at-if1 .before .before .before .loop-test) .taken)
+    (closing-told ((at-if1 .before .before .kind-at) .ensures) ((at-if1 .before .closes) .ensures) ((at-if1 .if1) .left))
+    ((c .before .before .before .before .before .written) .ensures) ((c .before .before .before .write-statement) .ensures)
 
 write-block-same-length-2 : (t : ℕ) → write-block-lts.Need-same-length-2 (write-block-claims t) (write-block-at t) write-block.Post write-block-Inv-loop write-block-μ-loop
-write-block-same-length-2 t c = part-length (c .before .loop .inv .writing .part)
+write-block-same-length-2 t c = part-length ((c .before .loop) .inv .writing .part)
 
 write-block-returns-2 : (t : ℕ) → write-block-lts.Need-returns-2 (write-block-claims t) (write-block-at t) write-block.Post write-block-Inv-loop write-block-μ-loop
-write-block-returns-2 t c = block-ended (c .before .loop .inv) (c .loop-test .left)
+write-block-returns-2 t c = block-ended ((c .before .loop) .inv) ((c .loop-test) .left)
 
 write-branch-put-step-requires : (t : ℕ) → write-branch-lts.Need-put-step-requires (write-branch-claims t) (write-branch-at t) write-branch.Post
 write-branch-put-step-requires t c κs =
-    let w = c .before .before .before in
-    (w .pre .1 .0 .statement .entered .laying, omega arith, omega arith, test-fits (w .pre .1 .0) (w .pre .1 .2) (w .pre .1 .1))
+    let start = c .before .before .before in
+    ((start .pre) .1 .0 .statement .entered .laying, omega arith, omega arith, test-fits ((start .pre) .1 .0) ((start .pre) .1 .2) ((start .pre) .1 .1))
 
 write-branch-written-requires : (t : ℕ) → write-branch-lts.Need-written-requires (write-branch-claims t) (write-branch-at t) write-branch.Post
 write-branch-written-requires t c κs =
-    let w = c .before .before .before .before .before .before in
-    test-upto (w .pre .1 .0) (w .pre .1 .2) (w .pre .1 .1) (c .before .before .put-step .ensures)
+    let start = c .before .before .before .before .before .before in
+    test-upto ((start .pre) .1 .0) ((start .pre) .1 .2) ((start .pre) .1 .1) ((c .before .before .put-step) .ensures)
 
-write-branch-side-requires : (t : ℕ) → write-branch-lts.Need-side-requires (write-branch-claims t) (write-branch-at t) write-branch.Post
-write-branch-side-requires t c κs = search needs
+write-branch-mul-end : (t : ℕ) → write-branch-lts.Need-mul-end (write-branch-claims t) (write-branch-at t) write-branch.Post
+write-branch-mul-end t c =
+    let start = c .before .before .before .before .before .before .before in
+    omega (arith, table-at ((start .pre) .1 .0) ((start .pre) .1 .2) ((start .pre) .1 .1) ((c .before .before .before .put-step) .ensures) .0)
 
-write-branch-add-measure-block : (t : ℕ) → write-branch-lts.Need-add-measure-block (write-branch-claims t) (write-branch-at t) write-branch.Post
-write-branch-add-measure-block t c = omega (arith, c .before .before .before .before .before .before .before .before .pre .1 .0 .statement .early)
-
-write-branch-measure-block-requires : (t : ℕ) → write-branch-lts.Need-measure-block-requires (write-branch-claims t) (write-branch-at t) write-branch.Post
-write-branch-measure-block-requires t c κs =
-    let w = c .before .before .before .before in
-    let v = w .before .before .before .before in
-    one-starts (v .pre .1 .0) (v .pre .1 .2) (v .pre .1 .1) (w .put-step .ensures) (c .side .ensures)
-
-write-branch-add-other : (t : ℕ) → write-branch-lts.Need-add-other (write-branch-claims t) (write-branch-at t) write-branch.Post
-write-branch-add-other t c =
-    let w = c .before .before .before in
-    let v = w .before .before .before .before in
-    let u = v .before .before .before .before in
-    omega (
-      arith,
-      one-ends (u .pre .1 .0) (u .pre .1 .2) (u .pre .1 .1) (v .put-step .ensures) (w .side .ensures) (c .before .before .measure-block .ensures),
-      both-inside (u .pre .1 .0 .statement) (u .pre .1 .2) (v .put-step .ensures .state),
-      u .pre .1 .0 .statement .entered .file .inside,
-      u .good .0 .0,
-    )
-
-write-branch-measure-block-requires-2 : (t : ℕ) → write-branch-lts.Need-measure-block-requires-2 (write-branch-claims t) (write-branch-at t) write-branch.Post
-write-branch-measure-block-requires-2 t c κs =
-    let w = c .before .before .before in
-    let v = w .before .before .before .before in
-    let u = v .before .before .before .before in
-    two-starts (u .pre .1 .0) (u .pre .1 .2) (u .pre .1 .1) (v .put-step .ensures) (w .side .ensures) (c .before .before .measure-block .ensures)
-
-write-branch-later-requires : (t : ℕ) → write-branch-lts.Need-later-requires (write-branch-claims t) (write-branch-at t) write-branch.Post
-write-branch-later-requires t c κs = search needs
+write-branch-element-copy-out-end : (t : ℕ) → write-branch-lts.Need-element-copy-out-end (write-branch-claims t) (write-branch-at t) write-branch.Post
+write-branch-element-copy-out-end t c =
+    let start = c .before .before .before .before .before .before .before in
+    table-at ((start .pre) .1 .0) ((start .pre) .1 .2) ((start .pre) .1 .1) ((c .before .before .before .put-step) .ensures) .0
 
 write-branch-add-write-side : (t : ℕ) → write-branch-lts.Need-add-write-side (write-branch-claims t) (write-branch-at t) write-branch.Post
-write-branch-add-write-side t c =
-    let w = c .before .before .before .before .before .before .before .before .before .before .before .before .before .before in
-    omega (arith, w .pre .1 .0 .statement .early)
+write-branch-add-write-side t c = omega (arith, (c .before .before .before .before .before .before .before .before .pre) .1 .0 .statement .early)
+
+write-branch-add-write-side-2 : (t : ℕ) → write-branch-lts.Need-add-write-side-2 (write-branch-claims t) (write-branch-at t) write-branch.Post
+write-branch-add-write-side-2 t c =
+    let start = c .before .before .before .before .before .before .before .before in
+    omega (arith, table-at ((start .pre) .1 .0) ((start .pre) .1 .2) ((start .pre) .1 .1) ((c .before .before .before .before .put-step) .ensures) .0)
 
 write-branch-sub-write-side : (t : ℕ) → write-branch-lts.Need-sub-write-side (write-branch-claims t) (write-branch-at t) write-branch.Post
 write-branch-sub-write-side t c =
-    let w = c .before .before .before .before .before in
-    let v = w .before .before .before .before .before in
-    let u = v .before .before .before .before in
-    test-at (u .pre .1 .0) (u .pre .1 .2) (u .pre .1 .1) (v .put-step .ensures) (w .before .side .ensures) (w .measure-block .ensures) (c .before .before .measure-block2 .ensures)
-    (c .later .ensures) (w .before .before .written .ensures)
+    let start = c .before .before .before .before .before .before .before .before in
+    test-at ((start .pre) .1 .0) ((start .pre) .1 .2) ((start .pre) .1 .1) ((c .before .before .before .before .put-step) .ensures) refl ((c .before .written) .ensures)
 
 write-branch-part-write-side-start : (t : ℕ) → write-branch-lts.Need-part-write-side-start (write-branch-claims t) (write-branch-at t) write-branch.Post
 write-branch-part-write-side-start t c =
-    let w = c .before .before .before .before .before in
-    let v = w .before .before .before .before .before in
-    let u = v .before .before .before .before in
-    test-at (u .pre .1 .0) (u .pre .1 .2) (u .pre .1 .1) (v .put-step .ensures) (w .before .side .ensures) (w .measure-block .ensures) (c .before .before .measure-block2 .ensures)
-    (c .later .ensures) (w .before .before .written .ensures)
+    let start = c .before .before .before .before .before .before .before .before in
+    test-at ((start .pre) .1 .0) ((start .pre) .1 .2) ((start .pre) .1 .1) ((c .before .before .before .before .put-step) .ensures) refl ((c .before .written) .ensures)
 
 write-branch-part-write-side-end : (t : ℕ) → write-branch-lts.Need-part-write-side-end (write-branch-claims t) (write-branch-at t) write-branch.Post
 write-branch-part-write-side-end t c = search needs
 
 write-branch-write-side-requires : (t : ℕ) → write-branch-lts.Need-write-side-requires (write-branch-claims t) (write-branch-at t) write-branch.Post
 write-branch-write-side-requires t c κs =
-    let w = c .before .before .before in
-    let v = w .before .before .before in
-    let u = v .before .before .before .before .before in
-    let q = u .before .before .before .before in (
-      omega (
-        arith,
-        q .pre .0,
-        q .pre .1 .0 .statement .early,
-      ),
-      one-fits (q .pre .1 .0) (q .pre .1 .2) (q .pre .1 .1) (u .put-step .ensures) (v .before .side .ensures) (v .measure-block .ensures) (w .measure-block2 .ensures)
-          (c .before .later .ensures) (v .before .before .written .ensures),
+    let start = c .before .before .before .before .before .before .before .before .before in (
+      omega (arith, (start .pre) .1 .0 .statement .early),
+      one-fits ((start .pre) .1 .0) ((start .pre) .1 .2) ((start .pre) .1 .1)
+          ((c .before .before .before .before .before .put-step) .ensures) refl ((c .before .before .written) .ensures),
     )
 
-write-branch-add-mid : (t : ℕ) → write-branch-lts.Need-add-mid (write-branch-claims t) (write-branch-at t) write-branch.Post
-write-branch-add-mid t c =
-    let w = c .before .before .before .before in
-    let v = w .before .before .before .before .before in
-    let u = v .before .before .before .before .before in
-    let q = u .before .before .before .before in
+write-branch-written-requires-2 : (t : ℕ) → write-branch-lts.Need-written-requires-2 (write-branch-claims t) (write-branch-at t) write-branch.Post
+write-branch-written-requires-2 t c κs =
+    let at-written = c .before .before .before .before .before .before in
+    let start = at-written .before .before .before .before .before .before .before in
+    one-upto ((start .pre) .1 .0) ((start .pre) .1 .2) ((start .pre) .1 .1) ((at-written .before .before .before .put-step) .ensures) refl
+    ((at-written .written) .ensures) ((c .before .before .before .write-side) .ensures)
+
+write-branch-add-write-side-3 : (t : ℕ) → write-branch-lts.Need-add-write-side-3 (write-branch-claims t) (write-branch-at t) write-branch.Post
+write-branch-add-write-side-3 t c =
     omega (
       arith,
-      one-at (q .pre .1 .0) (q .pre .1 .2) (q .pre .1 .1) (u .put-step .ensures) (v .before .side .ensures) (v .measure-block .ensures) (w .before .before .measure-block2 .ensures)
-          (w .later .ensures) (v .before .before .written .ensures) (c .before .before .write-side .ensures),
-      one-long (q .pre .1 .0) (q .pre .1 .2) (q .pre .1 .1)
-          (u .put-step .ensures) (v .before .side .ensures) (v .measure-block .ensures) (w .before .before .measure-block2 .ensures)
-          (w .later .ensures) (v .before .before .written .ensures) (c .before .before .write-side .ensures),
-      q .good .1 .1 .1 .1 .1 .1 .0 .0,
+      one-ends ((c .before .before .before .before .before .before .before .before .before .before .before .before .before .before .before .pre) .1 .0)
+          ((c .before .before .before .before .before .before .before .before .before .before .before .before .before .before .before .pre) .1 .2)
+          ((c .before .before .before .before .before .before .before .before .before .before .before .before .before .before .before .pre) .1 .1)
+          ((c .before .before .before .before .before .before .before .before .before .before .before .put-step) .ensures) refl
+          ((c .before .before .before .before .before .before .before .before .written) .ensures) ((c .before .before .before .before .before .write-side) .ensures),
+      both-inside ((c .before .before .before .before .before .before .before .before .before .before .before .before .before .before .before .pre) .1 .0 .statement)
+          ((c .before .before .before .before .before .before .before .before .before .before .before .before .before .before .before .pre) .1 .2)
+          ((c .before .before .before .before .before .before .before .before .before .before .before .put-step) .ensures .state),
+      (c .before .before .before .before .before .before .before .before .before .before .before .before .before .before .before .pre) .1 .0 .statement .entered .file .inside,
+      (c .before .before .before .before .before .before .before .before .before .before .before .before .before .before .before .good) .0 .0,
     )
+
+write-branch-back-requires : (t : ℕ) → write-branch-lts.Need-back-requires (write-branch-claims t) (write-branch-at t) write-branch.Post
+write-branch-back-requires t c κs = search needs
 
 write-branch-sub-write-side-2 : (t : ℕ) → write-branch-lts.Need-sub-write-side-2 (write-branch-claims t) (write-branch-at t) write-branch.Post
 write-branch-sub-write-side-2 t c =
-    let w = c .before .before .before .before in
-    let v = w .before .before .before .before .before in
-    let u = v .before .before .before .before .before in
-    let q = u .before .before .before .before in
-    one-at (q .pre .1 .0) (q .pre .1 .2) (q .pre .1 .1) (u .put-step .ensures) (v .before .side .ensures) (v .measure-block .ensures) (w .before .before .measure-block2 .ensures)
-    (w .later .ensures) (v .before .before .written .ensures) (c .before .before .write-side .ensures)
+    let at-write-side = c .before .before .before .before .before .before in
+    let at-put-step = at-write-side .before .before .before .before .before .before in
+    let start = at-put-step .before .before .before .before in
+    one-at ((start .pre) .1 .0) ((start .pre) .1 .2) ((start .pre) .1 .1) ((at-put-step .put-step) .ensures) refl
+    ((at-write-side .before .before .before .written) .ensures) ((at-write-side .write-side) .ensures) ((c .before .before .written2) .ensures)
 
 write-branch-part-write-side-start-2 : (t : ℕ) → write-branch-lts.Need-part-write-side-start-2 (write-branch-claims t) (write-branch-at t) write-branch.Post
 write-branch-part-write-side-start-2 t c =
-    let w = c .before .before .before .before in
-    let v = w .before .before .before .before .before in
-    let u = v .before .before .before .before .before in
-    let q = u .before .before .before .before in
-    one-at (q .pre .1 .0) (q .pre .1 .2) (q .pre .1 .1) (u .put-step .ensures) (v .before .side .ensures) (v .measure-block .ensures) (w .before .before .measure-block2 .ensures)
-    (w .later .ensures) (v .before .before .written .ensures) (c .before .before .write-side .ensures)
+    let at-write-side = c .before .before .before .before .before .before in
+    let at-put-step = at-write-side .before .before .before .before .before .before in
+    let start = at-put-step .before .before .before .before in
+    one-at ((start .pre) .1 .0) ((start .pre) .1 .2) ((start .pre) .1 .1) ((at-put-step .put-step) .ensures) refl
+    ((at-write-side .before .before .before .written) .ensures) ((at-write-side .write-side) .ensures) ((c .before .before .written2) .ensures)
 
 write-branch-part-write-side-end-2 : (t : ℕ) → write-branch-lts.Need-part-write-side-end-2 (write-branch-claims t) (write-branch-at t) write-branch.Post
 write-branch-part-write-side-end-2 t c = search needs
 
 write-branch-write-side-requires-2 : (t : ℕ) → write-branch-lts.Need-write-side-requires-2 (write-branch-claims t) (write-branch-at t) write-branch.Post
 write-branch-write-side-requires-2 t c κs =
-    let w = c .before .before .before in
-    let v = w .before .before .before .before in
-    let u = v .before .before .before in
-    let q = u .before .before .before .before .before in
-    let p = q .before .before .before .before in (
+    let at-write-side = c .before .before .before .before .before .before .before in
+    let at-written = at-write-side .before .before .before in
+    let at-put-step = at-written .before .before .before in
+    let start = at-put-step .before .before .before .before in (
       omega (
         arith,
-        p .pre .0,
-        one-ends (p .pre .1 .0) (p .pre .1 .2) (p .pre .1 .1) (q .put-step .ensures) (u .before .side .ensures) (u .measure-block .ensures),
-        p .pre .1 .0 .statement .early,
+        one-ends ((start .pre) .1 .0) ((start .pre) .1 .2) ((start .pre) .1 .1) ((at-put-step .put-step) .ensures) refl ((at-written .written) .ensures)
+            ((at-write-side .write-side) .ensures),
+        (start .pre) .0,
+        (start .pre) .1 .0 .statement .early,
       ),
-      two-fits (p .pre .1 .0) (p .pre .1 .2) (p .pre .1 .1) (q .put-step .ensures) (u .before .side .ensures) (u .measure-block .ensures) (v .measure-block2 .ensures)
-          (w .before .before .later .ensures) (u .before .before .written .ensures) (w .write-side .ensures),
+      two-fits ((start .pre) .1 .0) ((start .pre) .1 .2)
+          ((start .pre) .1 .1) ((at-put-step .put-step) .ensures) refl ((at-written .written) .ensures) ((at-write-side .write-side) .ensures)
+          ((c .before .before .before .written2) .ensures) ((c .before .back) .ensures),
     )
 
-write-branch-meet-requires : (t : ℕ) → write-branch-lts.Need-meet-requires (write-branch-claims t) (write-branch-at t) write-branch.Post
-write-branch-meet-requires t c κs =
-    let w = c .before .before .before .before .before .before .before .before .before .before in
-    let v = w .before .before .before in
-    let u = v .before .before .before .before .before in
-    let q = u .before .before .before .before in
-    both-meet (q .pre .1 .0) (q .pre .1 .2) (q .pre .1 .1) (u .put-step .ensures) (v .before .side .ensures) (v .measure-block .ensures) (w .measure-block2 .ensures)
-
-write-branch-add-t21 : (t : ℕ) → write-branch-lts.Need-add-t21 (write-branch-claims t) (write-branch-at t) write-branch.Post
-write-branch-add-t21 t c =
-    let w = c .before .before .before .before .before .before .before .before .before .before .before .before in
-    let v = w .before .before .before in
-    let u = v .before .before .before .before .before in
-    let q = u .before .before .before .before in
+write-branch-add-t24 : (t : ℕ) → write-branch-lts.Need-add-t24 (write-branch-claims t) (write-branch-at t) write-branch.Post
+write-branch-add-t24 t c =
     omega (
       arith,
-      two-ends (q .pre .1 .0) (q .pre .1 .2) (q .pre .1 .1) (u .put-step .ensures) (v .before .side .ensures) (v .measure-block .ensures) (w .measure-block2 .ensures),
-      both-inside (q .pre .1 .0 .statement) (q .pre .1 .2) (u .put-step .ensures .state),
-      q .pre .1 .0 .statement .entered .file .inside,
-      q .good .0 .0,
+      two-ends ((c .before .before .before .before .before .before .before .before .before .before .before .before .before .before .before .before .before .before .before .before
+          .before .before .pre) .1 .0) ((c .before .before .before .before .before .before .before .before .before .before .before .before .before .before .before .before .before
+          .before .before .before .before .before .pre) .1 .2)
+          ((c .before .before .before .before .before .before .before .before .before .before .before .before .before .before .before .before .before .before .before .before .before
+          .before .pre) .1 .1) ((c .before .before .before .before .before .before .before .before .before .before .before .before .before .before .before .before .before .before
+          .put-step) .ensures) refl ((c .before .before .before .before .before .before .before .before .before .before .before .before .before .before .before .written) .ensures)
+          ((c .before .before .before .before .before .before .before .before .before .before .before .before .write-side) .ensures)
+          ((c .before .before .before .before .before .before .before .before .written2) .ensures) ((c .before .before .before .before .before .before .back) .ensures)
+          ((c .before .before .before .before .write-side2) .ensures),
+      both-inside ((c .before .before .before .before .before .before .before .before .before .before .before .before .before .before .before .before .before .before .before
+          .before .before .before .pre) .1 .0 .statement)
+          ((c .before .before .before .before .before .before .before .before .before .before .before .before .before .before .before .before .before .before .before .before .before
+          .before .pre) .1 .2) ((c .before .before .before .before .before .before .before .before .before .before .before .before .before .before .before .before .before .before
+          .put-step) .ensures .state),
+      (c .before .before .before .before .before .before .before .before .before .before .before .before .before .before .before .before .before .before .before .before .before
+          .before .pre) .1 .0 .statement .entered .file .inside,
+      (c .before .before .before .before .before .before .before .before .before .before .before .before .before .before .before .before .before .before .before .before .before .before .good) .0 .0,
     )
 
 write-branch-same-length : (t : ℕ) → write-branch-lts.Need-same-length (write-branch-claims t) (write-branch-at t) write-branch.Post
 write-branch-same-length t c =
-    let w = c .before .before .before in
-    let v = w .before .before .before .before .before in
-    let u = v .before .before .before .before in
-    let q = u .before .before .before in
-    let p = q .before .before .before .before .before in
-    let o = p .before .before .before .before in
-    w .out3 .given .1 ∙ one-long (o .pre .1 .0) (o .pre .1 .2) (o .pre .1 .1) (p .put-step .ensures) (q .before .side .ensures) (q .measure-block .ensures)
-    (u .measure-block2 .ensures)
-    (v .before .before .later .ensures) (q .before .before .written .ensures) (v .write-side .ensures)
+    let at-written2 = c .before .before .before .before .before .before .before .before in
+    let at-written = at-written2 .before .before .before .before .before .before .before in
+    let start = at-written .before .before .before .before .before .before .before in
+    (c .before .before .before .out3) .given .1 ∙ one-long ((start .pre) .1 .0) ((start .pre) .1 .2) ((start .pre) .1 .1)
+    ((at-written .before .before .before .put-step) .ensures) refl ((at-written .written) .ensures) ((at-written2 .before .before .before .before .write-side) .ensures)
+    ((at-written2 .written2) .ensures)
 
 write-branch-returns : (t : ℕ) → write-branch-lts.Need-returns (write-branch-claims t) (write-branch-at t) write-branch.Post
 write-branch-returns t c =
-    let w = c .before .before .before .before in
-    let v = w .before .before .before .before in
-    let u = v .before .before .before .before in
-    let q = u .before .before .before in
-    let p = q .before .before .before .before .before in
-    let o = p .before .before .before .before in
-    branch-laid (o .pre .1 .0) (o .pre .1 .2) (o .pre .1 .1) (p .put-step .ensures) (q .before .side .ensures) (q .measure-block .ensures) (u .measure-block2 .ensures)
-    (v .before .before .later .ensures) (q .before .before .written .ensures) (v .write-side .ensures) (w .write-side2 .ensures) (c .before .meet .ensures)
+    let at-back = c .before .before .before .before .before .before in
+    let at-write-side = at-back .before .before .before .before .before .before in
+    let at-put-step = at-write-side .before .before .before .before .before .before in
+    let start = at-put-step .before .before .before .before in
+    branch-laid ((start .pre) .1 .0) ((start .pre) .1 .2) ((start .pre) .1 .1) ((at-put-step .put-step) .ensures) refl
+    ((at-write-side .before .before .before .written) .ensures) ((at-write-side .write-side) .ensures) ((at-back .before .before .written2) .ensures)
+    ((at-back .back) .ensures) ((c .before .before .before .before .write-side2) .ensures)
 
 abbrev write-rounds-Inv-loop : write-rounds-lts.InvT-loop
-write-rounds-Inv-loop s i to r n from out₀ body last state₀ next₀ round₀ out state next round = WritingLoop s i to n from out₀ last state next round out
+write-rounds-Inv-loop s i to r n from ifs meets out₀ body last state₀ next₀ k₀ round₀ out state next k round = WritingLoop s i to n from ifs meets out₀ last state next round k out
 
 abbrev write-rounds-μ-loop : write-rounds-lts.MeasureT-loop
-write-rounds-μ-loop s i to r n from out₀ body last state₀ next₀ round₀ out state next round = last - round
+write-rounds-μ-loop s i to r n from ifs meets out₀ body last state₀ next₀ k₀ round₀ out state next k round = last - round
 
 write-rounds-add-body : (t : ℕ) → write-rounds-lts.Need-add-body (write-rounds-claims t) (write-rounds-at t) write-rounds.Post write-rounds-Inv-loop write-rounds-μ-loop
-write-rounds-add-body t c = omega (arith, c .before .before .pre .1 .0 .statement .early, c .before .before .pre .1 .0 .statement .entered .file .inside)
-
-write-rounds-rounds-requires : (t : ℕ) → write-rounds-lts.Need-rounds-requires (write-rounds-claims t) (write-rounds-at t) write-rounds.Post write-rounds-Inv-loop write-rounds-μ-loop
-write-rounds-rounds-requires t c κs = omega (
-  arith,
-  body-inside (c .before .before .pre .1 .0 .statement) (c .before .before .pre .1 .2),
-  c .before .before .pre .1 .0 .statement .entered .file .inside,
-)
+write-rounds-add-body t c = omega (arith, (c .before .before .pre) .1 .0 .statement .early, (c .before .before .pre) .1 .0 .statement .entered .file .inside)
 
 write-rounds-loop-holds : (t : ℕ) → write-rounds-lts.Need-loop-holds (write-rounds-claims t) (write-rounds-at t) write-rounds.Post write-rounds-Inv-loop write-rounds-μ-loop
 write-rounds-loop-holds t c =
-    let w = c .before .before .before in
-    let R = rounds-there (w .pre .1 .0 .statement) (w .pre .1 .2) (count-there (w .pre .1 .0 .statement) (w .pre .1 .1)) (c .rounds .ensures) in
-    record { loop = w .pre .1 .0; kind = w .pre .1 .2; rounds = R; turn = rounds-start (w .pre .1 .0) (w .pre .1 .2) R }
+    let p = c .before .before .pre .1 in
+    let R = count-there (p .0 .statement) (p .1) in
+    record { loop = p .0; kind = p .2; count-is = R; turn = rounds-start (p .0) (p .2) R }
 
 write-rounds-written-requires : (t : ℕ) → write-rounds-lts.Need-written-requires (write-rounds-claims t) (write-rounds-at t) write-rounds.Post write-rounds-Inv-loop write-rounds-μ-loop
-write-rounds-written-requires t c κs = writing-upto (c .before .loop .inv .turn .writing)
+write-rounds-written-requires t c κs = writing-upto ((c .before .loop) .inv .turn .writing)
 
 write-rounds-sub-write-block : (t : ℕ) → write-rounds-lts.Need-sub-write-block (write-rounds-claims t) (write-rounds-at t) write-rounds.Post write-rounds-Inv-loop write-rounds-μ-loop
-write-rounds-sub-write-block t c = rw (c .written .ensures) (writing-at (c .before .before .loop .inv .turn .writing))
+write-rounds-sub-write-block t c = rw (c .written .ensures) (writing-at ((c .before .before .loop) .inv .turn .writing))
 
 write-rounds-part-write-block-start : (t : ℕ) → write-rounds-lts.Need-part-write-block-start (write-rounds-claims t) (write-rounds-at t) write-rounds.Post write-rounds-Inv-loop write-rounds-μ-loop
-write-rounds-part-write-block-start t c = rw (c .written .ensures) (writing-at (c .before .before .loop .inv .turn .writing))
+write-rounds-part-write-block-start t c = rw (c .written .ensures) (writing-at ((c .before .before .loop) .inv .turn .writing))
 
 write-rounds-part-write-block-end : (t : ℕ) → write-rounds-lts.Need-part-write-block-end (write-rounds-claims t) (write-rounds-at t) write-rounds.Post write-rounds-Inv-loop write-rounds-μ-loop
 write-rounds-part-write-block-end t c = search needs
 
 write-rounds-write-block-requires : (t : ℕ) → write-rounds-lts.Need-write-block-requires (write-rounds-claims t) (write-rounds-at t) write-rounds.Post write-rounds-Inv-loop write-rounds-μ-loop
 write-rounds-write-block-requires t c κs =
-    let w = c .before .before .before in
-    let v = w .before .before .before .before in
-    let l = w .loop .inv in (
-      omega (arith, v .pre .0, v .pre .1 .0 .statement .early),
-      body-fits (l .loop) (l .kind) (l .rounds) (l .turn) (c .before .before .loop-test .taken) (c .before .written .ensures),
+    let at-loop = c .before .before .before in
+    let start = at-loop .before .before .before in (
+      omega (arith, (start .pre) .0, (start .pre) .1 .0 .statement .early),
+      body-fits ((at-loop .loop) .inv .loop) ((at-loop .loop) .inv .kind)
+          ((at-loop .loop) .inv .count-is) ((at-loop .loop) .inv .turn) ((c .before .before .loop-test) .taken) ((c .before .written) .ensures),
     )
 
 write-rounds-add-round : (t : ℕ) → write-rounds-lts.Need-add-round (write-rounds-claims t) (write-rounds-at t) write-rounds.Post write-rounds-Inv-loop write-rounds-μ-loop
-write-rounds-add-round t c = omega arith
+write-rounds-add-round t c = omega (arith, c .before .before .before .before .before .before .before .before .before .before .good .1 .1 .1 .0)
 
 write-rounds-loop-less : (t : ℕ) → write-rounds-lts.Need-loop-less (write-rounds-claims t) (write-rounds-at t) write-rounds.Post write-rounds-Inv-loop write-rounds-μ-loop
 write-rounds-loop-less t c = omega arith
 
 write-rounds-loop-again : (t : ℕ) → write-rounds-lts.Need-loop-again (write-rounds-claims t) (write-rounds-at t) write-rounds.Post write-rounds-Inv-loop write-rounds-μ-loop
 write-rounds-loop-again t c =
-    let w = c .before .before .before in
-    let v = w .before .before .before in
-    let l = v .before .loop .inv in
+    let l = (c .before .before .before .before .before .before .before .loop) .inv in
     record {
       loop = l .loop;
       kind = l .kind;
-      rounds = l .rounds;
-      turn = rounds-next (l .loop) (l .kind) (l .rounds) (l .turn) (v .loop-test .taken)
-          (w .before .before .written .ensures) (w .write-block .ensures);
+      count-is = l .count-is;
+      turn = rounds-next (l .loop) (l .kind) (l .count-is) (l .turn) ((c .before .before .before .before .before .before .loop-test) .taken)
+          ((c .before .before .before .before .before .written) .ensures) ((c .before .before .before .write-block) .ensures);
     }
 
 write-rounds-written-requires-2 : (t : ℕ) → write-rounds-lts.Need-written-requires-2 (write-rounds-claims t) (write-rounds-at t) write-rounds.Post write-rounds-Inv-loop write-rounds-μ-loop
-write-rounds-written-requires-2 t c κs = writing-upto (c .before .loop .inv .turn .writing)
+write-rounds-written-requires-2 t c κs = writing-upto ((c .before .loop) .inv .turn .writing)
+
+write-rounds-check-of-requires : (t : ℕ) → write-rounds-lts.Need-check-of-requires (write-rounds-claims t) (write-rounds-at t) write-rounds.Post write-rounds-Inv-loop write-rounds-μ-loop
+write-rounds-check-of-requires t c κs = search needs
 
 write-rounds-sub-put-step : (t : ℕ) → write-rounds-lts.Need-sub-put-step (write-rounds-claims t) (write-rounds-at t) write-rounds.Post write-rounds-Inv-loop write-rounds-μ-loop
-write-rounds-sub-put-step t c = rw (c .written2 .ensures) (writing-at (c .before .before .loop .inv .turn .writing))
+write-rounds-sub-put-step t c = rw (c .before .written2 .ensures) (writing-at ((c .before .before .before .loop) .inv .turn .writing))
 
 write-rounds-part-put-step-start : (t : ℕ) → write-rounds-lts.Need-part-put-step-start (write-rounds-claims t) (write-rounds-at t) write-rounds.Post write-rounds-Inv-loop write-rounds-μ-loop
-write-rounds-part-put-step-start t c = rw (c .written2 .ensures) (writing-at (c .before .before .loop .inv .turn .writing))
+write-rounds-part-put-step-start t c = rw (c .before .written2 .ensures) (writing-at ((c .before .before .before .loop) .inv .turn .writing))
 
 write-rounds-part-put-step-end : (t : ℕ) → write-rounds-lts.Need-part-put-step-end (write-rounds-claims t) (write-rounds-at t) write-rounds.Post write-rounds-Inv-loop write-rounds-μ-loop
 write-rounds-part-put-step-end t c = search needs
 
 write-rounds-put-step-requires : (t : ℕ) → write-rounds-lts.Need-put-step-requires (write-rounds-claims t) (write-rounds-at t) write-rounds.Post write-rounds-Inv-loop write-rounds-μ-loop
-write-rounds-put-step-requires t c κs =
-    let w = c .before .before .before in
-    let v = w .before .before .before .before in
-    let l = w .loop .inv in (
-      l .turn .rounding .laying,
-      omega arith,
-      omega (arith, v .pre .1 .0 .statement .entered .laying .settings .fits .positive .set-lasts),
-      check-fits (l .loop) (l .kind) (l .rounds) (l .turn) (c .before .before .loop-test .left) (ap (λ (y : Rec). testRec CHECK (testOf y) 0) (v .pre .1 .1))
-          (c .before .written2 .ensures),
-    )
+write-rounds-put-step-requires t c κs = (
+  (c .before .before .before .before .loop) .inv .turn .rounding .laying,
+  omega arith,
+  omega (arith, (c .before .before .before .before .before .before .before .pre) .1 .0 .statement .entered .laying .settings .fits .positive .set-lasts),
+  check-fits ((c .before .before .before .before .loop) .inv .loop) ((c .before .before .before .before .loop) .inv .kind)
+      ((c .before .before .before .before .loop) .inv .count-is) ((c .before .before .before .before .loop) .inv .turn) ((c .before .before .before .loop-test) .left)
+      (c .before .check-of .ensures ∙ ap checkRec (c .before .before .before .before .before .before .before .pre .1 .1)) ((c .before .before .written2) .ensures),
+)
 
-write-rounds-add-t24 : (t : ℕ) → write-rounds-lts.Need-add-t24 (write-rounds-claims t) (write-rounds-at t) write-rounds.Post write-rounds-Inv-loop write-rounds-μ-loop
-write-rounds-add-t24 t c =
-    let w = c .before .before .before .before .before in
-    let v = w .before .before .before .before .before in
-    let l = w .before .loop .inv in
+write-rounds-add-t27 : (t : ℕ) → write-rounds-lts.Need-add-t27 (write-rounds-claims t) (write-rounds-at t) write-rounds.Post write-rounds-Inv-loop write-rounds-μ-loop
+write-rounds-add-t27 t c =
     omega (
       arith,
-      at-end (l .loop .statement) (l .kind) (l .rounds) (l .turn .rounding) (w .loop-test .left),
-      body-inside (l .loop .statement) (l .kind),
-      l .loop .statement .entered .file .inside,
-      v .good .0 .0,
+      at-end ((c .before .before .before .before .before .before .before .loop) .inv .loop .statement)
+          ((c .before .before .before .before .before .before .before .loop) .inv .kind) ((c .before .before .before .before .before .before .before .loop) .inv .count-is)
+          ((c .before .before .before .before .before .before .before .loop) .inv .turn .rounding) ((c .before .before .before .before .before .before .loop-test) .left),
+      body-inside ((c .before .before .before .before .before .before .before .loop) .inv .loop .statement) ((c .before .before .before .before .before .before .before .loop) .inv .kind),
+      (c .before .before .before .before .before .before .before .loop) .inv .loop .statement .entered .file .inside,
+      (c .before .before .before .before .before .before .before .before .before .before .good) .0 .0,
     )
 
 write-rounds-same-length : (t : ℕ) → write-rounds-lts.Need-same-length (write-rounds-claims t) (write-rounds-at t) write-rounds.Post write-rounds-Inv-loop write-rounds-μ-loop
-write-rounds-same-length t c = c .before .out2 .given .1 ∙ part-length (c .before .before .before .before .before .before .loop .inv .turn .writing .part)
+write-rounds-same-length t c = (c .before .out2) .given .1 ∙ part-length ((c .before .before .before .before .before .before .before .loop) .inv .turn .writing .part)
 
 write-rounds-returns : (t : ℕ) → write-rounds-lts.Need-returns (write-rounds-claims t) (write-rounds-at t) write-rounds.Post write-rounds-Inv-loop write-rounds-μ-loop
 write-rounds-returns t c =
-    let w = c .before .before .before .before in
-    let v = w .before .before .before .before .before .before in
-    let l = w .before .before .loop .inv in
-    rounds-laid (l .loop) (l .kind) (l .rounds) (l .turn) (w .before .loop-test .left) (ap (λ (y : Rec). testRec CHECK (testOf y) 0) (v .pre .1 .1))
-    (w .written2 .ensures) (c .before .before .put-step .ensures)
+    let at-loop-test = c .before .before .before .before .before .before in
+    let at-loop = at-loop-test .before in
+    rounds-laid ((at-loop .loop) .inv .loop) ((at-loop .loop) .inv .kind) ((at-loop .loop) .inv .count-is) ((at-loop .loop) .inv .turn) ((at-loop-test .loop-test) .left)
+    (c .before .before .before .before .check-of .ensures ∙ ap checkRec (at-loop .before .before .before .pre .1 .1))
+    ((c .before .before .before .before .before .written2) .ensures) ((c .before .before .put-step) .ensures)
 
 write-side-write-block-requires : (t : ℕ) → write-side-lts.Need-write-block-requires (write-side-claims t) (write-side-at t) write-side.Post
-write-side-write-block-requires t c κs = (omega arith, side-fits (c .before .before .before .pre .1))
+write-side-write-block-requires t c κs = (omega arith, side-fits ((c .before .before .before .pre) .1))
 
 write-side-written-requires : (t : ℕ) → write-side-lts.Need-written-requires (write-side-claims t) (write-side-at t) write-side.Post
-write-side-written-requires t c κs =
-    let w = c .before .before .before in
-    let v = w .before .before .before .before in
-    side-upto (v .pre .1) (w .write-block .ensures)
+write-side-written-requires t c κs = side-upto ((c .before .before .before .before .before .before .before .pre) .1) ((c .before .before .before .write-block) .ensures)
 
 write-side-sub-close-side : (t : ℕ) → write-side-lts.Need-sub-close-side (write-side-claims t) (write-side-at t) write-side.Post
 write-side-sub-close-side t c =
-    let w = c .before .before .before .before in
-    let v = w .before .before .before .before in
-    side-at (v .pre .1) (w .write-block .ensures) (c .written .ensures)
+    let start = c .before .before .before .before .before .before .before .before in
+    side-at ((start .pre) .1) ((c .before .before .before .before .write-block) .ensures) ((c .written) .ensures)
 
 write-side-part-close-side-start : (t : ℕ) → write-side-lts.Need-part-close-side-start (write-side-claims t) (write-side-at t) write-side.Post
 write-side-part-close-side-start t c =
-    let w = c .before .before .before .before in
-    let v = w .before .before .before .before in
-    side-at (v .pre .1) (w .write-block .ensures) (c .written .ensures)
+    let start = c .before .before .before .before .before .before .before .before in
+    side-at ((start .pre) .1) ((c .before .before .before .before .write-block) .ensures) ((c .written) .ensures)
 
 write-side-part-close-side-end : (t : ℕ) → write-side-lts.Need-part-close-side-end (write-side-claims t) (write-side-at t) write-side.Post
 write-side-part-close-side-end t c = search needs
 
 write-side-close-side-requires : (t : ℕ) → write-side-lts.Need-close-side-requires (write-side-claims t) (write-side-at t) write-side.Post
 write-side-close-side-requires t c κs =
-    let w = c .before .before .before .before .before in
-    let v = w .before .before .before .before in
-    end-fits (v .pre .1) (w .write-block .ensures) (c .before .written .ensures)
-
-write-side-add-result : (t : ℕ) → write-side-lts.Need-add-result (write-side-claims t) (write-side-at t) write-side.Post
-write-side-add-result t c =
-    let w = c .before .before .before .before in
-    let v = w .before .before .before .before in
-    let u = v .before .before .before .before in
-    omega (arith, side-room (u .pre .1) (v .write-block .ensures) (w .written .ensures) (c .before .before .close-side .ensures), u .good .1 .1 .1 .1 .1 .1 .1 .0 .0)
+    let start = c .before .before .before .before .before .before .before .before .before in
+    end-fits ((start .pre) .1) ((c .before .before .before .before .before .write-block) .ensures) ((c .before .written) .ensures)
 
 write-side-same-length : (t : ℕ) → write-side-lts.Need-same-length (write-side-claims t) (write-side-at t) write-side.Post
 write-side-same-length t c =
-    let w = c .before .before .before .before in
-    let v = w .before .before .before .before in
-    let u = v .before .before .before .before in
-    c .before .out2 .given .1 ∙ side-long (u .pre .1) (v .write-block .ensures) (w .written .ensures)
+    let at-write-block = c .before .before .before .before .before .before .before .before in
+    (c .before .out2) .given .1 ∙ side-long ((at-write-block .before .before .before .before .pre) .1) ((at-write-block .write-block) .ensures)
+    ((c .before .before .before .before .written) .ensures)
 
 write-side-returns : (t : ℕ) → write-side-lts.Need-returns (write-side-claims t) (write-side-at t) write-side.Post
 write-side-returns t c =
-    let w = c .before .before .before .before in
-    let v = w .before .before .before .before in
-    let u = v .before .before .before .before in
-    side-laid (u .pre .1) (v .write-block .ensures) (w .written .ensures) (c .before .before .close-side .ensures)
+    let at-write-block = c .before .before .before .before .before .before .before .before in
+    side-laid ((at-write-block .before .before .before .before .pre) .1) ((at-write-block .write-block) .ensures) ((c .before .before .before .before .written) .ensures)
+    ((c .before .before .close-side) .ensures)
 
 write-statement-record-at-requires : (t : ℕ) → write-statement-lts.Need-record-at-requires (write-statement-claims t) (write-statement-at t) write-statement.Post
-write-statement-record-at-requires t c κs = omega (arith, c .before .before .pre .1 .statement .early, c .before .before .pre .1 .statement .entered .file .inside)
+write-statement-record-at-requires t c κs = omega (arith, (c .before .before .pre) .1 .statement .early, (c .before .before .pre) .1 .statement .entered .file .inside)
 
 write-statement-write-branch-requires : (t : ℕ) → write-statement-lts.Need-write-branch-requires (write-statement-claims t) (write-statement-at t) write-statement.Post
 write-statement-write-branch-requires t c κs =
-    let w = c .before .before .before in
-    let v = w .before .before .before in
-    (omega arith, ((v .pre .1), (w .record-at .ensures), kind-there (v .pre .1 .statement) (w .record-at .ensures) (c .before .if1 .taken)))
+    let at-record-at = c .before .before .before in
+    let start = at-record-at .before .before .before in (
+      omega arith,
+      (
+        (start .pre) .1,
+        (at-record-at .record-at) .ensures,
+        kind-there ((start .pre) .1 .statement) ((at-record-at .record-at) .ensures)
+            ((c .before .if1) .taken),
+      ),
+    )
 
 write-statement-same-length : (t : ℕ) → write-statement-lts.Need-same-length (write-statement-claims t) (write-statement-at t) write-statement.Post
 write-statement-same-length t c = search needs
 
 write-statement-returns : (t : ℕ) → write-statement-lts.Need-returns (write-statement-claims t) (write-statement-at t) write-statement.Post
-write-statement-returns t c = c .before .before .write-branch .ensures
+write-statement-returns t c = (c .before .before .write-branch) .ensures
 
-write-statement-write-rounds-requires : (t : ℕ) → write-statement-lts.Need-write-rounds-requires (write-statement-claims t) (write-statement-at t) write-statement.Post
-write-statement-write-rounds-requires t c κs =
-    let w = c .before .before .before .before .before in
-    let v = w .before .before .before in
-    (omega arith, ((v .pre .1), (w .record-at .ensures), kind-there (v .pre .1 .statement) (w .record-at .ensures) (c .before .if2 .taken)))
+write-statement-idle-at-requires : (t : ℕ) → write-statement-lts.Need-idle-at-requires (write-statement-claims t) (write-statement-at t) write-statement.Post
+write-statement-idle-at-requires t c κs =
+    let S = c .before .before .before .before .before .pre .1 .statement in
+    (record { order = omega (arith, S .early); inside = S .entered .file .inside }, S .early, S .entered .laying .settings .short)
+
+write-statement-write-idle-requires : (t : ℕ) → write-statement-lts.Need-write-idle-requires (write-statement-claims t) (write-statement-at t) write-statement.Post
+write-statement-write-idle-requires t c κs =
+    let start = c .before .before .before .before .before .before .before .before in
+    skips-fit (start .pre .1) (c .before .before .before .before .before .record-at .ensures) (c .before .before .idle-at .ensures) (c .before .if2 .taken)
 
 write-statement-same-length-2 : (t : ℕ) → write-statement-lts.Need-same-length-2 (write-statement-claims t) (write-statement-at t) write-statement.Post
 write-statement-same-length-2 t c = search needs
 
 write-statement-returns-2 : (t : ℕ) → write-statement-lts.Need-returns-2 (write-statement-claims t) (write-statement-at t) write-statement.Post
-write-statement-returns-2 t c = c .before .before .write-rounds .ensures
+write-statement-returns-2 t c =
+    let at-record-at = c .before .before .before .before .before .before .before .before in
+    skips-laid (at-record-at .before .before .before .pre .1) (at-record-at .record-at .ensures) (c .before .before .before .before .before .idle-at .ensures)
+    (c .before .before .before .before .if2 .taken) (c .before .before .write-idle .ensures)
 
-write-statement-add-next : (t : ℕ) → write-statement-lts.Need-add-next (write-statement-claims t) (write-statement-at t) write-statement.Post
-write-statement-add-next t c =
-    let w = c .before .before .before .before .before .before .before in
-    omega (arith, w .pre .1 .statement .early, w .pre .1 .statement .entered .file .inside)
-
-write-statement-add-put-skips : (t : ℕ) → write-statement-lts.Need-add-put-skips (write-statement-claims t) (write-statement-at t) write-statement.Post
-write-statement-add-put-skips t c =
-    let w = c .before .before .before .before .before .before .before .before .before .before in
-    omega (arith, w .pre .1 .statement .entered .laying .settings .short)
-
-write-statement-put-skips-requires : (t : ℕ) → write-statement-lts.Need-put-skips-requires (write-statement-claims t) (write-statement-at t) write-statement.Post
-write-statement-put-skips-requires t c κs =
-    let w = c .before .before .before .before .before .before .before .before in
-    let v = w .before .before .before in
-    (v .pre .1 .statement .entered .laying, omega arith, skip-room (v .pre .1) (w .record-at .ensures) (c .before .before .if3 .taken))
+write-statement-write-rounds-requires : (t : ℕ) → write-statement-lts.Need-write-rounds-requires (write-statement-claims t) (write-statement-at t) write-statement.Post
+write-statement-write-rounds-requires t c κs =
+    let e = c .before .before .before .before .before .before .before .record-at .ensures in (
+      omega arith,
+      (
+        c .before .before .before .before .before .before .before .before .before .before .pre .1,
+        e,
+        kind-there
+            (c .before .before .before .before .before .before .before .before .before .before .pre .1 .statement) e (c .before .if3 .taken),
+      ),
+    )
 
 write-statement-same-length-3 : (t : ℕ) → write-statement-lts.Need-same-length-3 (write-statement-claims t) (write-statement-at t) write-statement.Post
 write-statement-same-length-3 t c = search needs
 
 write-statement-returns-3 : (t : ℕ) → write-statement-lts.Need-returns-3 (write-statement-claims t) (write-statement-at t) write-statement.Post
-write-statement-returns-3 t c =
-    let w = c .before .before .before .before .before in
-    let v = w .before .before .before .before .before .before in
-    let u = v .before .before .before in
-    skip-laid (u .pre .1) (v .record-at .ensures) (w .if3 .taken) (c .before .before .put-skips .ensures)
+write-statement-returns-3 t c = c .before .before .write-rounds .ensures
 
 write-statement-step-ticks-requires : (t : ℕ) → write-statement-lts.Need-step-ticks-requires (write-statement-claims t) (write-statement-at t) write-statement.Post
 write-statement-step-ticks-requires t c κs = search needs
 
 write-statement-put-step-requires : (t : ℕ) → write-statement-lts.Need-put-step-requires (write-statement-claims t) (write-statement-at t) write-statement.Post
 write-statement-put-step-requires t c κs =
-    let w = c .before .before .before .before in
-    let v = w .before .before .before .before in
-    let u = v .before .before .before in
-    let d = step-short (u .pre .1 .statement) (v .record-at .ensures) (c .before .before .if3 .left) (w .before .before .if1 .left) (w .if2 .left)
-    (c .before .step-ticks .ensures) in (
-      u .pre .1 .statement .entered .laying,
-      d .0,
-      d .1,
-      act-fits (u .pre .1) (v .record-at .ensures) (c .before .before .if3 .left) (w .before .before .if1 .left) (w .if2 .left) (c .before .step-ticks .ensures),
-    )
+    let F = c .before .before .before .before .before .before .before .before .before .before .before .pre .1 in
+    let e = c .before .before .before .before .before .before .before .before .record-at .ensures in
+    let no = no-skip F e (c .before .before .before .before .before .idle-at .ensures) (c .before .before .before .before .if2 .left) in
+    let d = step-short (F .statement) e no (c .before .before .before .before .before .before .if1 .left) (c .before .before .if3 .left) (c .before .step-ticks .ensures) in
+    (F .statement .entered .laying, d .0, d .1, act-fits F e no (c .before .before .before .before .before .before .if1 .left) (c .before .before .if3 .left) (c .before .step-ticks .ensures))
+
+write-statement-add-next : (t : ℕ) → write-statement-lts.Need-add-next (write-statement-claims t) (write-statement-at t) write-statement.Post
+write-statement-add-next t c =
+    let start = c .before .before .before .before .before .before .before .before .before .before .before .before .before .before in
+    omega (arith, start .pre .1 .statement .early, start .pre .1 .statement .entered .file .inside, start .good .0 .0)
 
 write-statement-same-length-4 : (t : ℕ) → write-statement-lts.Need-same-length-4 (write-statement-claims t) (write-statement-at t) write-statement.Post
 write-statement-same-length-4 t c = search needs
 
 write-statement-returns-4 : (t : ℕ) → write-statement-lts.Need-returns-4 (write-statement-claims t) (write-statement-at t) write-statement.Post
 write-statement-returns-4 t c =
-    let w = c .before .before .before .before in
-    let v = w .before .before .before in
-    let u = v .before .before .before .before in
-    let q = u .before .before .before in
-    act-laid (q .pre .1) (u .record-at .ensures) (w .before .if3 .left) (v .before .before .if1 .left) (v .if2 .left) (w .step-ticks .ensures)
-    (c .before .before .put-step .ensures)
+    let F = c .before .before .before .before .before .before .before .before .before .before .before .before .before .before .pre .1 in
+    let e = c .before .before .before .before .before .before .before .before .before .before .before .record-at .ensures in
+    act-laid F e (no-skip F e (c .before .before .before .before .before .before .before .before .idle-at .ensures)
+    (c .before .before .before .before .before .before .before .if2 .left)) (c .before .before .before .before .before .before .before .before .before .if1 .left)
+    (c .before .before .before .before .before .if3 .left) (c .before .before .before .before .step-ticks .ensures) (c .before .before .put-step .ensures)
 
 pub +write-block+write-branch+write-rounds+write-side+write-statement-spec :
     {M : Type 1} → statement M
@@ -710,24 +625,22 @@ pub +write-block+write-branch+write-rounds+write-side+write-statement-spec :
     write-branch.Post
     (write-branch-put-step-requires t)
     (write-branch-written-requires t)
-    (write-branch-side-requires t)
-    (write-branch-add-measure-block t)
-    (write-branch-measure-block-requires t)
-    (write-branch-add-other t)
-    (write-branch-measure-block-requires-2 t)
-    (write-branch-later-requires t)
+    (write-branch-mul-end t)
+    (write-branch-element-copy-out-end t)
     (write-branch-add-write-side t)
+    (write-branch-add-write-side-2 t)
     (write-branch-sub-write-side t)
     (write-branch-part-write-side-start t)
     (write-branch-part-write-side-end t)
     (write-branch-write-side-requires t)
-    (write-branch-add-mid t)
+    (write-branch-written-requires-2 t)
+    (write-branch-add-write-side-3 t)
+    (write-branch-back-requires t)
     (write-branch-sub-write-side-2 t)
     (write-branch-part-write-side-start-2 t)
     (write-branch-part-write-side-end-2 t)
     (write-branch-write-side-requires-2 t)
-    (write-branch-meet-requires t)
-    (write-branch-add-t21 t)
+    (write-branch-add-t24 t)
     (write-branch-same-length t)
     (write-branch-returns t))
     (λ t. write-rounds-lts.spec (write-rounds-claims t) (write-rounds-at t)
@@ -735,7 +648,6 @@ pub +write-block+write-branch+write-rounds+write-side+write-statement-spec :
     write-rounds-Inv-loop
     write-rounds-μ-loop
     (write-rounds-add-body t)
-    (write-rounds-rounds-requires t)
     (write-rounds-loop-holds t)
     (write-rounds-written-requires t)
     (write-rounds-sub-write-block t)
@@ -746,11 +658,12 @@ pub +write-block+write-branch+write-rounds+write-side+write-statement-spec :
     (write-rounds-loop-less t)
     (write-rounds-loop-again t)
     (write-rounds-written-requires-2 t)
+    (write-rounds-check-of-requires t)
     (write-rounds-sub-put-step t)
     (write-rounds-part-put-step-start t)
     (write-rounds-part-put-step-end t)
     (write-rounds-put-step-requires t)
-    (write-rounds-add-t24 t)
+    (write-rounds-add-t27 t)
     (write-rounds-same-length t)
     (write-rounds-returns t))
     (λ t. write-side-lts.spec (write-side-claims t) (write-side-at t)
@@ -761,7 +674,6 @@ pub +write-block+write-branch+write-rounds+write-side+write-statement-spec :
     (write-side-part-close-side-start t)
     (write-side-part-close-side-end t)
     (write-side-close-side-requires t)
-    (write-side-add-result t)
     (write-side-same-length t)
     (write-side-returns t))
     λ t. write-statement-lts.spec (write-statement-claims t) (write-statement-at t)
@@ -770,15 +682,15 @@ pub +write-block+write-branch+write-rounds+write-side+write-statement-spec :
     (write-statement-write-branch-requires t)
     (write-statement-same-length t)
     (write-statement-returns t)
-    (write-statement-write-rounds-requires t)
+    (write-statement-idle-at-requires t)
+    (write-statement-write-idle-requires t)
     (write-statement-same-length-2 t)
     (write-statement-returns-2 t)
-    (write-statement-add-next t)
-    (write-statement-add-put-skips t)
-    (write-statement-put-skips-requires t)
+    (write-statement-write-rounds-requires t)
     (write-statement-same-length-3 t)
     (write-statement-returns-3 t)
     (write-statement-step-ticks-requires t)
     (write-statement-put-step-requires t)
+    (write-statement-add-next t)
     (write-statement-same-length-4 t)
     (write-statement-returns-4 t)

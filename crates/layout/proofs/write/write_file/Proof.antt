@@ -54,7 +54,7 @@ blocked : (c : lts.After-written claims reads.Pre reads.Post) →
     let k = b .before .before .before .before .before .before in
     let a = k .before .before .before .before .before .args in
     Part (blockBytes (layout (a .n) (fileTree (a .s .now)))) (tailBytes (a .n) (b .write-block .result .state)) (a .out .now)
-    (back (k .put-commands .last .1 .1 .0) (k .put-commands .result) (b .write-block .last .1 .1 .1 .1 .1 .0)) (k .put-commands .result + c .written .result)
+    (back (k .put-commands .last .1 .1 .0) (k .put-commands .result) (b .write-block .last .1 .1 .1 .1 .1 .1 .1 .0)) (k .put-commands .result + c .written .result)
 blocked c =
     let b = c .before .before .before .before in
     let k = b .before .before .before .before .before .before in
@@ -96,7 +96,7 @@ written-requires c κs =
 add-tail : tie.Need-add-tail
 add-tail c =
     let k = c .before .before .before .before .before .before .before .before .before .before in
-    omega (arith, part-room (blocked c), k .before .before .before .before .before .good .1 .1 .0 .0)
+    omega (arith, part-room (blocked c), k .before .before .before .before .before .good .1 .1 .1 .0 .0)
 
 sub-put-tail : tie.Need-sub-put-tail
 sub-put-tail c = part-at (blocked c)

@@ -1,0 +1,222 @@
+-- Measuring, with the meetings that it notes: block, statement and loop, turn by turn.
+use Prim.Native.Nat.{ℕ, _+_, _≤_, _<_, min}
+use native.Mathlib.Omega.{arith}
+use mathlib.Core.Path.{_≡_, refl, ap, sym, subst, _∙_}
+use mathlib.Core.Bool.{true, false}
+use mathlib.Core.List.{List, _++_}
+use lib.ListN.{length, length-append}
+use Rattle.model.specs.declared.Form.the-variants.{Equalised}
+use Rattle.model.specs.declared.Settings.{Settings}
+use Rattle.model.specs.Records.{kindAt, recordAt, SKIP, IF, TIMES}
+use Rattle.model.specs.Trees.{check, Block, nil, skip, act, branch, times, _⧺_}
+use Rattle.model.specs.Times.{ticks}
+use Rattle.model.specs.Layout.{before, idles}
+use Rattle.records.specs.declared.Record.{Record}
+use Rattle.records.specs.Records.{recordOf}
+use Rattle.reading.specs.Closing.{closesBlock}
+use Rattle.reading.specs.Ranges.{Stands, afterFirst}
+use Rattle.timing.specs.Times.{stepTicks}
+use Rattle.placing.specs.declared.clock.State.{State}
+use Rattle.layout.specs.declared.measure.Passage.{Passage}
+use Rattle.placing.specs.States.{Stepped, Skipped, backTo}
+use Rattle.layout.specs.Ranges.{only}
+use Rattle.layout.specs.Measured.{laid, Meets, Entered, Statement, BlockPassed, StatementPassed}
+use Rattle.layout.specs.Meetings.{meetings, Noting, Noted, Notes, BlockMeasured, StatementMeasured}
+use Rattle.reading.proofs.Standing.{stands-once, skip-at}
+use Rattle.layout.proofs.Noting.{notes-++, notes-first, plain-step, plain-idles, noted-plain, noted-⧺}
+use Rattle.layout.proofs.Unrolled.{laid-skip, laid-act, rounds, rounds-none}
+use Rattle.layout.proofs.Passing.{in-time, Passing, passing-start, left, all-done, none-closed, none-ended, passing-done, one, passing-late, passing-next}
+use Rattle.layout.proofs.PassingSteps.{block, stands, kind-there, skip-passed, is-act, act-passed}
+use Rattle.layout.proofs.PassingRounds as loops
+use Rattle.layout.proofs.PassingRounds.{PassingRounds}
+use Rattle.layout.proofs.PassingBranches as ifs
+
+-- nothing is noted of what ends too late
+pub block-late : {s : List ℕ} {i to : ℕ} {σ : Settings} {at : State} {k : ℕ} {old new : List ℕ} {r : Passage} → BlockPassed s i to σ at r → σ .period < r .state .tick
+    → BlockMeasured s i to σ at k old new r
+block-late P h = record { passed = P; noted = λ b B l. absurd (omega (arith, P .right b B .after l .tick)) }
+
+pub statement-late : {s : List ℕ} {i to : ℕ} {σ : Settings} {at : State} {k : ℕ} {old new : List ℕ} {r : Passage} → StatementPassed s i to σ at r → σ .period < r .state .tick
+    → StatementMeasured s i to σ at k old new r
+statement-late P h = record { passed = P; noted = λ b B l. absurd (omega (arith, P .right b B .after l .tick)) }
+
+-- A BLOCK
+
+-- the meetings of what is done are noted
+pub record Measuring (s : List ℕ) (from to : ℕ) (σ : Settings) (at state : State) (next k n : ℕ) (old new : List ℕ) : Type 0 where
+  pub passing : Passing s from to σ at state next
+  pub noted : Noted σ (passing .done) (at .tick) k n old new
+  pub few : k ≤ 1821
+
+pub measuring-start : {s : List ℕ} {from to : ℕ} {σ : Settings} {at : State} {k : ℕ} {table : List ℕ} → Entered s from to σ at → k ≤ 1821
+    → Measuring s from to σ at at from k k table table
+unfolding passing-start
+measuring-start E h = record { passing = passing-start E; noted = noted-plain h refl; few = h }
+
+module _ {s : List ℕ} {from to : ℕ} {σ : Settings} {at state : State} {next k n : ℕ} {old new : List ℕ} (M : Measuring s from to σ at state next k n old new) where
+  abbrev P : Passing s from to σ at state next
+  P = M .passing
+
+  pub measuring-few : n ≤ 1821
+  measuring-few = omega (arith, M .noted .next)
+
+  measured : left P ≡ nil → BlockMeasured s from to σ at k old new (record { state = state; next = next; ifs = n })
+  measured e = record {
+    passed = passing-done P e;
+    noted = λ b B l.
+        subst (λ (c : Block). Noted σ c (at .tick) k n old new)
+        (sym (all-done P e) ∙ ap (λ (x : Block). laid σ x (at .tick)) (stands-once (P .all .file .block) b (P .all .file .stands) B)) (M .noted);
+  }
+
+  pub measuring-closed : closesBlock (kindAt s next) ≡ true → BlockMeasured s from to σ at k old new (record { state = state; next = next; ifs = n })
+  measuring-closed c = measured (none-closed P c)
+
+  pub measuring-ended : to ≤ next → BlockMeasured s from to σ at k old new (record { state = state; next = next; ifs = n })
+  measuring-ended l = measured (none-ended P l)
+
+  module _ (l : next < to) (c : closesBlock (kindAt s next) ≡ false) {table : List ℕ} {r : Passage} (S : StatementMeasured s next to σ state n new table r) where
+    pub measuring-late : σ .period < r .state .tick → BlockMeasured s from to σ at k old table r
+    measuring-late h = block-late (passing-late P l c (S .passed) h) h
+
+    pub measuring-next : r .state .tick ≤ σ .period → Measuring s from to σ at (r .state) (r .next) k (r .ifs) old table
+    unfolding passing-next
+    measuring-next h = record {
+      passing = passing-next P l c (S .passed) h;
+      noted = noted-⧺ (P .done) (laid σ (only (left P)) (state .tick)) (M .few) (P .after .tick) (M .noted)
+          (S .noted (left P) (P .rest .file .stands) (in-time (S .passed .right (left P) (P .rest .file .stands)) h));
+      few = M .few;
+    }
+
+-- an empty side
+pub side-empty : {s : List ℕ} {i to : ℕ} {σ : Settings} {at : State} {k : ℕ} {table : List ℕ} → Entered s i to σ at → k ≤ 1821 → closesBlock (kindAt s i) ≡ true
+    → BlockMeasured s i to σ at k table table (record { state = at; next = i; ifs = k })
+side-empty E h c = measuring-closed (measuring-start E h) c
+
+-- A STATEMENT
+
+module _ {s : List ℕ} {i to : ℕ} {σ : Settings} {from : State} (S : Statement s i to σ from) {k : ℕ} where
+  -- where the block is known to be b, and its first statement is laid as c
+  pub noted-as : {n : ℕ} {old new : List ℕ} (b : Block) → block S ≡ b → (c : Block) → laid σ (only b) (from .tick) ≡ c → Noted σ c (from .tick) k n old new
+      → (y : Block) → Stands Equalised s i to y → Noted σ (laid σ (only y) (from .tick)) (from .tick) k n old new
+  noted-as {n} {old} {new} b e c f N y Y =
+      subst (λ (x : Block). Noted σ x (from .tick) k n old new)
+      (sym f ∙ ap (λ (z : Block). laid σ (only z) (from .tick)) (sym e ∙ stands-once (block S) y (stands S) Y)) N
+
+  module _ (few : k ≤ 1821) {table : List ℕ} {x : Record} (e : recordOf x ≡ recordAt s i) where
+    pub skip-measured : x .kind ≡ SKIP → {r : State} → Skipped σ (x .count) from r
+        → StatementMeasured s i to σ from k table table (record { state = r; next = i + 1; ifs = k })
+    skip-measured h A =
+        let n = recordAt s i .count in
+        record {
+          passed = skip-passed S e h A;
+          noted = λ y Y l. noted-as (skip n (afterFirst (block S))) (skip-at (block S) (stands S) (S .early) (S .goes-on) (kind-there S e h))
+              (idles σ n (from .tick)) (laid-skip σ n (from .tick)) (noted-plain few (plain-idles σ n (from .tick) (from .tick))) y Y;
+        }
+
+    pub act-measured : (x .kind ≡ SKIP → ⊥) → (x .kind ≡ IF → ⊥) → (x .kind ≡ TIMES → ⊥) → {d : ℕ} {r : State} → d ≡ stepTicks σ (recordOf x) → Stepped σ from d r
+        → StatementMeasured s i to σ from k table table (record { state = r; next = i + 1; ifs = k })
+    act-measured a b c h T =
+        let p = is-act S e a b c in
+        let lead = before σ (from .tick) (ticks σ (p .act-of)) in
+        record {
+          passed = act-passed S e a b c h T;
+          noted = λ y Y l. noted-as (act (p .act-of) (afterFirst (block S))) (p .is) (lead ⧺ act (p .act-of) nil) (laid-act σ (p .act-of) (from .tick))
+              (noted-plain few (plain-step σ (ticks σ (p .act-of)) (p .act-of) (from .tick))) y Y;
+        }
+
+-- A LOOP
+
+-- the meetings of its rounds are noted
+pub record MeasuringRounds (s : List ℕ) (i to : ℕ) (σ : Settings) (from : State) (last : ℕ) (state : State) (next round k n : ℕ) (old new : List ℕ) : Type 0 where
+  pub passing : PassingRounds s i to σ from last state next round
+  pub noted : Noted σ (rounds σ (loops.body (passing .loop) (passing .kind)) round (from .tick)) (from .tick) k n old new
+  pub few : k ≤ 1821
+
+module _ {s : List ℕ} {i to : ℕ} {σ : Settings} {from : State} {last : ℕ} where
+  pub loop-start : {k : ℕ} {table : List ℕ} → PassingRounds s i to σ from last from (i + 1) 0 → k ≤ 1821 → MeasuringRounds s i to σ from last from (i + 1) 0 k k table table
+  loop-start P h = record {
+    passing = P;
+    noted = noted-plain h (ap (λ (c : Block). meetings σ c (from .tick)) (rounds-none σ (loops.body (P .loop) (P .kind)) (from .tick)));
+    few = h;
+  }
+
+  module _ {state : State} {next round k n : ℕ} {old new : List ℕ} (M : MeasuringRounds s i to σ from last state next round k n old new) where
+    abbrev L : PassingRounds s i to σ from last state next round
+    L = M .passing
+
+    pub loop-few : n ≤ 1821
+    loop-few = omega (arith, M .noted .next)
+
+    module _ (l : round < last) {table : List ℕ} {r : Passage} (B : BlockMeasured s (i + 1) to σ state n new table r) where
+      pub loop-late : σ .period < r .state .tick → StatementMeasured s i to σ from k old table r
+      loop-late h = statement-late (loops.rounding-late (L .loop) (L .kind) (L .count-is) (L .turn) l (B .passed) h) h
+
+      pub loop-next : r .state .tick ≤ σ .period → MeasuringRounds s i to σ from last (r .state) (r .next) (round + 1) k (r .ifs) old table
+      loop-next h =
+          let a = loops.body (L .loop) (L .kind) in
+          record {
+            passing = record {
+              loop = L .loop;
+              kind = L .kind;
+              count-is = L .count-is;
+              turn = loops.rounding-next (L .loop) (L .kind) (L .count-is) (L .turn) l (B .passed) h;
+            };
+            noted = subst (λ (c : Block). Noted σ c (from .tick) k (r .ifs) old table) (sym (loops.more (L .loop) (L .kind) (L .count-is) (L .turn) l (B .passed)))
+                (noted-⧺ (rounds σ a round (from .tick)) (laid σ a (state .tick)) (M .few) (L .turn .after .tick) (M .noted)
+                (B .noted a (loops.body-there (L .loop) (L .kind)) (in-time (loops.passes (L .loop) (L .kind) (L .count-is) (L .turn) l (B .passed)) h)));
+            few = M .few;
+          }
+
+    module _ (l : last ≤ round) {r : State} (T : Stepped σ state 1 r) where
+      pub loop-measured : StatementMeasured s i to σ from k old new (record { state = r; next = next + 1; ifs = n })
+      loop-measured =
+          let a = loops.body (L .loop) (L .kind) in
+          let q = loops.test (L .loop) (L .kind) in
+          let u = loops.check-tick (L .loop) (L .kind) (L .count-is) in
+          let N = subst (λ (m : ℕ). Noted σ (rounds σ a m (from .tick)) (from .tick) k n old new) (loops.done (L .loop) (L .kind) (L .count-is) (L .turn) l) (M .noted) in
+          record {
+            passed = loops.rounds-passed (L .loop) (L .kind) (L .count-is) (L .turn) l T;
+            noted = λ y Y h. noted-as (L .loop) (times q (loops.count (L .loop) (L .kind)) a (afterFirst (block (L .loop)))) (loops.is-times (L .loop) (L .kind))
+                (loops.whole (L .loop) (L .kind) (L .count-is)) (loops.laid-whole (L .loop) (L .kind) (L .count-is))
+                (noted-⧺ (rounds σ a last (from .tick)) (before σ u 1 ⧺ act (check q) nil) (M .few) refl N (noted-plain loop-few (plain-step σ 1 (check q) u))) y Y;
+          }
+
+-- AN IF
+
+module _ {s : List ℕ} {i to : ℕ} {σ : Settings} {from : State} (S : Statement s i to σ from) (c : kindAt s i ≡ IF) {k : ℕ} (few : k ≤ 1821) {test : State} (T : Stepped σ from 1 test)
+    (h : test .tick ≤ σ .period) where
+  -- the first place behind its own
+  module _ {n : ℕ} (e : n ≡ min (k + 1) 1821) {old mid : List ℕ} {a : Passage} (A : BlockMeasured s (i + 1) to σ test n old mid a) (l : a .state .tick ≤ σ .period) where
+    first-noted : Noted σ (ifs.first S c T) (test .tick) n (a .ifs) old mid
+    first-noted = A .noted (ifs.one S c T) (ifs.one-there S c T) (in-time (A .passed .right (ifs.one S c T) (ifs.one-there S c T)) l)
+
+    pub first-few : a .ifs ≤ 1821
+    first-few = omega (arith, first-noted .next)
+
+    module _ {end : List ℕ} {d : Passage} (D : BlockMeasured s (a .next + 1) to σ (backTo test 0 (a .state .records)) (a .ifs) mid end d) (m : d .state .tick ≤ σ .period) where
+      second-noted : Noted σ (ifs.second S c T) (test .tick) (a .ifs) (d .ifs) mid end
+      second-noted =
+          let there = ifs.two-at S c T h (A .passed) l in
+          D .noted (ifs.two S c T) there (in-time (D .passed .right (ifs.two S c T) there) m)
+
+      module _ {r : State} (M : Meets σ (a .state) (d .state) r) {new : List ℕ} (N : Noting k (r .tick) end new) where
+        meets-at : r .tick ≡ ifs.end S c T
+        meets-at = M .right test (ifs.first S c T) (ifs.second S c T) (ifs.test-wait S c T) (ifs.one-after S c T h (A .passed) l) (ifs.two-after S c T h (A .passed) l (D .passed) m) .tick
+
+        all-noted : Noted σ (ifs.whole S c T) (from .tick) k (d .ifs) old new
+        all-noted =
+            let x = meetings σ (ifs.first S c T) (test .tick) in
+            let y = meetings σ (ifs.second S c T) (test .tick) in
+            let z = ifs.whole-meetings S c T in
+            record {
+              next = omega (arith, e, first-noted .next, second-noted .next, ap length z, length-append x y);
+              notes = subst (λ (ms : List ℕ). Notes ms k old new) (sym z)
+                  (notes-first few (x ++ y) e (notes-++ (omega (arith, e)) x y (first-noted .next) (first-noted .notes) (second-noted .notes))
+                  (subst (λ (t : ℕ). Noting k t end new) meets-at N));
+            }
+
+        pub branch-measured : StatementMeasured s i to σ from k old new (record { state = r; next = d .next + 1; ifs = d .ifs })
+        branch-measured = record {
+          passed = ifs.branch-passed S c T h (A .passed) l (D .passed) m M;
+          noted = λ y Y w. noted-as S (branch (ifs.q S c T) (ifs.one S c T) (ifs.two S c T) (afterFirst (block S))) (ifs.is-if S c T) (ifs.whole S c T) (ifs.laid-whole S c T) all-noted y Y;
+        }

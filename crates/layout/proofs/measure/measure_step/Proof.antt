@@ -1,0 +1,35 @@
+use Rattle.layout.proofs.Clocking.{step-laying, step-fits, step-skipped, step-stepped}
+use borrow.Author.Needs.{needs}
+use Rattle.layout.proofs.measure.measure_step.Statement.{statement}
+use Rattle.layout.proofs.measure.measure_step.Tie as tie
+
+settings-in-requires : tie.Need-settings-in-requires
+settings-in-requires c κs = search needs
+
+filled-requires : tie.Need-filled-requires
+filled-requires c κs = step-laying ((c .before .before .settings-in) .ensures) (c .before .before .before .pre)
+
+returns : tie.Need-returns
+returns c = step-skipped ((c .before .before .before .settings-in) .ensures) ((c .before .if1) .taken) (c .filled .ensures)
+
+step-ticks-requires : tie.Need-step-ticks-requires
+step-ticks-requires c κs = search needs
+
+stepped-requires : tie.Need-stepped-requires
+stepped-requires c κs =
+    let d = step-fits ((c .before .before .before .settings-in) .ensures) (c .before .before .before .before .pre) ((c .before .if1) .left) (c .step-ticks .ensures) in
+    (step-laying ((c .before .before .before .settings-in) .ensures) (c .before .before .before .before .pre), d .0, d .1)
+
+returns-2 : tie.Need-returns-2
+returns-2 c = step-stepped ((c .before .before .before .before .settings-in) .ensures) ((c .before .before .if1) .left) ((c .before .step-ticks) .ensures) (c .stepped .ensures)
+
+pub measure-step-spec : {M : Type 1} → statement M
+measure-step-spec =
+    tie.close
+    (tie.spec
+    settings-in-requires
+    filled-requires
+    returns
+    step-ticks-requires
+    stepped-requires
+    returns-2)

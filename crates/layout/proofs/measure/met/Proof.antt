@@ -1,0 +1,37 @@
+use Prim.Native.Nat.{ℕ, _+_}
+use native.Mathlib.Omega.{arith}
+use mathlib.Core.Path.{_≡_, ap, _∙_}
+use Rattle.records.specs.Blocks.{skipRecords}
+use Rattle.records.proofs.Blocks.{one-skip}
+use Rattle.placing.specs.declared.clock.State.{State}
+use Rattle.placing.specs.States.{cap}
+use Rattle.layout.specs.Measured.{metAt}
+use borrow.Author.Needs.{needs}
+use Rattle.layout.proofs.measure.met.Statement.{statement}
+use Rattle.layout.proofs.measure.met.Tie as tie
+
+-- the count of the records
+met-is : (l : State) (k m n : ℕ) → k ≡ skipRecords (l .wait) → m ≡ cap (n + (2 + k))
+    → _≡_ {A = State} (record { tick = l .tick; left = l .left; windows = l .windows; wait = 0; records = m }) (metAt l n)
+met-is l k m n e f =
+    ap (λ (x : ℕ). record { tick = l .tick; left = l .left; windows = l .windows; wait = 0; records = x }) (f ∙ ap (λ (x : ℕ). cap (n + (2 + x))) e)
+
+cast-skip-records : tie.Need-cast-skip-records
+cast-skip-records c = search needs
+
+skip-records-requires : tie.Need-skip-records-requires
+skip-records-requires c κs = search needs
+
+add-counted : tie.Need-add-counted
+add-counted c = omega (arith, c .skip-records .ensures, one-skip ((c .before .before .args) .late .wait))
+
+counted-requires : tie.Need-counted-requires
+counted-requires c κs = omega (arith, c .skip-records .ensures, one-skip ((c .before .before .args) .late .wait))
+
+returns : tie.Need-returns
+returns c = met-is ((c .before .before .before .args) .late) _ _ ((c .before .before .before .args) .count) ((c .before .skip-records) .ensures) (c .counted .ensures)
+
+pub met-spec : {M : Type 1} → statement M
+met-spec =
+    tie.close
+    (tie.spec cast-skip-records skip-records-requires add-counted counted-requires returns)
