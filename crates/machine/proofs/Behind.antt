@@ -1,33 +1,44 @@
--- What is behind a block, and the rounds of a loop.
+-- What is behind a block, and what the kind of a record says.
 use Prim.Native.Nat.{ℕ, _+_}
-use mathlib.Core.Path.{_≡_, refl, ap, sym, _∙_}
-use mathlib.Core.Bool.{true}
+use mathlib.Core.Path.{_≡_, ap, sym, _∙_}
+use mathlib.Core.Bool.{true, false}
+use mathlib.Core.Logic.{⊎-elim}
 use mathlib.Core.List.{List}
-use mathlib.Core.Logic.{inl, inr}
 use native.Mathlib.Omega.{arith}
+use lib.Dec.{eqb}
 use lib.ListN.{getD}
-use borrow.Author.Tests.{eq-eqb, ne-eqb}
-use Rattle.model.specs.Records.{kindAt, ELSE}
-use Rattle.reading.specs.Closing.{closesBlock}
-use Rattle.reading.proofs.Standing.{stands-closed}
-use Rattle.machine.specs.Contracts.{Rounds, Inner, closed, passed}
+use borrow.Author.Tests.{eqb-true, eq-eqb, ne-eqb}
+use Rattle.model.specs.Records.{kindAt, IF, ELSE, WHILE, END, TIMES}
+use Rattle.model.proofs.Shapes.{or-cases}
+use Rattle.reading.specs.Closing.{opensBlock, closesBlock}
+use Rattle.machine.specs.Contracts.{Inner, closing, closed, passed, isLoop}
 
 -- BEHIND A BLOCK
 
-pub behind-is : {s ends : List ℕ} (k to : ℕ) → Inner s k to ends → getD ends (k + 1) 0 + 1 ≡ closed s k to
-unfolding closed
-behind-is k to I = ap (λ (n : ℕ). n + 1) (I .table .at (k + 1) (omega (arith, I .before)))
+pub last-is : {s ends : List ℕ} (k : ℕ) → Inner s k ends → getD ends (k + 1) 0 ≡ closing s k
+unfolding closing
+last-is k I = I .table .at (k + 1) (omega (arith, I .before))
 
-pub past-else : (s : List ℕ) (k to r n : ℕ) → n ≡ kindAt s k → n ≡ ELSE → r ≡ closed s k to → r ≡ passed s k to
-past-else s k to r n e h p = rw (eq-eqb (kindAt s k) ELSE (sym e ∙ h)) p
+pub past-else : (s : List ℕ) (k r : ℕ) {n : ℕ} → n ≡ kindAt s k → n ≡ ELSE → r ≡ closed s k → r ≡ passed s k
+past-else s k r e h p = rw (eq-eqb (kindAt s k) ELSE (sym e ∙ h)) p
 
-pub past-end : (s : List ℕ) (k to n : ℕ) → n ≡ kindAt s k → (n ≡ ELSE → ⊥) → k + 1 ≡ passed s k to
-past-end s k to n e h = rw (ne-eqb (kindAt s k) ELSE (λ x. h (e ∙ x)))
+pub past-end : (s : List ℕ) (k : ℕ) {n : ℕ} → n ≡ kindAt s k → (n ≡ ELSE → ⊥) → k + 1 ≡ passed s k
+past-end s k e h = rw (ne-eqb (kindAt s k) ELSE (λ x. h (e ∙ x)))
 
--- THE ROUNDS OF A LOOP
+-- a record that is neither closes no block
+pub closes-neither : {n m : ℕ} → n ≡ m → (n ≡ ELSE → ⊥) → (n ≡ END → ⊥) → closesBlock m ≡ false
+closes-neither {m = m} e h k = simp (ne-eqb m ELSE (λ x. h (e ∙ x)), ne-eqb m END (λ x. k (e ∙ x)))
 
-pub no-rounds : (s : List ℕ) (i to c : ℕ) → closesBlock (kindAt s i) ≡ true → Rounds s i to c 0
-no-rounds s i to c k = record { same = λ f a A. inr (stands-closed a A k, refl) }
+-- WHAT IT IS
 
-pub all-rounds : (s : List ℕ) (i to c : ℕ) → Rounds s i to c c
-all-rounds s i to c = record { same = λ f a A. inl refl }
+-- a loop closes no block
+pub loop-goes-on : (k : ℕ) → isLoop k ≡ true → closesBlock k ≡ false
+loop-goes-on k h = ⊎-elim (λ e. ap closesBlock (eqb-true k WHILE e)) (λ e. ap closesBlock (eqb-true k TIMES e)) (or-cases (eqb k WHILE) (eqb k TIMES) h)
+
+-- one that is no WHILE
+pub loop-times : (k : ℕ) → isLoop k ≡ true → (k ≡ WHILE → ⊥) → k ≡ TIMES
+loop-times k o y = eqb-true k TIMES (rw (ne-eqb k WHILE y) at o)
+
+-- a record that is neither a loop nor an IF opens no block
+pub opens-neither : {n m : ℕ} → n ≡ m → (n ≡ IF → ⊥) → isLoop n ≡ false → opensBlock m ≡ false
+opens-neither {n} e x h = ap opensBlock (sym e) ∙ rw (ne-eqb n IF x) h

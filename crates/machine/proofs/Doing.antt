@@ -3,7 +3,7 @@ use Prim.Native.Nat.{ℕ, zero, suc, _+_, _-_, _≤_, _<_}
 use native.Mathlib.Omega.{arith}
 use native.Mathlib.Nat.{add-zero, add-assoc}
 use mathlib.Core.Path.{_≡_, refl, ap, sym, subst, _∙_}
-use mathlib.Core.Bool.{Bool, true, false, cond, _||_, or-false, or-assoc}
+use mathlib.Core.Bool.{Bool, true, false, cond, _||_, or-false, or-assoc, false≢true}
 use mathlib.Core.List.{List, [], _∷_, _++_, append-nil}
 use lib.Dec.{leb, ltb}
 use borrow.Author.Tests.{leb-true, leb-false, le-leb, lt-leb, le-ltb, lt-ltb, ltb-true, ltb-false}
@@ -20,14 +20,25 @@ ltb-less c d n l = go (ltb (c - d) n) refl
     go true k = lt-ltb c (d + n) (omega (arith, ltb-true (c - d) n k))
     go false k = le-ltb c (d + n) (omega (arith, ltb-false (c - d) n k))
 
-left-false : (a b : Bool) → (a || b) ≡ false → a ≡ false
-left-false true b h = h
-left-false false b h = refl
+-- neither of two tests holds
+pub neither : (a b : Bool) → (a || b) ≡ false → (a ≡ false) × (b ≡ false)
+neither true b e = absurd (false≢true (sym e))
+neither false b e = (refl, e)
 
 -- rounds of nothing
 pub rounds-nothing : (n : ℕ) (v : List ℕ) → rounds n (λ w. []) v ≡ []
 rounds-nothing zero v = refl
 rounds-nothing (suc n) v = rounds-nothing n v
+
+-- a test, and what follows both sides
+pub choose-then : (i : ℕ) (q : Test) (f g h : Run) (v : List ℕ) → (choose i q f g ⊳ h) v ≡ choose i q (f ⊳ h) (g ⊳ h) v
+choose-then i q f g h v = go (holds q v)
+  where
+    go : (o : Bool)
+        → (let es = step 1 i nothing ∷ cond o (f v) (g v) in es ++ cond (overran es) [] (h (variablesAfter es v)))
+        ≡ step 1 i nothing ∷ cond o ((f ⊳ h) v) ((g ⊳ h) v)
+    go true = refl
+    go false = refl
 
 -- what steps leave of what is held
 abbrev pub heldAfter : List Step → ℕ → Held → Held
@@ -41,12 +52,12 @@ heldAfter es t h = record {
 module _ (limit : ℕ) where
   -- ONE LIST AFTER ANOTHER
 
-  pub does-++ : (xs ys : List Step) (m : Machine) → does limit (xs ++ ys) m ≡ does limit ys (does limit xs m)
+  does-++ : (xs ys : List Step) (m : Machine) → does limit (xs ++ ys) m ≡ does limit ys (does limit xs m)
   does-++ [] ys m = refl
   does-++ (e ∷ xs) ys m = does-++ xs ys (turn limit e m)
 
   -- a machine that was cut does nothing more
-  pub does-cut : (es : List Step) (m : Machine) → m .cut ≡ true → does limit es m ≡ m
+  does-cut : (es : List Step) (m : Machine) → m .cut ≡ true → does limit es m ≡ m
   does-cut [] m c = refl
   does-cut (e ∷ es) m c = ap (does limit es) (turn-cut e m c) ∙ does-cut es m c
     where
@@ -104,7 +115,7 @@ module _ (limit : ℕ) where
   unfolding runs
   runs-on f g m o h =
       let es = f (m .holds .variables) in
-      let c : does limit es m .cut ≡ false = left-false (does limit es m .cut) (does limit es m .overran) h in
+      let c : does limit es m .cut ≡ false = neither (does limit es m .cut) (does limit es m .overran) h .0 in
       let d = done es m c in
       let no : overran es ≡ false = rw o at (sym (d .overran-too) ∙ rw c at h) in
       rw no (does-++ es (g (variablesAfter es (m .holds .variables))) m ∙ ap (λ (v : List ℕ). does limit (g v) (does limit es m)) (sym (d .variables)))
@@ -167,16 +178,13 @@ module _ (limit : ℕ) where
 
   -- WHAT THE MODEL'S RUNS SAY
 
-  -- what the law below says, so that its cases can name it
-  abbrev Stops : List Step → ℕ → Bool → Held → Type 0
+  -- stopped at the limit, a run has done the steps that end by then
+  abbrev pub Stops : List Step → ℕ → Bool → Held → Type 0
   Stops es t o h =
       does limit es (machine t false o h)
       ≡ machine (t + duration (upto (limit - t) es)) (ltb (limit - t) (duration es)) (o || overran (upto (limit - t) es)) (heldAfter (upto (limit - t) es) t h)
 
-  -- stopped at the limit, a run has done the steps that end by then
-  pub does-upto : (es : List Step) (t : ℕ) (o : Bool) (h : Held) → t ≤ limit
-      → does limit es (machine t false o h)
-      ≡ machine (t + duration (upto (limit - t) es)) (ltb (limit - t) (duration es)) (o || overran (upto (limit - t) es)) (heldAfter (upto (limit - t) es) t h)
+  pub does-upto : (es : List Step) (t : ℕ) (o : Bool) (h : Held) → t ≤ limit → Stops es t o h
   does-upto [] t o h l = rw (le-ltb (limit - t) 0 (omega arith), or-false o, add-zero t)
   does-upto (e ∷ es) t o h l = go (leb (t + e .lasts) limit) refl (does-upto es (t + e .lasts) (o || isOverrun (e .does)) h′)
     where

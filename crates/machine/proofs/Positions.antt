@@ -1,41 +1,25 @@
 -- The records of a file with no loop as places from which it is run: what stands at each, and what is left behind it.
-use Prim.Native.Nat.{ℕ, zero, suc, _+_, _-_, _≤_, _<_}
+use Prim.Native.Nat.{ℕ, zero, suc, _+_, _-_, _≤_}
 use native.Mathlib.Omega.{arith}
 use mathlib.Core.Path.{_≡_, refl, ap, sym, subst, _∙_}
-use mathlib.Core.Logic.{_⊎_, inl, inr}
 use mathlib.Core.Bool.{Bool, true, false}
-use mathlib.Core.List.{List}
+use mathlib.Core.List.{List, [], _∷_}
 use lib.Dec.{leb}
 use borrow.Author.Tests.{le-leb, lt-leb, leb-true, leb-false}
 use Rattle.model.specs.declared.Form.{Form}
 use Rattle.model.specs.declared.Settings.{Settings}
-use Rattle.model.specs.Records.{Rec, kindAt, recordAt}
 use Rattle.model.specs.Trees.{Test, Block, nil, skip, act, branch, while, times, _⧺_, size}
 use Rattle.model.specs.Times.{time}
 use Rattle.model.specs.Stopping.{rest}
 use Rattle.model.specs.Placement.{LoopFree}
 use Rattle.model.proofs.Stands.{At}
 use Rattle.model.proofs.Sound.{OfForm}
-use Rattle.model.proofs.Trees.{⧺-assoc, ⧺-nil}
+use Rattle.model.proofs.Trees.{⧺-assoc}
 use Rattle.theory.proofs.Times.{time-⧺}
 use Rattle.theory.proofs.Left.{rest-0}
-use Rattle.reading.specs.Closing.{closesBlock}
 use Rattle.reading.specs.Ranges.{Stands}
-use Rattle.machine.specs.Contracts.{passed}
-use Rattle.machine.proofs.RunningBranches.{closed-is}
-
--- what follows an ELSE or END at k, inside the block b at i
-pub record Onward (s : List ℕ) (to i : ℕ) (b : Block) (j : ℕ) (a : Block) : Type 0 where
-  pub early : j + size a < i + size b
-  pub low : i ≤ passed s (j + size a) to
-  pub high : passed s (j + size a) to ≤ i + size b
-  pub is : rest b (j - i) ≡ a ⧺ rest b (passed s (j + size a) to - i)
-
--- at the record j of the block b at i stands a block: the last thing left of b, or one that goes on behind what closes it
-pub record Position (f : Form) (s : List ℕ) (to i : ℕ) (b : Block) (j : ℕ) : Type 0 where
-  pub first : Block
-  pub stands : Stands f s j to first
-  pub then : ((j + size first ≡ i + size b) × (rest b (j - i) ≡ first)) ⊎ Onward s to i b j first
+use Rattle.machine.specs.Contracts.{extent, Pending}
+use Rattle.machine.proofs.Sides.{pending-at, standing-last, stands-one, stands-two, stands-past, second-at, side-pending}
 
 -- WHAT IS LEFT AT A RECORD OF AN IF
 
@@ -72,184 +56,84 @@ module _ (q : Test) (a d b : Block) where
       let y : j - (2 + size a + size d) ≡ k = omega arith in
       rw (lt-leb j (size a) (omega arith), lt-leb j (1 + size a + size d) (omega arith), y)
 
--- A PART OF A BLOCK
+-- WHAT STANDS AT A RECORD
 
--- what closes the part c at h of the block b at i, before the end of b, and is left behind it
-record Closed (s : List ℕ) (to i : ℕ) (b : Block) (h : ℕ) (c behind : Block) : Type 0 where
-  next : ℕ
-  early : h + size c < i + size b
-  passes : passed s (h + size c) to ≡ i + next
-  high : next ≤ size b
-  is : rest b next ≡ behind
+-- blocks one after another
+abbrev pub joined : List Block → Block
+joined [] = nil
+joined (b ∷ bs) = b ⧺ joined bs
 
--- at a record of the part c at h of the block b at i, what is left of c and then what is behind it
-record Inside (s : List ℕ) (to i : ℕ) (b : Block) (h : ℕ) (c : Block) : Type 0 where
-  behind : Block
-  low : i ≤ h
-  high : h + size c ≤ i + size b
-  is : (k x : ℕ) → x ≤ size c → i + k ≡ h + x → rest b k ≡ rest c x ⧺ behind
-  ends : ((h + size c ≡ i + size b) × (behind ≡ nil)) ⊎ Closed s to i b h c behind
-
-module _ {f : Form} {s : List ℕ} {to i : ℕ} {b : Block} {h : ℕ} {c : Block} {j : ℕ} (I : Inside s to i b h c) (l : h ≤ j) (m : j ≤ h + size c) where
-  -- what stands in a part stands in the block
-  outward : Position f s to h c j → Position f s to i b j
-  outward P = record { first = a; stands = P .stands; then = go (P .then) (I .ends) }
-    where
-      a : Block
-      a = P .first
-
-      left : (x : Block) → rest c (j - h) ≡ x → rest b (j - i) ≡ x ⧺ I .behind
-      left x e = I .is (j - i) (j - h) (omega arith) (omega (arith, I .low)) ∙ ap (λ (y : Block). y ⧺ I .behind) e
-
-      go : ((j + size a ≡ h + size c) × (rest c (j - h) ≡ a)) ⊎ Onward s to h c j a
-          → ((h + size c ≡ i + size b) × (I .behind ≡ nil)) ⊎ Closed s to i b h c (I .behind)
-          → ((j + size a ≡ i + size b) × (rest b (j - i) ≡ a)) ⊎ Onward s to i b j a
-      go (inl x) (inl y) = inl (x .0 ∙ y .0, left a (x .1) ∙ ap (λ (z : Block). a ⧺ z) (y .1) ∙ ⧺-nil a)
-      go (inl x) (inr C) =
-          let p : passed s (j + size a) to ≡ i + C .next = ap (λ (n : ℕ). passed s n to) (x .0) ∙ C .passes in
-          let n : C .next ≡ passed s (j + size a) to - i = omega arith in
-          inr (record {
-            early = omega (arith, x .0, C .early);
-            low = omega arith;
-            high = omega (arith, C .high);
-            is = left a (x .1) ∙ ap (λ (z : Block). a ⧺ z) (sym (C .is) ∙ ap (rest b) n);
-          })
-      go (inr O) y =
-          let p = passed s (j + size a) to in
-          let after : rest b (p - i) ≡ rest c (p - h) ⧺ I .behind = I .is (p - i) (p - h) (omega (arith, O .high)) (omega (arith, O .low, I .low)) in
-          inr (record {
-            early = omega (arith, O .early, I .high);
-            low = omega (arith, O .low, I .low);
-            high = omega (arith, O .high, I .high);
-            is = left (a ⧺ rest c (p - h)) (O .is) ∙ ⧺-assoc a (rest c (p - h)) (I .behind) ∙ ap (λ (z : Block). a ⧺ z) (sym after);
-          })
-
--- the last part of a block: at its records nothing else is left
-last-part : {s : List ℕ} {to i : ℕ} (b : Block) (h : ℕ) (c : Block) → i ≤ h → h + size c ≡ i + size b
-    → ((k x : ℕ) → i + k ≡ h + x → rest b k ≡ rest c x) → Inside s to i b h c
-last-part b h c l e r = record {
-  behind = nil;
-  low = l;
-  high = omega arith;
-  is = λ k x m y. r k x y ∙ sym (⧺-nil (rest c x));
-  ends = inl (e, refl);
-}
-
--- a block that is at i, and ends where one is closed or with the records
-standing-at : {f : Form} {s : List ℕ} {i to : ℕ} (b : Block) → At s i b → OfForm f b → i + size b ≤ to
-    → (i + size b < to → closesBlock (kindAt s (i + size b)) ≡ true) → Stands f s i to b
-standing-at b at f l h = record { fills = record { stands = at; ends = refl; shallow = omega arith; of-form = f }; ends = l; stops = h }
-
--- a last part stands
-standing-last : {f : Form} {s : List ℕ} {i to : ℕ} {b : Block} (h : ℕ) (c : Block) → Stands f s i to b → At s h c → OfForm f c → h + size c ≡ i + size b → Stands f s h to c
-standing-last {f} {s} {i} {to} {b} h c B at o e =
-    standing-at c at o (omega (arith, B .ends)) (λ l. subst (λ (k : ℕ). closesBlock (kindAt s k) ≡ true) (sym e) (B .stops (omega arith)))
+-- at the record j stands a block, and it and those behind it are c
+pub record Position (f : Form) (s : List ℕ) (to j : ℕ) (c : Block) : Type 0 where
+  pub block : Block
+  pub pending : List Block
+  pub stands : Stands f s j (extent s) block
+  pub follows : Pending f s to (j + size block) pending
+  pub is : block ⧺ joined pending ≡ c
 
 module _ {f : Form} {s : List ℕ} {to i j : ℕ} where
   -- at its first record, the whole block
-  whole : (b : Block) → Stands f s i to b → i ≡ j → Position f s to i b j
-  whole b B e =
+  whole : (b : Block) (bs : List Block) → Stands f s i (extent s) b → Pending f s to (i + size b) bs → i ≡ j → Position f s to j (rest b (j - i) ⧺ joined bs)
+  whole b bs B p e =
       let z : j - i ≡ 0 = omega arith in
       record {
-        first = b;
-        stands = subst (λ (k : ℕ). Stands f s k to b) e B;
-        then = inl (omega arith, ap (rest b) z ∙ rest-0 b);
+        block = b;
+        pending = bs;
+        stands = subst (λ (k : ℕ). Stands f s k (extent s) b) e B;
+        follows = pending-at (omega arith) p;
+        is = ap (λ (x : Block). x ⧺ joined bs) (sym (ap (rest b) z ∙ rest-0 b));
       }
 
   -- behind a record that opens no block
-  plain : (c b : Block) → size c ≡ 1 + size b → ((k : ℕ) → rest c (suc k) ≡ rest b k) → At s (i + 1) b → OfForm f b
-      → (Stands f s (i + 1) to b → i + 1 ≤ j → Position f s to (i + 1) b j)
-      → Stands f s i to c → i ≤ j → j ≤ i + size c → Position f s to i c j
-  plain c b n r at o next C l m = go (leb j i) refl
+  plain : (c b : Block) (bs : List Block) → size c ≡ 1 + size b → ((k : ℕ) → rest c (suc k) ≡ rest b k) → At s (i + 1) b → OfForm f b
+      → (Stands f s (i + 1) (extent s) b → Pending f s to (i + 1 + size b) bs → i + 1 ≤ j → Position f s to j (rest b (j - (i + 1)) ⧺ joined bs))
+      → Stands f s i (extent s) c → Pending f s to (i + size c) bs → i ≤ j → Position f s to j (rest c (j - i) ⧺ joined bs)
+  plain c b bs n r at o next C p l = go (leb j i) refl
     where
-      behind : (k x : ℕ) → i + k ≡ i + 1 + x → rest c k ≡ rest b x
-      behind zero x e = absurd (omega arith)
-      behind (suc k) x e = let y : k ≡ x = omega arith in r k ∙ ap (rest b) y
-
-      go : (x : Bool) → leb j i ≡ x → Position f s to i c j
-      go true e = whole c C (omega (arith, leb-true j i e))
+      go : (x : Bool) → leb j i ≡ x → Position f s to j (rest c (j - i) ⧺ joined bs)
+      go true e = whole c bs C p (omega (arith, leb-true j i e))
       go false e =
           let h : i + 1 ≤ j = omega (arith, leb-false j i e) in
-          outward (last-part c (i + 1) b (omega arith) (omega arith) behind) h (omega arith) (next (standing-last (i + 1) b C at o (omega arith)) h)
+          let k : j - i ≡ suc (j - (i + 1)) = omega arith in
+          subst (λ (x : Block). Position f s to j (x ⧺ joined bs)) (sym (ap (rest c) k ∙ r (j - (i + 1))))
+          (next (standing-last (i + 1) b C at o (omega arith)) (pending-at (omega arith) p) h)
 
--- a record that closes a block shows by its kind
-closes : (s : List ℕ) (k : ℕ) {r : Rec} → recordAt s k ≡ r → closesBlock (r .kind) ≡ true → closesBlock (kindAt s k) ≡ true
-closes s k e h = ap (λ (r : Rec). closesBlock (r .kind)) e ∙ h
-
--- the parts of an IF
-module _ {f : Form} {s : List ℕ} {to i : ℕ} (q : Test) (a d b : Block) (C : Stands f s i to (branch q a d b)) where
-  stands-one : Stands f s (i + 1) to a
-  stands-one =
-      let F = C .fills in
-      standing-at a (F .stands .1) (F .of-form .1) (omega (arith, C .ends)) (λ h. closes s (i + 1 + size a) (F .stands .0 .middle) refl)
-
-  stands-two : Stands f s (i + 2 + size a) to d
-  stands-two =
-      let F = C .fills in
-      standing-at d (F .stands .2) (F .of-form .2) (omega (arith, C .ends)) (λ h. closes s (i + 2 + size a + size d) (F .stands .0 .last) refl)
-
-  stands-past : Stands f s (i + 3 + size a + size d) to b
-  stands-past = standing-last (i + 3 + size a + size d) b C (C .fills .stands .3) (C .fills .of-form .3) (omega arith)
-
-  -- behind both sides
-  behind-both : rest (branch q a d b) (3 + size a + size d) ≡ b
-  behind-both = rest-past q a d b (3 + size a + size d) 0 (omega arith) ∙ rest-0 b
-
-  inside-one : Inside s to i (branch q a d b) (i + 1) a
-  inside-one = record {
-    behind = b;
-    low = omega arith;
-    high = omega arith;
-    is = λ k x l e. rest-one q a d b k x l (omega arith);
-    ends = inr (record { next = 3 + size a + size d; early = omega arith; passes = passes; high = omega arith; is = behind-both });
-  }
-    where
-      passes : passed s (i + 1 + size a) to ≡ i + (3 + size a + size d)
-      passes =
-          let m = ap (λ (r : Rec). r .kind) (C .fills .stands .0 .middle) in
-          let e : i + 2 + size a ≡ i + 1 + size a + 1 = omega arith in
-          rw m (closed-is (i + 1 + size a) d (subst (λ (k : ℕ). Stands f s k to d) e stands-two) ∙ omega arith)
-
-  inside-two : Inside s to i (branch q a d b) (i + 2 + size a) d
-  inside-two = record {
-    behind = b;
-    low = omega arith;
-    high = omega arith;
-    is = λ k x l e. rest-two q a d b k x l (omega arith);
-    ends = inr (record { next = 3 + size a + size d; early = omega arith; passes = passes; high = omega arith; is = behind-both });
-  }
-    where
-      passes : passed s (i + 2 + size a + size d) to ≡ i + (3 + size a + size d)
-      passes = let m = ap (λ (r : Rec). r .kind) (C .fills .stands .0 .last) in rw m (omega arith)
-
-  inside-past : Inside s to i (branch q a d b) (i + 3 + size a + size d) b
-  inside-past = last-part (branch q a d b) (i + 3 + size a + size d) b (omega arith) (omega arith) (λ k x e. rest-past q a d b k x (omega arith))
-
-  in-branch : {j : ℕ} → j ≤ i + size (branch q a d b)
-      → (i + 1 ≤ j → j ≤ i + 1 + size a → Position f s to (i + 1) a j)
-      → (i + 2 + size a ≤ j → j ≤ i + 2 + size a + size d → Position f s to (i + 2 + size a) d j)
-      → (i + 3 + size a + size d ≤ j → j ≤ i + 3 + size a + size d + size b → Position f s to (i + 3 + size a + size d) b j)
+  in-branch : (q : Test) (a d b : Block) (bs : List Block) → Stands f s i (extent s) (branch q a d b) → Pending f s to (i + size (branch q a d b)) bs
+      → (i + 1 ≤ j → j ≤ i + 1 + size a → Pending f s to (i + 1 + size a) (b ∷ bs) → Position f s to j (rest a (j - (i + 1)) ⧺ (b ⧺ joined bs)))
+      → (i + 2 + size a ≤ j → j ≤ i + 2 + size a + size d → Pending f s to (i + 2 + size a + size d) (b ∷ bs) → Position f s to j (rest d (j - (i + 2 + size a)) ⧺ (b ⧺ joined bs)))
+      → (i + 3 + size a + size d ≤ j → Pending f s to (i + 3 + size a + size d + size b) bs → Position f s to j (rest b (j - (i + 3 + size a + size d)) ⧺ joined bs))
       → Split i (size a) (size d) j
-      → Position f s to i (branch q a d b) j
-  in-branch m A D B (here e) = whole (branch q a d b) C e
-  in-branch m A D B (one l h) = outward inside-one l h (A l h)
-  in-branch m A D B (two l h) = outward inside-two l h (D l h)
-  in-branch m A D B (past l) = outward inside-past l (omega arith) (B l (omega arith))
+      → Position f s to j (rest (branch q a d b) (j - i) ⧺ joined bs)
+  in-branch q a d b bs C p A D B (here e) = whole (branch q a d b) bs C p e
+  in-branch q a d b bs C p A D B (one l h) =
+      let e = rest-one q a d b (j - i) (j - (i + 1)) (omega arith) (omega arith) in
+      subst (Position f s to j) (sym (ap (λ (x : Block). x ⧺ joined bs) e ∙ ⧺-assoc (rest a (j - (i + 1))) b (joined bs)))
+      (A l h (side-pending q a d b C true p))
+  in-branch q a d b bs C p A D B (two l h) =
+      let k = j - (i + 2 + size a) in
+      let e = rest-two q a d b (j - i) k (omega arith) (omega arith) in
+      let z = ap (λ (n : ℕ). n + size d) (second-at q a d b C) in
+      subst (Position f s to j) (sym (ap (λ (x : Block). x ⧺ joined bs) e ∙ ⧺-assoc (rest d k) b (joined bs)))
+      (D l h (pending-at z (side-pending q a d b C false p)))
+  in-branch q a d b bs C p A D B (past l) =
+      let e = rest-past q a d b (j - i) (j - (i + 3 + size a + size d)) (omega arith) in
+      subst (λ (x : Block). Position f s to j (x ⧺ joined bs)) (sym e) (B l (pending-at (omega arith) p))
 
-pub position : {f : Form} {s : List ℕ} {to : ℕ} (b : Block) (i j : ℕ) → LoopFree b → Stands f s i to b → i ≤ j → j ≤ i + size b → Position f s to i b j
-position nil i j u B l m = whole nil B (omega arith)
-position (skip n b) i j u B l m =
-    plain (skip n b) b refl (λ k. refl) (B .fills .stands .1) (B .fills .of-form .1) (λ C h. position b (i + 1) j u C h (omega arith)) B l m
-position (act p b) i j u B l m =
-    plain (act p b) b refl (λ k. refl) (B .fills .stands .1) (B .fills .of-form .1) (λ C h. position b (i + 1) j u C h (omega arith)) B l m
-position (branch q a d b) i j u C l m =
-    in-branch q a d b C m
-    (λ l h. position a (i + 1) j (u .0) (stands-one q a d b C) l h)
-    (λ l h. position d (i + 2 + size a) j (u .1) (stands-two q a d b C) l h)
-    (λ l h. position b (i + 3 + size a + size d) j (u .2) (stands-past q a d b C) l h)
+pub position : {f : Form} {s : List ℕ} {to : ℕ} (b : Block) (i j : ℕ) (bs : List Block) → LoopFree b → Stands f s i (extent s) b → Pending f s to (i + size b) bs → i ≤ j → j ≤ i + size b
+    → Position f s to j (rest b (j - i) ⧺ joined bs)
+position nil i j bs u B p l m = whole nil bs B p (omega arith)
+position (skip n b) i j bs u B p l m =
+    plain (skip n b) b bs refl (λ k. refl) (B .fills .stands .1) (B .fills .of-form .1) (λ C r h. position b (i + 1) j bs u C r h (omega arith)) B p l
+position (act c b) i j bs u B p l m =
+    plain (act c b) b bs refl (λ k. refl) (B .fills .stands .1) (B .fills .of-form .1) (λ C r h. position b (i + 1) j bs u C r h (omega arith)) B p l
+position (branch q a d b) i j bs u C p l m =
+    in-branch q a d b bs C p
+    (λ l h r. position a (i + 1) j (b ∷ bs) (u .0) (stands-one q a d b C) r l h)
+    (λ l h r. position d (i + 2 + size a) j (b ∷ bs) (u .1) (stands-two q a d b C) r l h)
+    (λ l r. position b (i + 3 + size a + size d) j bs (u .2) (stands-past q a d b C) r l (omega arith))
     (split i (size a) (size d) j l)
-position (while q n a b) i j u B l m = absurd u
-position (times q n a b) i j u B l m = absurd u
+position (while q n a b) i j bs u B p l m = absurd u
+position (times q n a b) i j bs u B p l m = absurd u
 
 -- HOW LONG IT TAKES
 

@@ -26,7 +26,8 @@ use Rattle.records.specs.Decoded.{decoded}
 use Rattle.reading.proofs.Entry.{kept-refusal}
 use Rattle.stepping.specs.declared.progress.Progress.{Progress}
 use Rattle.machine.specs.Calls.{badLengths, Readies, Ready, steps, RunWhole, stopVerdict, Stops, resumeVerdict, Resumes}
-use Rattle.machine.proofs.Whole.{neither, equal-of}
+use Rattle.machine.proofs.Doing.{neither}
+use Rattle.machine.proofs.Whole.{equal-of}
 
 -- a call is handed these over
 module _ (s : List ℕ) (f : Form) (file v ins l m : List ℕ) where
@@ -51,7 +52,7 @@ module _ (s : List ℕ) (f : Form) (file v ins l m : List ℕ) where
       pub is-ready : Ready file σ v ins l m
       is-ready = record { form = f; sound = R .sound σ refl; in-time = R .in-time σ refl; short = R .short σ refl; lengths = none-bad .0 }
 
-      pub no-cause : cause ≡ false
+      no-cause : cause ≡ false
       no-cause = none-bad .1
 
   -- RUN AND RESTART

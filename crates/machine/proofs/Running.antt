@@ -1,23 +1,26 @@
--- A block run statement by statement: what is done, what is left, and what an answer that has halted says.
+-- Records run one after another: what is done, what is left, and what an answer that has halted says.
 use Prim.Native.Nat.{ℕ, _+_, _≤_, _<_}
 use native.Mathlib.Omega.{arith}
 use mathlib.Core.Path.{_≡_, refl, ap, sym, subst, _∙_}
-use mathlib.Core.Bool.{Bool, true, false, _||_}
-use mathlib.Core.List.{List}
+use native.Mathlib.Nat.{add-zero}
+use mathlib.Core.Bool.{Bool, true, false, cond, _||_, false≢true}
+use mathlib.Core.List.{List, [], _++_}
 use lib.ListN.{length}
 use Rattle.model.specs.declared.Settings.{Settings}
 use Rattle.model.specs.Records.{kindAt}
 use Rattle.model.specs.Trees.{Block, nil, skip, act, branch, while, times, size}
-use Rattle.model.specs.Runs.{Step, Run, _⊳_, run}
+use Rattle.model.specs.Runs.{Step, overran, variablesAfter, Run, _⊳_, run}
+use Rattle.theory.proofs.Sequences.{⊳-assoc}
 use Rattle.reading.specs.Closing.{closesBlock}
 use Rattle.reading.specs.Ranges.{Stands, firstSize, afterFirst}
 use Rattle.reading.proofs.Filled.{size-first}
-use Rattle.reading.proofs.Standing.{stands-once, stands-closed, stands-end, stands-some, stands-after}
+use Rattle.reading.proofs.Standing.{stands-once, stands-closed, stands-some, stands-after}
 use Rattle.stepping.specs.declared.progress.Progress.{Progress}
 use Rattle.stepping.specs.Machines.{Machine, does, runs}
 use Rattle.stepping.specs.Steps.{going, reached, halted, Ran}
-use Rattle.machine.specs.Contracts.{firstRun, Entered, Statement, BlockRan, StatementRan}
-use Rattle.machine.proofs.Doing.{runs-within, runs-on, runs-halted}
+use Rattle.machine.specs.Contracts.{extent, passed, isLoop, Pending, at-end, and-behind, firstRun, after, ahead, Begun, Statement, RecordsRan, Running, Moved, StepsRan, Past, StatementRan}
+use Rattle.machine.proofs.Doing.{neither, runs-within, runs-on, runs-halted}
+use Rattle.machine.proofs.Sides.{pending-within, pending-inside, pending-at, pending-none, pending-once}
 
 -- WHAT AN ANSWER SAYS
 
@@ -25,13 +28,13 @@ pub runs-same : (limit : ℕ) {f g : Run} (m : Machine) → ((v : List ℕ) → 
 unfolding runs
 runs-same limit m h = ap (λ (es : List Step). does limit es m) (h (m .holds .variables))
 
-both-false : (a b : Bool) → (a || b) ≡ false → (a ≡ false) × (b ≡ false)
-both-false true b e = let z : _≡_ {A = ℕ} 0 1 = cc in absurd (omega arith)
-both-false false b e = (refl, e)
+-- an answer that has halted does not go on
+pub never : {A : Type 0} {o : Bool} → o ≡ true → o ≡ false → A
+never e h = absurd (false≢true (sym h ∙ e))
 
 -- a machine that has not halted goes on
-pub reached-going : (r : Progress) (w : List ℕ) → halted r ≡ false → reached r w ≡ going (r .tick) w
-reached-going r w e = let p = both-false (r .cut) (r .overran) e in rw (p .0, p .1)
+reached-going : (r : Progress) (w : List ℕ) → halted r ≡ false → reached r w ≡ going (r .tick) w
+reached-going r w e = let p = neither (r .cut) (r .overran) e in rw (p .0, p .1)
 
 abbrev pub onward : ℕ → ℕ → Progress
 onward t j = record { tick = t; next = j; cut = false; overran = false }
@@ -55,7 +58,7 @@ module _ {limit : ℕ} {f : Run} {j t : ℕ} {old new : List ℕ} {r : Progress}
   pub ran-halted : (g : Run) (k : ℕ) → halted r ≡ true → Ran limit (f ⊳ g) k t old new r
   ran-halted g k e = record {
     reaches = R .reaches ∙ sym (runs-halted limit f g (going t old) refl (halts ∙ e));
-    goes = λ h. let z : _≡_ {A = ℕ} 0 1 = cc in absurd (omega arith);
+    goes = λ h. never e h;
   }
 
 -- the same from another start
@@ -63,10 +66,26 @@ pub ran-from : {limit : ℕ} {f g : Run} {j k t u : ℕ} {old mid new : List ℕ
     → runs limit f (going t old) ≡ runs limit g (going u mid) → (halted r ≡ false → k ≡ j) → Ran limit g k u mid new r → Ran limit f j t old new r
 ran-from e h R = record { reaches = R .reaches ∙ sym e; goes = λ o. R .goes o ∙ h o }
 
--- THE TURNS OF THE LOOP
+-- the same settings
+pub ran-settings : {s : List ℕ} {i to : ℕ} {σ τ : Settings} {ins : List ℕ} {limit t : ℕ} {old new : List ℕ} {r : Progress} → σ ≡ τ
+    → RecordsRan s i to σ ins limit t old new r → RecordsRan s i to τ ins limit t old new r
+ran-settings {s} {i} {to} {ins = ins} {limit} {t} {old} {new} {r} e R = subst (λ (x : Settings). RecordsRan s i to x ins limit t old new r) e R
 
--- the first statement, and what follows it
-pub run-first : (σ : Settings) (ins : List ℕ) (b : Block) (i : ℕ) → 1 ≤ firstSize b
+-- an answer that has halted is one for all that was left
+module _ {s : List ℕ} {i to : ℕ} {ends : List ℕ} {σ : Settings} {ins : List ℕ} {limit t : ℕ} {old new : List ℕ} {r : Progress} (e : halted r ≡ true)
+    (R : RecordsRan s i to σ ins limit t old new r) where
+  moved-halted : Moved s i to ends σ ins limit t old new r
+  moved-halted = record { halts = λ h. R; goes = λ h. never e h }
+
+  pub steps-halted : StepsRan s i to ends σ ins limit t old new r
+  steps-halted = record { moved = moved-halted; stops = λ h l. never e h }
+
+  pub past-halted : Past s i to ends σ ins limit t old new r
+  past-halted = record { moved = moved-halted; on = λ h. never e h }
+
+-- THE FIRST STATEMENT, AND WHAT FOLLOWS IT
+
+run-first : (σ : Settings) (ins : List ℕ) (b : Block) (i : ℕ) → 1 ≤ firstSize b
     → (v : List ℕ) → run σ ins b i v ≡ (firstRun σ ins b i ⊳ run σ ins (afterFirst b) (i + firstSize b)) v
 run-first σ ins nil i h v = absurd (omega arith)
 run-first σ ins (skip n b) i h v = refl
@@ -76,88 +95,198 @@ run-first σ ins (branch q a d b) i h v = let e : i + 3 + size a + size d ≡ i 
 run-first σ ins (while q n a b) i h v = let e : i + 2 + size a ≡ i + (2 + size a) = omega arith in ap (λ (k : ℕ). (firstRun σ ins (while q n a b) i ⊳ run σ ins b k) v) e
 run-first σ ins (times q n a b) i h v = let e : i + 2 + size a ≡ i + (2 + size a) = omega arith in ap (λ (k : ℕ). (firstRun σ ins (times q n a b) i ⊳ run σ ins b k) v) e
 
--- of the block at `from`, run from tick t₀ on, the records from `next` on are left at tick t
-pub record Running (s : List ℕ) (from to : ℕ) (ends : List ℕ) (σ : Settings) (ins : List ℕ) (limit t₀ : ℕ) (old w : List ℕ) (t next : ℕ) : Type 0 where
-  pub all : Entered s from to ends ins old limit t₀
-  pub rest : Entered s next to ends ins w limit t
-  pub on : from ≤ next
-  pub counts : next + size (rest .file .block) ≡ from + size (all .file .block)
-  pub same : runs limit (run σ ins (all .file .block) from) (going t₀ old) ≡ runs limit (run σ ins (rest .file .block) next) (going t w)
+ahead-first : (σ : Settings) (ins s : List ℕ) (b : Block) (i : ℕ) (bs : List Block) → 1 ≤ firstSize b
+    → (v : List ℕ) → ahead σ ins s i b bs v ≡ (firstRun σ ins b i ⊳ ahead σ ins s (i + firstSize b) (afterFirst b) bs) v
+ahead-first σ ins s b i bs h v =
+    let e : i + size b ≡ i + firstSize b + size (afterFirst b) = omega (arith, size-first b) in
+    let next = run σ ins (afterFirst b) (i + firstSize b) in
+    ap (λ (es : List Step). es ++ cond (overran es) [] (after σ ins s (i + size b) bs (variablesAfter es v))) (run-first σ ins b i h v)
+    ∙ ap (λ (k : ℕ). ((firstRun σ ins b i ⊳ next) ⊳ after σ ins s k bs) v) e
+    ∙ ⊳-assoc (firstRun σ ins b i) next (after σ ins s (i + firstSize b + size (afterFirst b)) bs) v
 
-pub running-start : {s : List ℕ} {from to : ℕ} {ends : List ℕ} {σ : Settings} {ins : List ℕ} {limit t : ℕ} {w : List ℕ} → Entered s from to ends ins w limit t
+-- a block of no records
+pub no-records : (b : Block) → size b ≤ 0 → b ≡ nil
+no-records nil z = refl
+no-records (skip n b) z = absurd (omega arith)
+no-records (act p b) z = absurd (omega arith)
+no-records (branch q a d b) z = absurd (omega arith)
+no-records (while q n a b) z = absurd (omega arith)
+no-records (times q n a b) z = absurd (omega arith)
+
+-- WHAT IS BEGUN
+
+module _ {s : List ℕ} {i to : ℕ} {ends ins w : List ℕ} {limit t : ℕ} (B : Begun s i to ends ins w limit t) where
+  -- the records up to `to` are the file's
+  pub running-inside : to ≤ extent s
+  running-inside = pending-inside (B .stands .ends) (B .follows)
+
+  -- an ELSE or END goes on
+  pub running-passed : {n : ℕ} → i < to → closesBlock (kindAt s i) ≡ true → n ≡ passed s i → i < n
+  running-passed {n} l k h = go (pending-at (omega (arith, ap size (stands-closed (B .block) (B .stands) k))) (B .follows))
+    where
+      go : {bs : List Block} → Pending (B .form) s to i bs → i < n
+      go (at-end e) = absurd (omega arith)
+      go (and-behind b p) = omega (arith, b .on)
+
+-- THE TURNS OF THE LOOP
+
+pub running-start : {s : List ℕ} {from to : ℕ} {ends : List ℕ} {σ : Settings} {ins : List ℕ} {limit t : ℕ} {w : List ℕ} → Begun s from to ends ins w limit t
     → Running s from to ends σ ins limit t w w t from
-running-start E = record { all = E; rest = E; on = omega arith; counts = refl; same = refl }
+running-start B = record { all = B; rest = B; on = omega arith; same = refl }
 
 module _ {s : List ℕ} {from to : ℕ} {ends : List ℕ} {σ : Settings} {ins : List ℕ} {limit t₀ : ℕ} {old w : List ℕ} {t next : ℕ} (P : Running s from to ends σ ins limit t₀ old w t next) where
-  abbrev whole : Block
-  whole = P .all .file .block
+  abbrev pub whole : Run
+  whole = ahead σ ins s from (P .all .block) (P .all .pending)
 
-  abbrev left : Block
-  left = P .rest .file .block
+  abbrev pub left : Block
+  left = P .rest .block
 
-  -- what holds of the block that was asked about holds of every block at its place
-  answered : {new : List ℕ} {r : Progress} → Ran limit (run σ ins whole from) (from + size whole) t₀ old new r → BlockRan s from to σ ins limit t₀ old new r
+  abbrev pub others : List Block
+  others = P .rest .pending
+
+  -- what holds of the blocks that were asked about holds of all at their place
+  pub answered : {new : List ℕ} {r : Progress} → Ran limit whole to t₀ old new r → RecordsRan s from to σ ins limit t₀ old new r
   answered {new} {r} A = record {
-    right = λ f b B. subst (λ (x : Block). Ran limit (run σ ins x from) (from + size x) t₀ old new r) (stands-once whole b (P .all .file .stands) B) A;
+    right = λ f b bs B p.
+        let e = stands-once (P .all .block) b (P .all .stands) B in
+        let h = pending-once (P .all .follows) (pending-at (ap (λ (x : Block). from + size x) (sym e)) p) in
+        subst (λ (xs : List Block). Ran limit (ahead σ ins s from b xs) to t₀ old new r) h
+        (subst (λ (x : Block). Ran limit (ahead σ ins s from x (P .all .pending)) to t₀ old new r) e A);
   }
 
-  -- nothing is left
-  done : left ≡ nil → going t w ≡ runs limit (run σ ins whole from) (going t₀ old)
+  running-within : next ≤ to
+  running-within = omega (arith, pending-within (P .rest .follows))
+
+  -- NOTHING IS LEFT OF A BLOCK
+
+  module _ (e : left ≡ nil) where
+    follows-here : Pending (P .rest .form) s to next others
+    follows-here = pending-at (omega (arith, ap size e)) (P .rest .follows)
+
+    same-here : runs limit whole (going t₀ old) ≡ runs limit (after σ ins s next others) (going t w)
+    same-here =
+        P .same ∙ ap (λ (b : Block). runs limit (ahead σ ins s next b others) (going t w)) e
+        ∙ runs-same limit (going t w) (λ v. ap (λ (k : ℕ). after σ ins s k others v) (add-zero next))
+
+  all-done : to ≤ next → going t w ≡ runs limit whole (going t₀ old)
   unfolding runs
-  done e = sym (P .same ∙ ap (λ (b : Block). runs limit (run σ ins b next) (going t w)) e)
+  all-done l =
+      let e = no-records left (omega (arith, pending-within (P .rest .follows))) in
+      sym (same-here e ∙ ap (λ (bs : List Block). runs limit (after σ ins s next bs) (going t w)) (pending-none (follows-here e) l))
 
-  ended : {r : Progress} → left ≡ nil → r ≡ onward t next → BlockRan s from to σ ins limit t₀ old w r
-  ended {r} e h =
-      let k : next ≡ from + size whole = omega (arith, P .counts, ap size e) in
-      answered (subst (Ran limit (run σ ins whole from) (from + size whole) t₀ old w) (sym h) (record { reaches = done e; goes = λ o. k }))
+  pub running-ended : {r : Progress} → to ≤ next → r ≡ onward t next → RecordsRan s from to σ ins limit t₀ old w r
+  running-ended {r} l h =
+      answered (subst (Ran limit whole to t₀ old w) (sym h) (record { reaches = all-done l; goes = λ o. omega (arith, running-within) }))
 
-  pub running-closed : {r : Progress} → closesBlock (kindAt s next) ≡ true → r ≡ onward t next → BlockRan s from to σ ins limit t₀ old w r
-  running-closed k h = ended (stands-closed left (P .rest .file .stands) k) h
+  -- the ELSE or END of an IF: what follows the IF is next
+  pub running-closed : {n : ℕ} → next < to → closesBlock (kindAt s next) ≡ true → n ≡ passed s next → Running s from to ends σ ins limit t₀ old w t n
+  running-closed l k h = subst (Running s from to ends σ ins limit t₀ old w t) (sym h) (go (follows-here nothing-left) (same-here nothing-left))
+    where
+      nothing-left : left ≡ nil
+      nothing-left = stands-closed left (P .rest .stands) k
 
-  pub running-ended : {r : Progress} → to ≤ next → r ≡ onward t next → BlockRan s from to σ ins limit t₀ old w r
-  running-ended l h = ended (stands-end left (P .rest .file .stands) l) h
+      go : {bs : List Block} → Pending (P .rest .form) s to next bs → runs limit whole (going t₀ old) ≡ runs limit (after σ ins s next bs) (going t w)
+          → Running s from to ends σ ins limit t₀ old w t (passed s next)
+      go (at-end h) e = absurd (omega arith)
+      go (and-behind {b = b} {bs = bs} B p) e = record {
+        all = P .all;
+        rest = record { given = P .rest .given; form = P .rest .form; block = b; pending = bs; stands = B .stands; follows = p };
+        on = omega (arith, P .on, B .on);
+        same = e;
+      }
 
-  -- a statement is left
+  -- WHAT IS LEFT IS RUN
+
+  pub running-ran : {new : List ℕ} {r : Progress} → RecordsRan s next to σ ins limit t w new r → RecordsRan s from to σ ins limit t₀ old new r
+  running-ran R = answered (ran-from (P .same) (λ o. refl) (R .right (P .rest .form) left others (P .rest .stands) (P .rest .follows)))
+
+  pub running-then : {new : List ℕ} {u k : ℕ} → Running s next to ends σ ins limit t w new u k → Running s from to ends σ ins limit t₀ old new u k
+  running-then Q =
+      let e = stands-once left (Q .all .block) (P .rest .stands) (Q .all .stands) in
+      let h = pending-once (pending-at (ap (λ (x : Block). next + size x) e) (P .rest .follows)) (Q .all .follows) in
+      record {
+        all = P .all;
+        rest = Q .rest;
+        on = omega (arith, P .on, Q .on);
+        same =
+            P .same ∙ ap (λ (x : Block). runs limit (ahead σ ins s next x others) (going t w)) e
+            ∙ ap (λ (xs : List Block). runs limit (ahead σ ins s next (Q .all .block) xs) (going t w)) h ∙ Q .same;
+      }
+
+  -- as an answer
+  moved-going : Moved s from to ends σ ins limit t₀ old w (onward t next)
+  moved-going = record { halts = λ h. never h refl; goes = λ h. P }
+
+  pub steps-going : {r : Progress} → r ≡ onward t next → (next < to → isLoop (kindAt s next) ≡ true) → StepsRan s from to ends σ ins limit t₀ old w r
+  steps-going e b = subst (StepsRan s from to ends σ ins limit t₀ old w) (sym e) (record { moved = moved-going; stops = λ h l. b l })
+
+  pub past-going : {r : Progress} → r ≡ onward t next → from < next → Past s from to ends σ ins limit t₀ old w r
+  past-going e b = subst (Past s from to ends σ ins limit t₀ old w) (sym e) (record { moved = moved-going; on = λ h. b })
+
+  -- A STATEMENT IS LEFT
+
   module _ (l : next < to) (k : closesBlock (kindAt s next) ≡ false) where
-    pub statement-next : Statement s next to ends ins w limit t
-    statement-next = record { entered = P .rest; inside = l; goes-on = k }
+    pub statement-next : Statement s next ends ins w limit t
+    statement-next = record {
+      reached = record {
+        given = P .rest .given;
+        form = P .rest .form;
+        block = left;
+        stands = P .rest .stands;
+        inside = omega (arith, running-inside (P .rest));
+      };
+      goes-on = k;
+    }
 
-    module _ {new : List ℕ} {r : Progress} (S : StatementRan s next to σ ins limit t w new r) where
-      abbrev behind : Run
-      behind = run σ ins (afterFirst left) (next + firstSize left)
+    some : 1 ≤ firstSize left
+    some = stands-some left (P .rest .stands) (omega (arith, running-inside (P .rest))) k
 
+    abbrev pub behind : Run
+    behind = ahead σ ins s (next + firstSize left) (afterFirst left) others
+
+    pub split : runs limit whole (going t₀ old) ≡ runs limit (firstRun σ ins left next ⊳ behind) (going t w)
+    split = P .same ∙ runs-same limit (going t w) (ahead-first σ ins s left next others some)
+
+    module _ {new : List ℕ} {r : Progress} (S : StatementRan s next σ ins limit t w new r) where
       step : Ran limit (firstRun σ ins left next) (next + firstSize left) t w new r
-      step = S .right (P .rest .form) left (P .rest .file .stands)
+      step = S .right (P .rest .form) left (P .rest .stands)
 
-      split : runs limit (run σ ins whole from) (going t₀ old) ≡ runs limit (firstRun σ ins left next ⊳ behind) (going t w)
-      split = P .same ∙ runs-same limit (going t w) (run-first σ ins left next (stands-some left (P .rest .file .stands) l k))
-
-      pub running-halted : halted r ≡ true → BlockRan s from to σ ins limit t₀ old new r
+      running-halted : halted r ≡ true → RecordsRan s from to σ ins limit t₀ old new r
       running-halted e =
-          answered (ran-from split (λ h. let z : _≡_ {A = ℕ} 0 1 = cc in absurd (omega arith)) (ran-halted step behind 0 e))
+          answered (ran-from split (λ h. never e h) (ran-halted step behind 0 e))
 
       module _ (e : halted r ≡ false) where
         goes : r .next ≡ next + firstSize left
         goes = step .goes e
 
-        pub running-on : next < r .next
-        running-on = omega (arith, goes, stands-some left (P .rest .file .stands) l k)
+        running-on : next < r .next
+        running-on = omega (arith, goes, some)
 
-        behind-there : Stands (P .rest .form) s (r .next) to (afterFirst left)
-        behind-there = subst (λ (j : ℕ). Stands (P .rest .form) s j to (afterFirst left)) (sym goes) (stands-after left (P .rest .file .stands) l k)
+        behind-there : Stands (P .rest .form) s (r .next) (extent s) (afterFirst left)
+        behind-there =
+            subst (λ (j : ℕ). Stands (P .rest .form) s j (extent s) (afterFirst left)) (sym goes)
+            (stands-after left (P .rest .stands) (omega (arith, running-inside (P .rest))) k)
 
-        pub running-next : length new ≡ length w → Running s from to ends σ ins limit t₀ old new (r .tick) (r .next)
+        running-next : length new ≡ length w → Running s from to ends σ ins limit t₀ old new (r .tick) (r .next)
         running-next n = record {
           all = P .all;
           rest = record {
+            given = record {
+              few = P .rest .given .few;
+              table = P .rest .given .table;
+              lent = record { inputs = P .rest .given .lent .inputs; cells = n ∙ P .rest .given .lent .cells };
+              early = ran-early step (P .rest .given .early);
+            };
             form = P .rest .form;
-            file = record { block = afterFirst left; stands = behind-there; inside = P .rest .file .inside };
-            few = P .rest .few;
-            table = P .rest .table;
-            lent = record { inputs = P .rest .lent .inputs; cells = n ∙ P .rest .lent .cells };
-            early = ran-early step (P .rest .early);
+            block = afterFirst left;
+            pending = others;
+            stands = behind-there;
+            follows = pending-at (omega (arith, goes, size-first left)) (P .rest .follows);
           };
           on = omega (arith, P .on, running-on);
-          counts = omega (arith, P .counts, goes, size-first left);
-          same = split ∙ ran-on step behind e ∙ ap (λ (j : ℕ). runs limit (run σ ins (afterFirst left) j) (going (r .tick) new)) (sym goes);
+          same = split ∙ ran-on step behind e ∙ ap (λ (j : ℕ). runs limit (ahead σ ins s j (afterFirst left) others) (going (r .tick) new)) (sym goes);
         }
+
+      -- as an answer
+      pub past-ran : length new ≡ length w → Past s from to ends σ ins limit t₀ old new r
+      past-ran n = record { moved = record { halts = running-halted; goes = λ h. running-next h n }; on = λ h. omega (arith, P .on, running-on h) }

@@ -1,142 +1,116 @@
--- An IF run: its test, the side that it chooses, and the record behind its END.
-use Prim.Native.Nat.{ℕ, _+_, _-_, _≤_, _<_}
+-- What closes a block, and an IF: its test, and the side that it chooses.
+use Prim.Native.Nat.{ℕ, _+_, _≤_, _<_}
 use native.Mathlib.Omega.{arith}
-use mathlib.Core.Path.{_≡_, ap, sym, subst, _∙_}
-use mathlib.Core.Bool.{Bool, true, false, cond}
-use mathlib.Core.List.{List}
-use Rattle.model.specs.declared.Form.{Form}
+use mathlib.Core.Path.{_≡_, refl, ap, sym, subst, _∙_}
+use mathlib.Core.Bool.{Bool, true, false}
+use mathlib.Core.List.{List, _∷_}
 use Rattle.model.specs.declared.Settings.{Settings}
 use Rattle.model.specs.Records.{Rec, kindAt, recordAt, IF}
 use Rattle.model.specs.Trees.{Test, Block, branch, size}
-use Rattle.model.specs.Runs.{holds, run}
-use Rattle.reading.specs.Ranges.{Stands, firstPart, secondPart, afterFirst, testOf}
-use Rattle.reading.proofs.Standing.{ending, if-at, first-side, second-side, sides-end}
+use Rattle.model.specs.Runs.{holds, Run, _⊳_, choose, run}
+use Rattle.reading.specs.Closing.{closesBlock}
+use Rattle.reading.specs.Ranges.{Stands, firstSize, firstPart, secondPart, afterFirst, testOf}
+use Rattle.reading.proofs.Standing.{if-at}
 use Rattle.stepping.specs.declared.progress.Progress.{Progress}
 use Rattle.stepping.specs.Machines.{held, runs}
 use Rattle.stepping.specs.Steps.{going, halted, Ran}
-use Rattle.machine.specs.Contracts.{firstRun, Entered, Statement, BlockRan, StatementRan, Inner, closed, passed, chosen}
-use Rattle.machine.proofs.Doing.{choose-cut, choose-first, choose-second}
-use Rattle.machine.proofs.Running.{reached-going, onward, cutAt, ran-from}
-use Rattle.machine.proofs.RunningSteps.{block, form, stands, told}
+use Rattle.machine.specs.Contracts.{extent, passed, chosen, firstRun, ahead, Begun, Running, Past}
+use Rattle.machine.proofs.Doing.{choose-then, choose-cut, choose-first, choose-second}
+use Rattle.machine.proofs.Sides.{pending-at, second-at, side, side-there, side-after, side-passed, side-pending}
+use Rattle.machine.proofs.Running.{runs-same, onward, cutAt, never, past-halted, running-inside, running-passed, running-start}
+use Rattle.machine.proofs.Running.{whole, left, others, answered, running-closed, past-going, behind, split}
 
--- the record behind the one that closes a block
-pub closed-is : {f : Form} {s : List ℕ} {to : ℕ} (k : ℕ) (a : Block) → Stands f s (k + 1) to a → closed s k to ≡ k + 1 + size a + 1
-unfolding closed
-closed-is k a A = ap (λ (n : ℕ). n + 1) (ending a A)
+-- AN ELSE OR END
 
-kind-is : (s : List ℕ) (i : ℕ) {r : Rec} → recordAt s i ≡ r → kindAt s i ≡ r .kind
-kind-is s i e = ap (λ (r : Rec). r .kind) e
+pub closed-past : {s : List ℕ} {i to : ℕ} {ends : List ℕ} {σ : Settings} {ins : List ℕ} {limit t : ℕ} {w : List ℕ} {n : ℕ} {r : Progress} → Begun s i to ends ins w limit t
+    → i < to → closesBlock (kindAt s i) ≡ true → n ≡ passed s i → r ≡ onward t n → Past s i to ends σ ins limit t w w r
+closed-past B l k h e = past-going (running-closed (running-start B) l k h) e (running-passed B l k h)
 
-module _ {s : List ℕ} {i to : ℕ} {ends ins w : List ℕ} {limit t : ℕ} (S : Statement s i to ends ins w limit t) (k : kindAt s i ≡ IF) where
+-- AN IF
+
+module _ {s : List ℕ} {from to : ℕ} {ends : List ℕ} {σ : Settings} {ins : List ℕ} {limit t₀ : ℕ} {old w : List ℕ} {t next : ℕ} (P : Running s from to ends σ ins limit t₀ old w t next)
+    (l : next < to) (k : kindAt s next ≡ IF) where
+  if-goes-on : closesBlock (kindAt s next) ≡ false
+  if-goes-on = ap closesBlock k
+
   abbrev one : Block
-  one = firstPart (block S)
+  one = firstPart (left P)
 
   abbrev two : Block
-  two = secondPart (block S)
+  two = secondPart (left P)
+
+  abbrev rest : Block
+  rest = afterFirst (left P)
 
   abbrev q : Test
-  q = testOf (recordAt s i)
+  q = testOf (recordAt s next)
 
-  abbrev whole : Block
-  whole = branch q one two (afterFirst (block S))
+  abbrev the : Block
+  the = branch q one two rest
 
-  is-if : block S ≡ whole
-  is-if = if-at (block S) (stands S) (S .inside) (S .goes-on) k
+  is-if : left P ≡ the
+  is-if = if-at (left P) (P .rest .stands) (omega (arith, running-inside (P .rest))) if-goes-on k
 
-  the-if : Stands (form S) s i to whole
-  the-if = subst (Stands (form S) s i to) is-if (stands S)
+  there : Stands (P .rest .form) s next (extent s) the
+  there = subst (Stands (P .rest .form) s next (extent s)) is-if (P .rest .stands)
 
-  one-there : Stands (form S) s (i + 1) to one
-  one-there = first-side (block S) (stands S) (S .inside) (S .goes-on) k
+  -- what follows the IF
+  abbrev g : Run
+  g = behind P l if-goes-on
 
-  behind-one : closed s i to ≡ i + 1 + size one + 1
-  behind-one = closed-is i one one-there
+  -- a side and what follows it
+  abbrev first : Run
+  first = run σ ins one (next + 1) ⊳ g
 
-  two-there : Stands (form S) s (closed s i to) to two
-  two-there = subst (λ (j : ℕ). Stands (form S) s j to two) (sym behind-one) (second-side (block S) (stands S) (S .inside) (S .goes-on) k)
+  abbrev second : Run
+  second = run σ ins two (next + 2 + size one) ⊳ g
 
-  -- both closings are in the file
-  inside : i + 1 + size one + 1 + size two < to
-  inside = sides-end (block S) (stands S) (S .inside) (S .goes-on) k
+  chooses : runs limit (whole P) (going t₀ old) ≡ runs limit (choose next q first second) (going t w)
+  chooses =
+      split P l if-goes-on ∙ ap (λ (b : Block). runs limit (firstRun σ ins b next ⊳ g) (going t w)) is-if
+      ∙ runs-same limit (going t w) (choose-then next q (run σ ins one (next + 1)) (run σ ins two (next + 2 + size one)) g)
 
-  -- THE SIDE THAT IS CHOSEN
+  pub branch-cut : {r : Progress} → limit ≤ t → r ≡ cutAt t → Past s from to ends σ ins limit t₀ old w r
+  branch-cut {r} h e =
+      past-halted (ap halted e)
+      (answered P
+      (subst (Ran limit (whole P) to t₀ old w) (sym e) (record {
+        reaches = sym (chooses ∙ choose-cut limit t (held w) next q first second h);
+        goes = λ o. never refl o;
+      })))
 
-  abbrev side : Bool → Block
-  side o = cond o one two
+  module _ (h : t < limit) {x : Rec} (r : x ≡ recordAt s next) {o : Bool} (e : o ≡ holds (testOf x) (held w .variables)) {n : ℕ} (f : n ≡ chosen s next o) where
+    abbrev to-run : Block
+    to-run = side q one two rest there o
 
-  side-there : (o : Bool) → Stands (form S) s (chosen s i to o) to (side o)
-  side-there true = one-there
-  side-there false = two-there
+    side-chosen : (b : Bool) → o ≡ b → runs limit (choose next q first second) (going t w)
+        ≡ runs limit (run σ ins (side q one two rest there b) (chosen s next b) ⊳ g) (going (t + 1) w)
+    side-chosen true y =
+        choose-first limit t (held w) next q first second h (ap (λ (c : Rec). holds (testOf c) (held w .variables)) (sym r) ∙ sym e ∙ y)
+    side-chosen false y =
+        choose-second limit t (held w) next q first second h (ap (λ (c : Rec). holds (testOf c) (held w .variables)) (sym r) ∙ sym e ∙ y)
+        ∙ ap (λ (j : ℕ). runs limit (run σ ins two j ⊳ g) (going (t + 1) w)) (sym (second-at q one two rest there))
 
-  pub side-after : (o : Bool) → i < chosen s i to o
-  side-after true = omega arith
-  side-after false = omega (arith, behind-one)
+    behind-is : next + firstSize (left P) ≡ passed s (chosen s next o + size to-run)
+    behind-is = omega (arith, ap firstSize is-if, side-passed q one two rest there o)
 
-  pub side-before : (o : Bool) → chosen s i to o + size (side o) < to
-  side-before true = omega (arith, inside)
-  side-before false = omega (arith, inside, behind-one)
-
-  side-passed : (o : Bool) → passed s (chosen s i to o + size (side o)) to ≡ i + (3 + size one + size two)
-  side-passed true =
-      let m = kind-is s (i + 1 + size one) (the-if .fills .stands .0 .middle) in
-      let two-at = subst (λ (j : ℕ). Stands (form S) s j to two) behind-one two-there in
-      rw m (closed-is (i + 1 + size one) two two-at ∙ omega arith)
-  side-passed false =
-      let e : i + 2 + size one + size two ≡ closed s i to + size two = omega (arith, behind-one) in
-      let m = ap (kindAt s) (sym e) ∙ kind-is s (i + 2 + size one + size two) (the-if .fills .stands .0 .last) in
-      rw m (omega (arith, behind-one))
-
-  side-runs : (σ : Settings) (o : Bool) → o ≡ holds q (held w .variables) → t < limit
-      → runs limit (firstRun σ ins whole i) (going t w) ≡ runs limit (run σ ins (side o) (chosen s i to o)) (going (t + 1) w)
-  side-runs σ true h l = choose-first limit t (held w) i q (run σ ins one (i + 1)) (run σ ins two (i + 2 + size one)) l (sym h)
-  side-runs σ false h l =
-      let e : i + 2 + size one ≡ closed s i to = omega (arith, behind-one) in
-      choose-second limit t (held w) i q (run σ ins one (i + 1)) (run σ ins two (i + 2 + size one)) l (sym h)
-      ∙ ap (λ (j : ℕ). runs limit (run σ ins two j) (going (t + 1) w)) e
-
-  -- WHAT IS ANSWERED
-
-  pub branch-cut : {σ : Settings} {r : Progress} → limit ≤ t → r ≡ cutAt t → StatementRan s i to σ ins limit t w w r
-  branch-cut {σ} {r} l e =
-      told S whole is-if
-      (subst (Ran limit (firstRun σ ins whole i) (i + (3 + size one + size two)) t w w) (sym e) (record {
-        reaches = sym (choose-cut limit t (held w) i q (run σ ins one (i + 1)) (run σ ins two (i + 2 + size one)) l);
-        goes = λ h. let z : _≡_ {A = ℕ} 0 1 = cc in absurd (omega arith);
-      }))
-
-  module _ (l : t < limit) {x : Rec} (there : x ≡ recordAt s i) {o : Bool} (h : o ≡ holds (testOf x) (held w .variables)) {from : ℕ} (f : from ≡ chosen s i to o) where
-    pub side-entered : Entered s from to ends ins w limit (t + 1)
-    side-entered = record {
-      form = form S;
-      file = record {
-        block = side o;
-        stands = subst (λ (j : ℕ). Stands (form S) s j to (side o)) (sym f) (side-there o);
-        inside = S .entered .file .inside;
+    chosen-next : Running s from to ends σ ins limit t₀ old w (t + 1) (chosen s next o)
+    chosen-next = record {
+      all = P .all;
+      rest = record {
+        given = record { few = P .rest .given .few; table = P .rest .given .table; lent = P .rest .given .lent; early = omega arith };
+        form = P .rest .form;
+        block = to-run;
+        pending = rest ∷ others P;
+        stands = side-there q one two rest there o;
+        follows = side-pending q one two rest there o (pending-at (ap (λ (b : Block). next + size b) is-if) (P .rest .follows));
       };
-      few = S .entered .few;
-      table = S .entered .table;
-      lent = S .entered .lent;
-      early = omega arith;
+      on = omega (arith, P .on, side-after q one two rest there o);
+      same =
+          chooses ∙ side-chosen o refl
+          ∙ ap (λ (j : ℕ). runs limit (run σ ins to-run (chosen s next o) ⊳ ahead σ ins s j rest (others P)) (going (t + 1) w)) behind-is;
     }
 
-    module _ {σ : Settings} {new : List ℕ} {e : Progress} (B : BlockRan s from to σ ins limit (t + 1) w new e) where
-      ran : Ran limit (run σ ins (side o) (chosen s i to o)) (chosen s i to o + size (side o)) (t + 1) w new e
-      ran = subst (λ (j : ℕ). BlockRan s j to σ ins limit (t + 1) w new e) f B .right (form S) (side o) (side-there o)
-
-      runs-side : runs limit (firstRun σ ins whole i) (going t w) ≡ runs limit (run σ ins (side o) (chosen s i to o)) (going (t + 1) w)
-      runs-side = side-runs σ o (h ∙ ap (λ (r : Rec). holds (testOf r) (held w .variables)) there) l
-
-      pub branch-halted : halted e ≡ true → StatementRan s i to σ ins limit t w new e
-      branch-halted y = told S whole is-if (ran-from runs-side (λ z. let u : _≡_ {A = ℕ} 0 1 = cc in absurd (omega arith)) ran)
-
-      module _ (y : halted e ≡ false) where
-        pub side-ends : Inner s (e .next) to ends
-        side-ends = record { before = omega (arith, ran .goes y, side-before o); inside = S .entered .file .inside; table = S .entered .table }
-
-        pub branch-ran : {r : Progress} {n : ℕ} → n ≡ passed s (e .next) to → r ≡ onward (e .tick) n → StatementRan s i to σ ins limit t w new r
-        branch-ran {r} {n} p g =
-            told S whole is-if
-            (subst (Ran limit (firstRun σ ins whole i) (i + (3 + size one + size two)) t w new) (sym g) (record {
-              reaches = sym (reached-going e new y) ∙ ran .reaches ∙ sym runs-side;
-              goes = λ u. p ∙ ap (λ (j : ℕ). passed s j to) (ran .goes y) ∙ side-passed o;
-            }))
+    pub branch-past : {p : Progress} → p ≡ onward (t + 1) n → Past s from to ends σ ins limit t₀ old w p
+    branch-past e =
+        past-going (subst (Running s from to ends σ ins limit t₀ old w (t + 1)) (sym f) chosen-next) e (omega (arith, P .on, side-after q one two rest there o))

@@ -6,7 +6,7 @@ use mathlib.Core.Bool.{Bool, true, false, _||_}
 use mathlib.Core.Logic.{⊎-elim}
 use mathlib.Core.List.{List, [], _∷_}
 use lib.Dec.{eqb}
-use borrow.Author.Tests.{eqb-true, eqb-false, ne-eqb}
+use borrow.Author.Tests.{eqb-true, eqb-false}
 use Rattle.model.specs.declared.Form.{Form}
 use Rattle.model.specs.declared.Settings.{Settings}
 use Rattle.model.specs.Records.{Rec, kindAt, recordAt, SKIP, IF, WHILE, TIMES}
@@ -15,7 +15,7 @@ use Rattle.model.specs.Times.{ticks}
 use Rattle.model.specs.Refusals.{between, unused, testFits, fieldsFit}
 use Rattle.model.specs.Runs.{Effect, nothing, effect, Run, single, step}
 use Rattle.model.proofs.Shapes.{and-left, or-cases, Fit}
-use Rattle.reading.specs.Closing.{opensBlock}
+use Rattle.reading.specs.Closing.{opensBlock, closesBlock}
 use Rattle.reading.specs.Ranges.{Stands, firstSize, afterFirst}
 use Rattle.reading.proofs.Standing.{stands-once, stands-some, skip-at, act-at}
 use Rattle.timing.specs.Times.{stepTicks}
@@ -23,7 +23,7 @@ use Rattle.timing.proofs.Firsts.{act-ticks}
 use Rattle.stepping.specs.declared.progress.Progress.{Progress}
 use Rattle.stepping.specs.Machines.{runs, recordEffect}
 use Rattle.stepping.specs.Steps.{going, Ran}
-use Rattle.machine.specs.Contracts.{firstRun, Statement, StatementRan}
+use Rattle.machine.specs.Contracts.{extent, firstRun, Reached, Statement, StatementRan}
 use Rattle.machine.proofs.Running.{runs-same, ran-from}
 
 -- FIELDS
@@ -65,63 +65,69 @@ act-effect ins (check q) v = refl
 act-effect ins (beat x) v = refl
 act-effect ins (save m) v = refl
 
+-- TICKS
+
+pub lasting : {limit c d i j t : ℕ} {f : List ℕ → Effect} {old new : List ℕ} {e : Progress} → d ≡ c → Ran limit (single d i f) j t old new e → Ran limit (single c i f) j t old new e
+lasting {limit} {i = i} {j} {t} {f} {old} {new} {e} h R = subst (λ (n : ℕ). Ran limit (single n i f) j t old new e) h R
+
 -- THE STATEMENT
 
-module _ {s : List ℕ} {i to : ℕ} {ends ins w : List ℕ} {limit t : ℕ} (S : Statement s i to ends ins w limit t) where
+-- a record that is reached and closes no block
+pub reached-statement : {s : List ℕ} {i : ℕ} {ends ins w : List ℕ} {limit t : ℕ} → Reached s i ends ins w limit t → closesBlock (kindAt s i) ≡ false → Statement s i ends ins w limit t
+reached-statement R k = record { reached = R; goes-on = k }
+
+module _ {s : List ℕ} {i : ℕ} {ends ins w : List ℕ} {limit t : ℕ} (S : Statement s i ends ins w limit t) where
   abbrev pub block : Block
-  block = S .entered .file .block
+  block = S .reached .block
 
   abbrev pub form : Form
-  form = S .entered .form
+  form = S .reached .form
 
-  pub stands : Stands form s i to block
-  stands = S .entered .file .stands
+  pub stands : Stands form s i (extent s) block
+  stands = S .reached .stands
 
   -- what holds of it holds of every block at its place
   pub told : {σ : Settings} (b : Block) → block ≡ b → {new : List ℕ} {r : Progress} → Ran limit (firstRun σ ins b i) (i + firstSize b) t w new r
-      → StatementRan s i to σ ins limit t w new r
+      → StatementRan s i σ ins limit t w new r
   told {σ} b e {new} {r} A = record {
     right = λ f x X. subst (λ (y : Block). Ran limit (firstRun σ ins y i) (i + firstSize y) t w new r) (sym e ∙ stands-once block x stands X) A;
   }
 
   module _ {r : Rec} (h : r ≡ recordAt s i) where
     pub fields-fit : fieldsFit r ≡ true
-    fields-fit = ap fieldsFit h ∙ first-fits s i block stands (stands-some block stands (S .inside) (S .goes-on))
+    fields-fit = ap fieldsFit h ∙ first-fits s i block stands (stands-some block stands (S .reached .inside) (S .goes-on))
 
     pub test-there : opensBlock (kindAt s i) ≡ true → testFits r ≡ true
     test-there o = test-fits r fields-fit (ap (λ (x : Rec). opensBlock (x .kind)) h ∙ o)
 
     -- a record that opens no block
-    module _ (x : r .kind ≡ IF → ⊥) (y : r .kind ≡ WHILE → ⊥) (z : r .kind ≡ TIMES → ⊥) where
-      shut : opensBlock (kindAt s i) ≡ false
-      shut = ap (λ (q : Rec). opensBlock (q .kind)) (sym h) ∙ simp (ne-eqb (r .kind) IF x, ne-eqb (r .kind) WHILE y, ne-eqb (r .kind) TIMES z)
+    module _ (shut : opensBlock (kindAt s i) ≡ false) {σ : Settings} {new : List ℕ} {p : Progress}
+        (R : Ran limit (single (stepTicks σ r) i (recordEffect ins r)) (i + 1) t w new p) where
+      one-step : (b : Block) → block ≡ b → (d : ℕ) (e : List ℕ → Effect) → firstRun σ ins b i ≡ single d i e
+          → firstSize b ≡ 1 → stepTicks σ r ≡ d → ((v : List ℕ) → recordEffect ins r v ≡ e v) → StatementRan s i σ ins limit t w new p
+      one-step b is d e f n k u =
+          told b is
+          (ran-from
+          (ap (λ (g : Run). runs limit g (going t w)) f ∙ runs-same limit (going t w) (λ v. ap₂ (λ (m : ℕ) (c : Effect). step m i c ∷ []) (sym k) (sym (u v))))
+          (λ o. omega (arith, n)) R)
 
-      module _ {σ : Settings} {lasts : ℕ} (l : lasts ≡ stepTicks σ r) {new : List ℕ} {p : Progress} (R : Ran limit (single lasts i (recordEffect ins r)) (i + 1) t w new p) where
-        one-step : (b : Block) → block ≡ b → (d : ℕ) (e : List ℕ → Effect) → firstRun σ ins b i ≡ single d i e
-            → firstSize b ≡ 1 → lasts ≡ d → ((v : List ℕ) → recordEffect ins r v ≡ e v) → StatementRan s i to σ ins limit t w new p
-        one-step b is d e f n k u =
-            told b is
-            (ran-from
-            (ap (λ (g : Run). runs limit g (going t w)) f ∙ runs-same limit (going t w) (λ v. ap₂ (λ (m : ℕ) (c : Effect). step m i c ∷ []) (sym k) (sym (u v))))
-            (λ o. omega (arith, n)) R)
+      skipped : kindAt s i ≡ SKIP → StatementRan s i σ ins limit t w new p
+      skipped e =
+          let b = afterFirst block in
+          let is = skip-at block stands (S .reached .inside) (S .goes-on) e in
+          let a = subst (Stands form s i (extent s)) is stands .fills .stands .0 in
+          one-step (skip (recordAt s i .count) b) is (recordAt s i .count) (λ v. nothing) refl refl (ap (stepTicks σ) (h ∙ a)) (λ v. ap (λ (q : Rec). recordEffect ins q v) (h ∙ a))
 
-        skipped : kindAt s i ≡ SKIP → StatementRan s i to σ ins limit t w new p
-        skipped e =
-            let b = afterFirst block in
-            let is = skip-at block stands (S .inside) (S .goes-on) e in
-            let a = subst (Stands form s i to) is stands .fills .stands .0 in
-            one-step (skip (recordAt s i .count) b) is (recordAt s i .count) (λ v. nothing) refl refl (l ∙ ap (stepTicks σ) (h ∙ a)) (λ v. ap (λ (q : Rec). recordEffect ins q v) (h ∙ a))
+      acted : (kindAt s i ≡ SKIP → ⊥) → StatementRan s i σ ins limit t w new p
+      acted e =
+          let A = act-at block stands (S .reached .inside) (S .goes-on) shut e in
+          let q = A .act-of in
+          one-step (act q (afterFirst block)) (A .is) (ticks σ q) (effect ins q) refl refl (ap (stepTicks σ) (h ∙ A .same) ∙ act-ticks σ q)
+          (λ v. ap (λ (c : Rec). recordEffect ins c v) (h ∙ A .same) ∙ act-effect ins q v)
 
-        acted : (kindAt s i ≡ SKIP → ⊥) → StatementRan s i to σ ins limit t w new p
-        acted e =
-            let A = act-at block stands (S .inside) (S .goes-on) shut e in
-            let q = A .act-of in
-            one-step (act q (afterFirst block)) (A .is) (ticks σ q) (effect ins q) refl refl (l ∙ ap (stepTicks σ) (h ∙ A .same) ∙ act-ticks σ q)
-            (λ v. ap (λ (c : Rec). recordEffect ins c v) (h ∙ A .same) ∙ act-effect ins q v)
-
-        pub step-ran : StatementRan s i to σ ins limit t w new p
-        step-ran = go (eqb (kindAt s i) SKIP) refl
-          where
-            go : (o : Bool) → eqb (kindAt s i) SKIP ≡ o → StatementRan s i to σ ins limit t w new p
-            go true e = skipped (eqb-true (kindAt s i) SKIP e)
-            go false e = acted (eqb-false (kindAt s i) SKIP e)
+      pub step-ran : StatementRan s i σ ins limit t w new p
+      step-ran = go (eqb (kindAt s i) SKIP) refl
+        where
+          go : (o : Bool) → eqb (kindAt s i) SKIP ≡ o → StatementRan s i σ ins limit t w new p
+          go true e = skipped (eqb-true (kindAt s i) SKIP e)
+          go false e = acted (eqb-false (kindAt s i) SKIP e)

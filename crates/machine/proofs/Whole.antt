@@ -7,38 +7,37 @@ use mathlib.Core.Bool.{Bool, true, false, not, _||_, false≢true}
 use mathlib.Core.List.{List, [], _∷_}
 use lib.Dec.{eqb, ltb}
 use lib.ListN.{length, getD, take, drop, replicate}
-use borrow.Author.Tests.{eqb-true, ltb-true, ltb-false, lt-ltb, le-ltb, le-leb, lt-leb}
-use Rattle.model.specs.declared.Form.{Form}
-use Rattle.model.specs.declared.Form.the-variants.{Task, Equalised, Laid}
+use borrow.Author.Tests.{not-true, not-false, eqb-true, ltb-true, ltb-false, lt-ltb, le-ltb, le-leb, lt-leb}
 use Rattle.model.specs.declared.Settings.{Settings}
 use Rattle.model.specs.declared.Stopped.{Stopped}
 use Rattle.model.specs.declared.Resumed.{Resumed}
 use Rattle.model.specs.declared.Refusal.{Refusal}
-use Rattle.model.specs.Trees.{size, fileTree}
+use Rattle.model.specs.Trees.{Block, nil, _⧺_, size, fileTree}
 use Rattle.model.specs.Runs.{Step, duration, variablesAfter, outputsAfter, level, mark, overran, Buffers, leave, cleared, run}
-use Rattle.model.specs.Refusals.{maxRecords}
 use Rattle.model.specs.Stopping.{upto, Image, Saved, none, lastImage, wordsFrom, imageOf, rest, takeUp}
 use Rattle.model.specs.Replies.{kept, ended, isSaved, imageOver, afterSave, buffersOf}
 use Rattle.model.specs.Answers.{Verdict, finished, refused, bit}
 use Rattle.model.proofs.Bytes.{Bytes}
-use Rattle.model.proofs.Sound.{Sound, sound-file}
 use Rattle.model.specs.Placement.{LoopFree}
+use Rattle.model.proofs.Trees.{⧺-nil}
+use Rattle.theory.proofs.Sequences.{⊳-nil}
 use Rattle.theory.proofs.Reached.{rest-reached}
 use Rattle.theory.proofs.Stops.{upto-all}
 use Rattle.theory.proofs.Within.{run-within}
-use Rattle.reading.specs.Closing.{Closings}
-use Rattle.reading.specs.Ranges.{Fillable, Stands}
+use Rattle.reading.specs.Ranges.{Stands}
 use Rattle.reading.proofs.Standing.{stands-file}
 use Rattle.stepping.specs.declared.progress.Progress.{Progress}
 use Rattle.stepping.specs.Machines.{Held, held, Machine, machine, does, runs}
-use Rattle.stepping.specs.Steps.{reached}
-use Rattle.machine.specs.Contracts.{Entered, BlockRan, bare, TakesUp, TookUp}
+use Rattle.stepping.specs.Steps.{going, reached}
+use Rattle.machine.specs.Contracts.{Pending, at-end, ahead, Started, RecordsRan}
 use Rattle.stepping.specs.Buffers.{withVariables, withOutputs, Stored, StoredImage}
 use Rattle.machine.specs.Calls.{badLengths, Ready, steps, RunWhole, stopVerdict, Stops, strayAt, resumeVerdict, Resumes}
-use Rattle.machine.proofs.Doing.{heldAfter, does-upto}
-use Rattle.machine.proofs.RunningLoops.{denied, granted}
+use Rattle.machine.proofs.Files.{file-sound, file-size}
+use Rattle.machine.proofs.Doing.{neither, heldAfter, does-upto}
 use Rattle.machine.proofs.Marks.{marks-bytes}
-use Rattle.machine.proofs.Positions.{rest-shorter}
+use Rattle.machine.proofs.Running.{runs-same}
+use Rattle.machine.proofs.Positions.{joined, Position, position, rest-shorter}
+use Rattle.machine.proofs.Bare.{bare, ahead-joined, runs-bare}
 use Rattle.stepping.proofs.ImageLaws.{beyond}
 
 or-true : (o : Bool) → (o || true) ≡ true
@@ -48,15 +47,7 @@ or-true false = refl
 -- LENGTHS
 
 pub equal-of : (a b : ℕ) → not (eqb a b) ≡ false → a ≡ b
-equal-of a b e = eqb-true a b (go (eqb a b) e)
-  where
-    go : (o : Bool) → not o ≡ false → o ≡ true
-    go true e = refl
-    go false e = sym e
-
-pub neither : (a b : Bool) → (a || b) ≡ false → (a ≡ false) × (b ≡ false)
-neither true b e = let z : _≡_ {A = ℕ} 0 1 = cc in absurd (omega arith)
-neither false b e = (refl, e)
+equal-of a b e = eqb-true a b (not-false (eqb a b) e)
 
 -- buffers of the table's lengths
 pub record Lengths (v i l m : ℕ) : Type 0 where
@@ -65,7 +56,7 @@ pub record Lengths (v i l m : ℕ) : Type 0 where
   pub levels : l ≡ 8
   pub marks : m ≡ 8
 
-pub good-lengths : (v i l m : ℕ) → badLengths v i l m ≡ false → Lengths v i l m
+good-lengths : (v i l m : ℕ) → badLengths v i l m ≡ false → Lengths v i l m
 good-lengths v i l m e =
     let c = neither (not (eqb v 16) || not (eqb i 8) || not (eqb l 8)) (not (eqb m 8)) e in
     let b = neither (not (eqb v 16) || not (eqb i 8)) (not (eqb l 8)) (c .0) in
@@ -86,59 +77,40 @@ module _ {us : List Step} {t : ℕ} {b : Buffers} {e : Progress} {new : List ℕ
   pub left-bytes : Bytes (b .marks) → Bytes (held new .marks)
   left-bytes h = subst Bytes (sym (L .marks)) (marks-bytes us (b .marks) h)
 
-  pub left-stored : {v l m : List ℕ} → Stored (held new) v l m → buffersOf v l m ≡ leave us b
+  left-stored : {v l m : List ℕ} → Stored (held new) v l m → buffersOf v l m ≡ leave us b
   left-stored S = rw (S .variables ∙ L .variables, S .levels ∙ L .levels, S .marks ∙ L .marks)
 
 -- the outputs and the image before the first step
-pub cleared-cells : (v : List ℕ) → withVariables v (held (replicate 50 0)) ≡ record { variables = v; levels = replicate 8 0; marks = replicate 8 0; image = none }
+cleared-cells : (v : List ℕ) → withVariables v (held (replicate 50 0)) ≡ record { variables = v; levels = replicate 8 0; marks = replicate 8 0; image = none }
 unfolding held
 cleared-cells v = refl
 
 -- THE WHOLE FILE
 
-most : (f : Form) → maxRecords f ≤ 5461
-most Task = omega arith
-most Equalised = omega arith
-most Laid = omega arith
-
 module _ {file : List ℕ} {σ : Settings} {v ins l m : List ℕ} (R : Ready file σ v ins l m) where
   pub lent : Lengths (length v) (length ins) (length l) (length m)
   lent = good-lengths (length v) (length ins) (length l) (length m) (R .lengths)
 
-  tree-sound : Sound (R .form) file (fileTree file)
-  tree-sound = sound-file (R .form) file (R .sound .sound)
-
-  pub whole-few : length file / 12 ≤ 5461
-  whole-few = omega (arith, tree-sound .whole-records, tree-sound .few, most (R .form))
-
-  pub whole-size : size (fileTree file) ≡ length file / 12
-  whole-size = omega (arith, tree-sound .whole-records)
-
   whole-stands : Stands (R .form) file 0 (length file / 12) (fileTree file)
   whole-stands = stands-file (R .form) file (R .sound)
 
-  -- the table of its closings is filled into as much room
-  pub whole-fills : {ends : List ℕ} → length ends ≡ 5462 → Fillable file (length file / 12) ends
-  whole-fills k = record {
-    form = R .form;
-    file = record { block = fileTree file; stands = whole-stands; inside = omega arith };
-    ends = whole-size;
-    few = whole-few;
-    room = omega (arith, whole-few);
-  }
+  whole-follows : Pending (R .form) file (length file / 12) (0 + size (fileTree file)) []
+  whole-follows = at-end {k = 0 + size (fileTree file)} (omega (arith, file-size (R .sound)))
 
-  pub whole-entered : {ends w : List ℕ} {limit : ℕ} → Closings file (length file / 12) ends → length w ≡ 50 → Entered file 0 (length file / 12) ends ins w limit 0
-  whole-entered T k = record {
+  pub whole-started : {w : List ℕ} {limit : ℕ} → length w ≡ 50 → Started file 0 ins w limit 0
+  whole-started k = record {
     form = R .form;
-    file = record { block = fileTree file; stands = whole-stands; inside = omega arith };
-    few = whole-few;
-    table = T;
+    sound = R .sound;
     lent = record { inputs = lent .inputs; cells = k };
     early = omega arith;
+    block = fileTree file;
+    pending = [];
+    stands = whole-stands;
+    follows = whole-follows;
   }
 
   -- run from what h holds, up to a limit
-  module _ {limit : ℕ} {w new : List ℕ} {e : Progress} {h : Held} (B : BlockRan file 0 (length file / 12) σ ins limit 0 w new e) (k : held w ≡ h) (same : h .variables ≡ v) where
+  module _ {limit : ℕ} {w new : List ℕ} {e : Progress} {h : Held} (B : RecordsRan file 0 (length file / 12) σ ins limit 0 w new e) (k : held w ≡ h) (same : h .variables ≡ v) where
     abbrev done : List Step
     done = upto limit (steps file σ ins v)
 
@@ -148,13 +120,14 @@ module _ {file : List ℕ} {σ : Settings} {v ins l m : List ℕ} (R : Ready fil
     whole-reaches : reached e new ≡ outcome (steps file σ ins v) limit
     unfolding runs
     whole-reaches =
-        B .right (R .form) (fileTree file) whole-stands .reaches
+        B .right (R .form) (fileTree file) [] whole-stands whole-follows .reaches
+        ∙ runs-same limit (machine 0 false false (held w)) (⊳-nil (run σ ins (fileTree file) 0))
         ∙ ap (λ (x : Held). does limit (run σ ins (fileTree file) 0 (x .variables)) (machine 0 false false x)) k
         ∙ ap (λ (x : List ℕ). does limit (run σ ins (fileTree file) 0 x) (machine 0 false false h)) same
         ∙ does-upto limit (steps file σ ins v) 0 false h (omega arith)
         ∙ ap (outcome (steps file σ ins v)) (sub-zero limit)
 
-    pub whole-left : Left done 0 (buffersOf v (h .levels) (h .marks)) e new
+    whole-left : Left done 0 (buffersOf v (h .levels) (h .marks)) e new
     whole-left = record {
       tick = ap (λ (x : Machine). x .tick) whole-reaches;
       overran-too = ap (λ (x : Machine). x .overran) whole-reaches;
@@ -163,15 +136,15 @@ module _ {file : List ℕ} {σ : Settings} {v ins l m : List ℕ} (R : Ready fil
       marks = ap (λ (x : Machine). x .holds .marks) whole-reaches;
     }
 
-    pub whole-cut : e .cut ≡ ltb limit (duration (steps file σ ins v))
+    whole-cut : e .cut ≡ ltb limit (duration (steps file σ ins v))
     whole-cut = ap (λ (x : Machine). x .cut) whole-reaches
 
-    pub whole-image : held new .image ≡ lastImage done 0 v (h .image)
+    whole-image : held new .image ≡ lastImage done 0 v (h .image)
     whole-image = ap (λ (x : Machine). x .holds .image) whole-reaches ∙ ap (λ (x : List ℕ). lastImage done 0 x (h .image)) same
 
   -- WHOLE: it ends within the period
 
-  module _ {w new : List ℕ} {e : Progress} (B : BlockRan file 0 (length file / 12) σ ins (σ .period) 0 w new e)
+  module _ {w new : List ℕ} {e : Progress} (B : RecordsRan file 0 (length file / 12) σ ins (σ .period) 0 w new e)
       (k : held w ≡ withOutputs l m (withVariables v (held (replicate 50 0)))) where
     all-done : upto (σ .period) (steps file σ ins v) ≡ steps file σ ins v
     all-done = upto-all (σ .period) (steps file σ ins v) (omega (arith, run-within σ ins (fileTree file) 0 .in-all v, R .in-time))
@@ -184,7 +157,7 @@ module _ {file : List ℕ} {σ : Settings} {v ins l m : List ℕ} (R : Ready fil
 
   -- UP TO A STOP TICK
 
-  module _ {stop : ℕ} {w new : List ℕ} {e : Progress} (B : BlockRan file 0 (length file / 12) σ ins stop 0 w new e) (a : held w ≡ withVariables v (held (replicate 50 0))) where
+  module _ {stop : ℕ} {w new : List ℕ} {e : Progress} (B : RecordsRan file 0 (length file / 12) σ ins stop 0 w new e) (a : held w ≡ withVariables v (held (replicate 50 0))) where
     abbrev es : List Step
     es = steps file σ ins v
 
@@ -199,7 +172,7 @@ module _ {file : List ℕ} {σ : Settings} {v ins l m : List ℕ} (R : Ready fil
 
     pub stop-late : {image : List ℕ} → not (e .cut) ≡ true → Stops file σ ins stop v l m image v l m image (Stopped.Refused Refusal.LateStop)
     stop-late {image} n =
-        let c = ltb-false stop (duration es) (sym (whole-cut B start-cells refl) ∙ denied (e .cut) n) in
+        let c = ltb-false stop (duration es) (sym (whole-cut B start-cells refl) ∙ not-true (e .cut) n) in
         let r : refused 12 [] ≡ stopVerdict es v stop = rw (le-leb (duration es) stop c) in
         record {
           reply = r;
@@ -210,7 +183,7 @@ module _ {file : List ℕ} {σ : Settings} {v ins l m : List ℕ} (R : Ready fil
     pub stop-done : {image v′ l′ m′ image′ : List ℕ} {o : Bool} → not (e .cut) ≡ false → Stored (held new) v′ l′ m′ → StoredImage (held new .image) image image′ o
         → Stops file σ ins stop v l m image v′ l′ m′ image′ (Stopped.At stop o)
     stop-done {image} {v′} {l′} {m′} {image′} {o} n S I =
-        let c = ltb-true stop (duration es) (sym (whole-cut B start-cells refl) ∙ granted (e .cut) n) in
+        let c = ltb-true stop (duration es) (sym (whole-cut B start-cells refl) ∙ not-false (e .cut) n) in
         let i = whole-image B start-cells refl in
         let r : finished (stop ∷ 0 ∷ bit (isSaved result) ∷ []) ≡ stopVerdict es v stop = rw (lt-leb (duration es) stop c) in
         record {
@@ -243,7 +216,7 @@ module _ {file : List ℕ} {σ : Settings} {v ins l m : List ℕ} (R : Ready fil
   leaving x = kept (resumeVerdict file σ ins x) (leave (takeUp σ ins (fileTree file) x) (buffersOf (x .variables) l m)) (buffersOf v l m)
 
   -- row 11
-  pub resume-stray : {image : List ℕ} → M ≡ imageOf image → strayAt file (σ .period) M ≡ true → Resumes file σ ins v l m image v l m (Resumed.Refused Refusal.BadImage)
+  resume-stray : {image : List ℕ} → M ≡ imageOf image → strayAt file (σ .period) M ≡ true → Resumes file σ ins v l m image v l m (Resumed.Refused Refusal.BadImage)
   resume-stray is e =
       let r : refused 11 [] ≡ resumeVerdict file σ ins M = rw e in
       record {
@@ -265,29 +238,35 @@ module _ {file : List ℕ} {σ : Settings} {v ins l m : List ℕ} (R : Ready fil
     in-file = go (ltb (12 * (j - 1)) (length file)) refl
       where
         go : (o : Bool) → ltb (12 * (j - 1)) (length file) ≡ o → j ≤ length file / 12
-        go true e = omega (arith, ltb-true (12 * (j - 1)) (length file) e, tree-sound R .whole-records)
+        go true e = omega (arith, ltb-true (12 * (j - 1)) (length file) e, file-sound (R .sound) .whole-records)
         go false e = absurd (false≢true (beyond file (λ z. not-zero z) (ltb-false (12 * (j - 1)) (length file) e) ∙ a))
 
     loop-free : LoopFree (fileTree file)
     loop-free = rest-reached (R .form) file j (R .sound .sound) a
 
-    pub resume-takes : {ends w : List ℕ} → Closings file (length file / 12) ends → length w ≡ 50 → TakesUp file j (length file / 12) ends ins w (t + σ .period) t
-    resume-takes T k = record {
+    -- what stands at the record, and is left behind it
+    place : Position (R .form) file (length file / 12) j (rest (fileTree file) (j - 0) ⧺ nil)
+    place = position (fileTree file) 0 j [] loop-free (whole-stands R) (whole-follows R) (omega arith) (omega (arith, in-file, file-size (R .sound)))
+
+    place-is : place .block ⧺ joined (place .pending) ≡ rest (fileTree file) j
+    place-is = place .is ∙ ⧺-nil (rest (fileTree file) (j - 0)) ∙ ap (rest (fileTree file)) (sub-zero j)
+
+    resume-started : {w : List ℕ} → length w ≡ 50 → Started file j ins w (t + σ .period) t
+    resume-started k = record {
       form = R .form;
-      file = record { block = fileTree file; stands = whole-stands R; inside = omega arith };
-      ends = whole-size R;
-      loop-free = loop-free;
-      few = whole-few R;
-      table = T;
-      inside = in-file;
+      sound = R .sound;
       lent = record { inputs = lent R .inputs; cells = k };
       early = omega arith;
+      block = place .block;
+      pending = place .pending;
+      stands = place .stands;
+      follows = place .follows;
     }
 
     abbrev again : List Step
     again = takeUp σ ins (fileTree file) M
 
-    module _ {w new : List ℕ} {e : Progress} (T : TookUp file j (length file / 12) σ ins (t + σ .period) t w new e)
+    module _ {w new : List ℕ} {e : Progress} (T : RecordsRan file j (length file / 12) σ ins (t + σ .period) t w new e)
         (k : held w ≡ withOutputs l m (withVariables (M .variables) (held (replicate 50 0)))) where
       abbrev from : Held
       from = withOutputs l m (withVariables (M .variables) (held (replicate 50 0)))
@@ -303,14 +282,17 @@ module _ {file : List ℕ} {σ : Settings} {v ins l m : List ℕ} (R : Ready fil
       resume-reaches : bare (reached e new) ≡ bare (outcome-from again (t + σ .period - t))
       unfolding runs takeUp
       resume-reaches =
-          T .right (R .form) (fileTree file) (whole-stands R)
+          ap bare (T .right (R .form) (place .block) (place .pending) (place .stands) (place .follows) .reaches)
+          ∙ runs-bare (t + σ .period) (ahead σ ins file j (place .block) (place .pending)) (run σ ins (place .block ⧺ joined (place .pending)) j) (going t w)
+          (ahead-joined σ ins file (place .block) (place .pending) j j)
+          ∙ ap (λ (b : Block). bare (runs (t + σ .period) (run σ ins b j) (going t w))) place-is
           ∙ ap (λ (x : Held). bare (does (t + σ .period) (run σ ins (rest (fileTree file) j) j (x .variables)) (machine t false false x))) k
           ∙ ap bare (does-upto (t + σ .period) again t false from (omega arith))
 
       resume-done : upto (t + σ .period - t) again ≡ again
       resume-done = upto-all (t + σ .period - t) again (omega (arith, within-period))
 
-      pub resume-left : Left again t (buffersOf (M .variables) l m) e new
+      resume-left : Left again t (buffersOf (M .variables) l m) e new
       resume-left =
           let q = resume-reaches in
           subst (λ (us : List Step). Left us t (buffersOf (M .variables) l m) e new) resume-done
@@ -322,7 +304,7 @@ module _ {file : List ℕ} {σ : Settings} {v ins l m : List ℕ} (R : Ready fil
             marks = ap (λ (x : Machine). x .holds .marks) q;
           })
 
-      pub resume-ran : {image v′ l′ m′ : List ℕ} → M ≡ imageOf image → Stored (held new) v′ l′ m′
+      resume-ran : {image v′ l′ m′ : List ℕ} → M ≡ imageOf image → Stored (held new) v′ l′ m′
           → Resumes file σ ins v l m image v′ l′ m′ (Resumed.Ended (e .tick) (e .overran))
       resume-ran is S =
           let r : ended t again ≡ resumeVerdict file σ ins M = rw (a, le-ltb (σ .period) t p) in
@@ -345,7 +327,7 @@ index-small w image e h = rw e (omega (arith, h 0, h 1, h 2, h 3))
 module _ {file : List ℕ} {σ : Settings} {v ins l m : List ℕ} (R : Ready file σ v ins l m) (w : List ℕ) where
   module _ {o : Bool} (s : o ≡ afterSave file (getD w 0 0)) where
     pub words-stray : {image : List ℕ} → w ≡ wordsFrom image 0 18 → not o ≡ true → Resumes file σ ins v l m image v l m (Resumed.Refused Refusal.BadImage)
-    words-stray {image} e n = resume-stray R (imageFrom w) (image-is w image e) (rw (sym s ∙ denied o n))
+    words-stray {image} e n = resume-stray R (imageFrom w) (image-is w image e) (rw (sym s ∙ not-true o n))
 
     module _ (n : not o ≡ false) (p : getD w 1 0 ≤ σ .period) where
       abbrev index : ℕ
@@ -355,13 +337,12 @@ module _ {file : List ℕ} {σ : Settings} {v ins l m : List ℕ} (R : Ready fil
       tick = getD w 1 0
 
       there : afterSave file index ≡ true
-      there = sym s ∙ granted o n
+      there = sym s ∙ not-false o n
 
-      pub words-take : {ends cells : List ℕ} → Closings file (length file / 12) ends → length cells ≡ 50
-          → TakesUp file index (length file / 12) ends ins cells (tick + σ .period) tick
-      words-take T k = resume-takes R (imageFrom w) there p T k
+      pub words-started : {cells : List ℕ} → length cells ≡ 50 → Started file index ins cells (tick + σ .period) tick
+      words-started k = resume-started R (imageFrom w) there p k
 
-      module _ {cells new : List ℕ} {e : Progress} (T : TookUp file index (length file / 12) σ ins (tick + σ .period) tick cells new e)
+      module _ {cells new : List ℕ} {e : Progress} (T : RecordsRan file index (length file / 12) σ ins (tick + σ .period) tick cells new e)
           (k : held cells ≡ withOutputs l m (withVariables (take 16 (drop 2 w)) (held (replicate 50 0)))) where
         pub words-bytes : Bytes m → Bytes (held new .marks)
         words-bytes h = left-bytes (resume-left R (imageFrom w) there p T k) h

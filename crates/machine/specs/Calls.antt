@@ -12,7 +12,7 @@ use Rattle.model.specs.declared.Resumed.{Resumed}
 use Rattle.model.specs.Settings.{settingsOf}
 use Rattle.model.specs.Trees.{fileTree}
 use Rattle.model.specs.Times.{time}
-use Rattle.model.specs.Runs.{Step, duration, overran, Buffers, leave, cleared, run}
+use Rattle.model.specs.Runs.{Step, duration, overran, leave, cleared, run}
 use Rattle.model.specs.Stopping.{upto, none, Image, lastImage, imageOf, takeUp}
 use Rattle.model.specs.Answers.{Verdict, finished, bit, stopped, resumed}
 use Rattle.model.specs.Replies.{turnDown, reading, above, fileTime, kept, buffersOf, ended, isSaved, imageOver, afterSave}

@@ -1,24 +1,59 @@
 -- What the functions that run a file's records answer, for every block that stands where they start.
-use Prim.Native.Nat.{ℕ, _+_, _*_, _-_, _≤_, _<_}
+use Prim.Native.Nat.{ℕ, _+_, _-_, _/_, _≤_, _<_}
 use mathlib.Core.Path.{_≡_}
-use mathlib.Core.Bool.{Bool, false, cond}
-use mathlib.Core.List.{List, []}
-use mathlib.Core.Logic.{_⊎_}
+use mathlib.Core.Bool.{Bool, true, false, cond, _||_}
+use mathlib.Core.List.{List, [], _∷_}
 use lib.Dec.{eqb}
 use lib.ListN.{length}
 use Rattle.model.specs.declared.Form.{Form}
 use Rattle.model.specs.declared.Settings.{Settings}
-use Rattle.model.specs.Records.{kindAt, ELSE}
+use Rattle.model.specs.Records.{kindAt, ELSE, WHILE, TIMES}
 use Rattle.model.specs.Trees.{Block, nil, skip, act, branch, while, times, size}
 use Rattle.model.specs.Times.{ticks}
-use Rattle.model.specs.Stopping.{none, rest}
-use Rattle.model.specs.Placement.{LoopFree}
 use Rattle.model.specs.Runs.{nothing, effect, lastTest, Run, _⊳_, single, choose, spin, rounds, run}
 use Rattle.reading.specs.Closing.{closesBlock, closingIn, Closings}
-use Rattle.reading.specs.Ranges.{Stands, InFile, firstSize}
+use Rattle.reading.specs.Ranges.{SoundFile, Stands, firstSize}
 use Rattle.stepping.specs.declared.progress.Progress.{Progress}
-use Rattle.stepping.specs.Machines.{Machine, machine, runs}
-use Rattle.stepping.specs.Steps.{Lent, going, reached, Ran}
+use Rattle.stepping.specs.Machines.{runs}
+use Rattle.stepping.specs.Steps.{Lent, going, halted, Ran}
+
+-- WHERE A RUN GOES ON
+
+-- the number of a file's records
+abbrev pub extent : List ℕ → ℕ
+extent s = length s / 12
+
+-- the ELSE or END that closes the block behind k, and the record behind that
+unfoldable pub closing : List ℕ → ℕ → ℕ
+closing s k = closingIn s (extent s - (k + 1)) (k + 1) 0
+
+abbrev pub closed : List ℕ → ℕ → ℕ
+closed s k = closing s k + 1
+
+-- where a run goes on from the ELSE or END at k: behind the END of the IF, or behind the END itself
+abbrev pub passed : List ℕ → ℕ → ℕ
+passed s k = cond (eqb (kindAt s k) ELSE) (closed s k) (k + 1)
+
+-- where the side starts that the test of the IF at i chooses
+abbrev pub chosen : List ℕ → ℕ → Bool → ℕ
+chosen s i o = cond o (i + 1) (closed s i)
+
+-- a record of that kind is a loop
+abbrev pub isLoop : ℕ → Bool
+isLoop k = eqb k WHILE || eqb k TIMES
+
+-- a block stands behind the ELSE or END at k, which is before `to`
+pub record Behind (f : Form) (s : List ℕ) (to k : ℕ) (b : Block) : Type 0 where
+  pub before : k < to
+  pub on : k < passed s k
+  pub stands : Stands f s (passed s k) (extent s) b
+
+-- of the records up to `to`, these blocks are left behind one that ends at k: each is what follows an IF that is open there
+pub data Pending (f : Form) (s : List ℕ) (to : ℕ) : ℕ → List Block → Type 0 where
+  at-end : {k : ℕ} → k ≡ to → Pending f s to k []
+  and-behind : {k : ℕ} {b : Block} {bs : List Block} → Behind f s to k b → Pending f s to (passed s k + size b) bs → Pending f s to k (b ∷ bs)
+
+-- THE RUNS
 
 -- the run of a block's first statement
 abbrev pub firstRun : Settings → List ℕ → Block → ℕ → Run
@@ -29,66 +64,91 @@ firstRun σ ins (branch q a d b) i = choose i q (run σ ins a (i + 1)) (run σ i
 firstRun σ ins (while q n a b) i = spin i n q (run σ ins a (i + 1))
 firstRun σ ins (times q n a b) i = rounds n (run σ ins a (i + 1)) ⊳ single 1 i (lastTest q)
 
--- a block of the file is run from tick t on
-pub record Entered (s : List ℕ) (i to : ℕ) (closings ins w : List ℕ) (limit t : ℕ) : Type 0 where
-  pub form : Form
-  pub file : InFile form s i to
-  pub few : to ≤ 5461
-  pub table : Closings s to closings
+-- of the blocks that are left behind one that ends at k
+abbrev pub after : Settings → List ℕ → List ℕ → ℕ → List Block → Run
+after σ ins s k [] = λ v. []
+after σ ins s k (b ∷ bs) = run σ ins b (passed s k) ⊳ after σ ins s (passed s k + size b) bs
+
+-- of a block at i, and of those that are left behind it
+abbrev pub ahead : Settings → List ℕ → List ℕ → ℕ → Block → List Block → Run
+ahead σ ins s i b bs = run σ ins b i ⊳ after σ ins s (i + size b) bs
+
+-- WHAT IS ASKED AND ANSWERED
+
+-- a file of at most so many records and the table of its closings, lent to a run at tick t
+pub record Given (s closings ins w : List ℕ) (limit t : ℕ) : Type 0 where
+  pub few : extent s ≤ 5461
+  pub table : Closings s (extent s) closings
   pub lent : Lent ins w
   pub early : t ≤ limit
 
--- and it is not empty
-pub record Statement (s : List ℕ) (i to : ℕ) (closings ins w : List ℕ) (limit t : ℕ) : Type 0 where
-  pub entered : Entered s i to closings ins w limit t
-  pub inside : i < to
+-- a sound file is run from the record i on: a block, and those that are left behind it
+pub record Started (s : List ℕ) (i : ℕ) (ins w : List ℕ) (limit t : ℕ) : Type 0 where
+  pub form : Form
+  pub sound : SoundFile form s
+  pub lent : Lent ins w
+  pub early : t ≤ limit
+  pub block : Block
+  pub pending : List Block
+  pub stands : Stands form s i (extent s) block
+  pub follows : Pending form s (extent s) (i + size block) pending
+
+-- the records from i up to `to` are run: a block, and those that are left behind it
+pub record Begun (s : List ℕ) (i to : ℕ) (closings ins w : List ℕ) (limit t : ℕ) : Type 0 where
+  pub given : Given s closings ins w limit t
+  pub form : Form
+  pub block : Block
+  pub pending : List Block
+  pub stands : Stands form s i (extent s) block
+  pub follows : Pending form s to (i + size block) pending
+
+-- the record i is reached
+pub record Reached (s : List ℕ) (i : ℕ) (closings ins w : List ℕ) (limit t : ℕ) : Type 0 where
+  pub given : Given s closings ins w limit t
+  pub form : Form
+  pub block : Block
+  pub stands : Stands form s i (extent s) block
+  pub inside : i < extent s
+
+-- the statement at i is run
+pub record Statement (s : List ℕ) (i : ℕ) (closings ins w : List ℕ) (limit t : ℕ) : Type 0 where
+  pub reached : Reached s i closings ins w limit t
   pub goes-on : closesBlock (kindAt s i) ≡ false
 
-pub record BlockRan (s : List ℕ) (i to : ℕ) (σ : Settings) (ins : List ℕ) (limit t : ℕ) (old new : List ℕ) (r : Progress) : Type 0 where
-  pub right : (f : Form) (b : Block) → Stands f s i to b → Ran limit (run σ ins b i) (i + size b) t old new r
+pub record RecordsRan (s : List ℕ) (i to : ℕ) (σ : Settings) (ins : List ℕ) (limit t : ℕ) (old new : List ℕ) (r : Progress) : Type 0 where
+  pub right : (f : Form) (b : Block) (bs : List Block) → Stands f s i (extent s) b → Pending f s to (i + size b) bs → Ran limit (ahead σ ins s i b bs) to t old new r
 
-pub record StatementRan (s : List ℕ) (i to : ℕ) (σ : Settings) (ins : List ℕ) (limit t : ℕ) (old new : List ℕ) (r : Progress) : Type 0 where
-  pub right : (f : Form) (b : Block) → Stands f s i to b → Ran limit (firstRun σ ins b i) (i + firstSize b) t old new r
+-- of the records from `from` up to `to`, run from tick t₀ on, those from `next` on are left at tick t
+pub record Running (s : List ℕ) (from to : ℕ) (closings : List ℕ) (σ : Settings) (ins : List ℕ) (limit t₀ : ℕ) (old w : List ℕ) (t next : ℕ) : Type 0 where
+  pub all : Begun s from to closings ins old limit t₀
+  pub rest : Begun s next to closings ins w limit t
+  pub on : from ≤ next
+  pub same : runs limit (ahead σ ins s from (all .block) (all .pending)) (going t₀ old) ≡ runs limit (ahead σ ins s next (rest .block) (rest .pending)) (going t w)
 
--- n rounds of the body at i are as many as c: none are walked of an empty one
-pub record Rounds (s : List ℕ) (i to c n : ℕ) : Type 0 where
-  pub same : (f : Form) (a : Block) → Stands f s i to a → (n ≡ c) ⊎ ((a ≡ nil) × (n ≡ 0))
+-- the records from i on are run up to where r is
+pub record Moved (s : List ℕ) (i to : ℕ) (closings : List ℕ) (σ : Settings) (ins : List ℕ) (limit t : ℕ) (old new : List ℕ) (r : Progress) : Type 0 where
+  pub halts : halted r ≡ true → RecordsRan s i to σ ins limit t old new r
+  pub goes : halted r ≡ false → Running s i to closings σ ins limit t old new (r .tick) (r .next)
 
--- the record k is one of those up to `to`
-pub record Inner (s : List ℕ) (k to : ℕ) (closings : List ℕ) : Type 0 where
-  pub before : k < to
-  pub inside : 12 * to ≤ length s
-  pub table : Closings s to closings
+-- up to a loop
+pub record StepsRan (s : List ℕ) (i to : ℕ) (closings : List ℕ) (σ : Settings) (ins : List ℕ) (limit t : ℕ) (old new : List ℕ) (r : Progress) : Type 0 where
+  pub moved : Moved s i to closings σ ins limit t old new r
+  pub stops : halted r ≡ false → r .next < to → isLoop (kindAt s (r .next)) ≡ true
 
--- the record behind the ELSE or END that closes the block behind k
-unfoldable pub closed : List ℕ → ℕ → ℕ → ℕ
-closed s k to = closingIn s (to - (k + 1)) (k + 1) 0 + 1
+-- past the record i
+pub record Past (s : List ℕ) (i to : ℕ) (closings : List ℕ) (σ : Settings) (ins : List ℕ) (limit t : ℕ) (old new : List ℕ) (r : Progress) : Type 0 where
+  pub moved : Moved s i to closings σ ins limit t old new r
+  pub on : halted r ≡ false → i < r .next
 
--- the record behind the statement that the ELSE or END at k ends, or goes on with
-abbrev pub passed : List ℕ → ℕ → ℕ → ℕ
-passed s k to = cond (eqb (kindAt s k) ELSE) (closed s k to) (k + 1)
+-- whatever is left behind it
+pub record OneRan (s : List ℕ) (i : ℕ) (closings : List ℕ) (σ : Settings) (ins : List ℕ) (limit t : ℕ) (old new : List ℕ) (r : Progress) : Type 0 where
+  pub past : (to : ℕ) → Begun s i to closings ins old limit t → i < to → Past s i to closings σ ins limit t old new r
 
--- where the side starts that the test of the IF at i chooses
-abbrev pub chosen : List ℕ → ℕ → ℕ → Bool → ℕ
-chosen s i to o = cond o (i + 1) (closed s i to)
+pub record StatementRan (s : List ℕ) (i : ℕ) (σ : Settings) (ins : List ℕ) (limit t : ℕ) (old new : List ℕ) (r : Progress) : Type 0 where
+  pub right : (f : Form) (b : Block) → Stands f s i (extent s) b → Ran limit (firstRun σ ins b i) (i + firstSize b) t old new r
 
--- RECORDS IN THE MIDDLE OF A FILE
-
--- a machine but for its image, which taking up does not write
-abbrev pub bare : Machine → Machine
-bare m = machine (m .tick) (m .cut) (m .overran) (record { variables = m .holds .variables; levels = m .holds .levels; marks = m .holds .marks; image = none })
-
--- a file with no loop is run from one of its records on
-pub record TakesUp (s : List ℕ) (j to : ℕ) (closings ins w : List ℕ) (limit t : ℕ) : Type 0 where
-  pub form : Form
-  pub file : InFile form s 0 to
-  pub ends : size (file .block) ≡ to
-  pub loop-free : LoopFree (file .block)
-  pub few : to ≤ 5461
-  pub table : Closings s to closings
-  pub inside : j ≤ to
-  pub lent : Lent ins w
-  pub early : t ≤ limit
-
-pub record TookUp (s : List ℕ) (j to : ℕ) (σ : Settings) (ins : List ℕ) (limit t : ℕ) (old new : List ℕ) (r : Progress) : Type 0 where
-  pub right : (f : Form) (b : Block) → Stands f s 0 to b → bare (reached r new) ≡ bare (runs limit (run σ ins (rest b j) j) (going t old))
+-- the record k is one of the file's, whose closings are in the table
+pub record Inner (s : List ℕ) (k : ℕ) (closings : List ℕ) : Type 0 where
+  pub before : k < extent s
+  pub few : extent s ≤ 5461
+  pub table : Closings s (extent s) closings

@@ -1,14 +1,17 @@
-// Blocks run up to a limit: a step that does not end by then is not done, and the run is cut there.
+// Records run up to a limit: a step that does not end by then is not done, and the run is cut there. An IF is a jump by the table of closings; a loop
+// runs its body as records of their own.
 ghost use mathlib.Core.Path.{_≡_};
-ghost use Prim.Native.Nat.{_+_, _*_, _≤_, _<_};
-ghost use lib.ListN.{length};
-ghost use Rattle.model.specs.Records.{kindAt, recordAt, IF, WHILE, TIMES};
+ghost use mathlib.Core.Bool.{true, false};
+ghost use Prim.Native.Nat.{_+_, _≤_, _<_};
+ghost use Rattle.model.specs.Records.{kindAt, recordAt, WHILE, TIMES};
+ghost use Rattle.model.specs.Refusals.{fieldsFit};
+ghost use Rattle.model.specs.Runs.{single};
 ghost use Rattle.records.specs.Records.{recordOf};
-ghost use Rattle.machine.specs.Contracts.{Entered, Statement, BlockRan, StatementRan, Rounds, Inner, closed, passed, chosen, TakesUp, TookUp};
-use model::Settings;
-use reading::blocks::closes;
+ghost use Rattle.timing.specs.Times.{stepTicks, settingsIn};
+ghost use Rattle.stepping.specs.Machines.{recordEffect};
+ghost use Rattle.stepping.specs.Steps.{Lent, Ran};
+ghost use Rattle.machine.specs.Contracts.{isLoop, Begun, Reached, Statement, RecordsRan, StepsRan, OneRan, StatementRan, Inner, closing, closed, chosen};
 use records::Record;
-use records::kind_at;
 use records::kinds;
 use records::record_at;
 use stepping::progress::Progress;
@@ -18,94 +21,66 @@ use stepping::progress::going;
 use stepping::progress::run_last_test;
 use stepping::progress::run_step;
 use stepping::steps::test_holds;
-use timing::ticks::step_ticks;
+use timing::ticks::kind_ticks;
+use timing::ticks::settings_in;
 
-// The rounds to walk of a loop whose body starts at i: an empty body needs none.
-fn rounds(s: &[u8], i: usize, to: usize, count: u32) -> u32
-    requires { ⌜ (12 * i + 12 ≤ length (now s)) × (i < to) ⌝ }
-    ensures { λ r. ⌜ Rounds (now (s .entry)) i to count r ⌝ }
+fn loops(kind: u8) -> bool
+    ensures { λ r. ⌜ r ≡ isLoop kind ⌝ }
 {
-    if closes(kind_at(s, i)) {
-        return 0;
-    }
-    count
+    (kind == kinds::WHILE) | (kind == kinds::TIMES)
 }
 
-// The record behind the ELSE or END that closes the block behind k.
-fn behind(s: &[u8], k: usize, to: usize, ends: &[u16]) -> usize
-    requires { ⌜ Inner (now s) k to (now ends) ⌝ }
-    ensures { λ r. ⌜ r ≡ closed (now (s .entry)) k to ⌝ }
+fn wide(x: u16) -> usize
+    ensures { λ r. ⌜ (r ≡ x) × (r < 65536) ⌝ }
 {
-    ends[k + 1] as usize + 1
+    x as usize
 }
 
-// The record behind the statement that the ELSE or END at k ends, or goes on with.
-pub fn past(s: &[u8], k: usize, to: usize, ends: &[u16]) -> usize
-    requires { ⌜ Inner (now s) k to (now ends) ⌝ }
-    ensures { λ r. ⌜ r ≡ passed (now (s .entry)) k to ⌝ }
+// The ELSE or END that closes the block behind k.
+fn last(s: &[u8], k: usize, ends: &[u16]) -> usize
+    requires { ⌜ Inner (now s) k (now ends) ⌝ }
+    ensures { λ r. ⌜ (r ≡ closing (now (s .entry)) k) × (r < 65536) ⌝ }
 {
-    if kind_at(s, k) == kinds::ELSE {
-        return behind(s, k, to, ends);
-    }
-    k + 1
+    wide(ends[k + 1])
+}
+
+// The record behind it.
+fn behind(s: &[u8], k: usize, ends: &[u16]) -> usize
+    requires { ⌜ Inner (now s) k (now ends) ⌝ }
+    ensures { λ r. ⌜ r ≡ closed (now (s .entry)) k ⌝ }
+{
+    last(s, k, ends) + 1
 }
 
 // Where the side starts that the test of the IF at i chooses.
-fn side(s: &[u8], i: usize, to: usize, ends: &[u16], holds: bool) -> usize
-    requires { ⌜ Inner (now s) i to (now ends) ⌝ }
-    ensures { λ r. ⌜ r ≡ chosen (now (s .entry)) i to holds ⌝ }
+fn side(s: &[u8], i: usize, ends: &[u16], holds: bool) -> usize
+    requires { ⌜ Inner (now s) i (now ends) ⌝ }
+    ensures { λ r. ⌜ r ≡ chosen (now (s .entry)) i holds ⌝ }
 {
     if holds {
         return i + 1;
     }
-    behind(s, i, to, ends)
-}
-
-// The IF at i, with the record r.
-fn run_branch(
-    s: &[u8],
-    i: usize,
-    to: usize,
-    ends: &[u16],
-    r: Record,
-    n: Settings,
-    inputs: &[u32],
-    limit: u32,
-    tick: u32,
-    cells: &mut [u32],
-) -> Progress
-    requires { ⌜ (Statement (now s) i to (now ends) (now inputs) (now cells) limit tick) × (recordOf r ≡ recordAt (now s) i) × (kindAt (now s) i ≡ IF) ⌝ }
-    ensures { λ e. ⌜ StatementRan (now (s .entry)) i to n (now (inputs .entry)) limit tick (now (cells .entry)) (now (cells .exit)) e ⌝ }
-{
-    if limit <= tick {
-        return cut_off(tick);
-    }
-    let from = side(s, i, to, ends, test_holds(cells, r));
-    let e = run_block(s, from, to, ends, n, inputs, limit, tick + 1, cells);
-    if ended(e) {
-        return e;
-    }
-    going(e.tick, past(s, e.next, to, ends))
+    behind(s, i, ends)
 }
 
 // The WHILE at i, with the record r.
 fn run_while(
     s: &[u8],
     i: usize,
-    to: usize,
     ends: &[u16],
     r: Record,
-    n: Settings,
+    table: &[u32; 16],
     inputs: &[u32],
     limit: u32,
     tick: u32,
     cells: &mut [u32],
 ) -> Progress
-    requires { ⌜ (Statement (now s) i to (now ends) (now inputs) (now cells) limit tick) × (recordOf r ≡ recordAt (now s) i) × (kindAt (now s) i ≡ WHILE) ⌝ }
-    ensures { λ e. ⌜ StatementRan (now (s .entry)) i to n (now (inputs .entry)) limit tick (now (cells .entry)) (now (cells .exit)) e ⌝ }
+    requires { ⌜ (Statement (now s) i (now ends) (now inputs) (now cells) limit tick) × (recordOf r ≡ recordAt (now s) i) × (kindAt (now s) i ≡ WHILE) ⌝ }
+    ensures { λ e. ⌜ StatementRan (now (s .entry)) i (settingsIn (now (table .entry))) (now (inputs .entry)) limit tick (now (cells .entry)) (now (cells .exit)) e ⌝ }
 {
     let body = i + 1;
-    let next = behind(s, i, to, ends);
+    let to = last(s, i, ends);
+    let next = to + 1;
     let mut at = tick;
     let mut round: u32 = 0;
     while round < r.count {
@@ -116,7 +91,7 @@ fn run_while(
         if !test_holds(cells, r) {
             return going(at, next);
         }
-        let e = run_block(s, body, to, ends, n, inputs, limit, at, cells);
+        let e = run_records(s, body, to, ends, table, inputs, limit, at, cells);
         if ended(e) {
             return e;
         }
@@ -130,25 +105,28 @@ fn run_while(
 fn run_times(
     s: &[u8],
     i: usize,
-    to: usize,
     ends: &[u16],
     r: Record,
-    n: Settings,
+    table: &[u32; 16],
     inputs: &[u32],
     limit: u32,
     tick: u32,
     cells: &mut [u32],
 ) -> Progress
-    requires { ⌜ (Statement (now s) i to (now ends) (now inputs) (now cells) limit tick) × (recordOf r ≡ recordAt (now s) i) × (kindAt (now s) i ≡ TIMES) ⌝ }
-    ensures { λ e. ⌜ StatementRan (now (s .entry)) i to n (now (inputs .entry)) limit tick (now (cells .entry)) (now (cells .exit)) e ⌝ }
+    requires { ⌜ (Statement (now s) i (now ends) (now inputs) (now cells) limit tick) × (recordOf r ≡ recordAt (now s) i) × (kindAt (now s) i ≡ TIMES) ⌝ }
+    ensures { λ e. ⌜ StatementRan (now (s .entry)) i (settingsIn (now (table .entry))) (now (inputs .entry)) limit tick (now (cells .entry)) (now (cells .exit)) e ⌝ }
 {
     let body = i + 1;
-    let next = behind(s, i, to, ends);
-    let last = rounds(s, body, to, r.count);
+    let to = last(s, i, ends);
+    let next = to + 1;
+    // No rounds of an empty body are walked.
+    if to == body {
+        return run_last_test(i, r, next, limit, tick, cells);
+    }
     let mut at = tick;
     let mut round: u32 = 0;
-    while round < last {
-        let e = run_block(s, body, to, ends, n, inputs, limit, at, cells);
+    while round < r.count {
+        let e = run_records(s, body, to, ends, table, inputs, limit, at, cells);
         if ended(e) {
             return e;
         }
@@ -158,56 +136,123 @@ fn run_times(
     run_last_test(i, r, next, limit, at, cells)
 }
 
-// The statement at i.
-fn run_statement(
+// The loop at i.
+fn run_loop(
     s: &[u8],
     i: usize,
-    to: usize,
     ends: &[u16],
-    n: Settings,
+    table: &[u32; 16],
     inputs: &[u32],
     limit: u32,
     tick: u32,
     cells: &mut [u32],
 ) -> Progress
-    requires { ⌜ Statement (now s) i to (now ends) (now inputs) (now cells) limit tick ⌝ }
-    ensures { λ e. ⌜ StatementRan (now (s .entry)) i to n (now (inputs .entry)) limit tick (now (cells .entry)) (now (cells .exit)) e ⌝ }
+    requires { ⌜ (Statement (now s) i (now ends) (now inputs) (now cells) limit tick) × (isLoop (kindAt (now s) i) ≡ true) ⌝ }
+    ensures { λ e. ⌜ StatementRan (now (s .entry)) i (settingsIn (now (table .entry))) (now (inputs .entry)) limit tick (now (cells .entry)) (now (cells .exit)) e ⌝ }
 {
     let r = record_at(s, i);
-    if r.kind == kinds::IF {
-        return run_branch(s, i, to, ends, r, n, inputs, limit, tick, cells);
-    }
     if r.kind == kinds::WHILE {
-        return run_while(s, i, to, ends, r, n, inputs, limit, tick, cells);
+        return run_while(s, i, ends, r, table, inputs, limit, tick, cells);
     }
-    if r.kind == kinds::TIMES {
-        return run_times(s, i, to, ends, r, n, inputs, limit, tick, cells);
-    }
-    run_step(i, r, step_ticks(n, r), inputs, limit, tick, cells)
+    run_times(s, i, ends, r, table, inputs, limit, tick, cells)
 }
 
-// The block at `from`, up to the record that closes it.
-pub fn run_block(
+// The record r at i, which is of that kind and opens and closes no block.
+fn run_kind(
+    kind: u8,
+    i: usize,
+    r: Record,
+    table: &[u32; 16],
+    inputs: &[u32],
+    limit: u32,
+    tick: u32,
+    cells: &mut [u32],
+) -> Progress
+    requires { ⌜ (Lent (now inputs) (now cells)) × (fieldsFit (recordOf r) ≡ true) × (i < 5461) × (tick ≤ limit) × (r .kind ≡ kind) ⌝ }
+    ensures { λ e. ⌜ Ran limit (single (stepTicks (settingsIn (now (table .entry))) (recordOf r)) i (recordEffect (now (inputs .entry)) (recordOf r)))
+        (i + 1) tick (now (cells .entry)) (now (cells .exit)) e ⌝ }
+{
+    let lasts = kind_ticks(kind, settings_in(table), r);
+    run_step(kind, i, r, lasts, inputs, limit, tick, cells)
+}
+
+// The same with a copy of the code for each of three kinds, so that one jump finds both the ticks and what is done.
+fn run_plain(
+    i: usize,
+    r: Record,
+    table: &[u32; 16],
+    inputs: &[u32],
+    limit: u32,
+    tick: u32,
+    cells: &mut [u32],
+) -> Progress
+    requires { ⌜ (Lent (now inputs) (now cells)) × (fieldsFit (recordOf r) ≡ true) × (i < 5461) × (tick ≤ limit) ⌝ }
+    ensures { λ e. ⌜ Ran limit (single (stepTicks (settingsIn (now (table .entry))) (recordOf r)) i (recordEffect (now (inputs .entry)) (recordOf r)))
+        (i + 1) tick (now (cells .entry)) (now (cells .exit)) e ⌝ }
+{
+    let kind = r.kind;
+    match kind {
+        kinds::SET => run_kind(kinds::SET, i, r, table, inputs, limit, tick, cells),
+        kinds::READ => run_kind(kinds::READ, i, r, table, inputs, limit, tick, cells),
+        kinds::WRITE => run_kind(kinds::WRITE, i, r, table, inputs, limit, tick, cells),
+        _ => run_kind(kind, i, r, table, inputs, limit, tick, cells),
+    }
+}
+
+// The record r at i, which is no loop: an END goes on, an ELSE and an IF are jumps, and any other is a step.
+fn run_one(
+    s: &[u8],
+    i: usize,
+    ends: &[u16],
+    r: Record,
+    table: &[u32; 16],
+    inputs: &[u32],
+    limit: u32,
+    tick: u32,
+    cells: &mut [u32],
+) -> Progress
+    requires { ⌜ (Reached (now s) i (now ends) (now inputs) (now cells) limit tick) × (recordOf r ≡ recordAt (now s) i) × (isLoop (r .kind) ≡ false) ⌝ }
+    ensures { λ e. ⌜ OneRan (now (s .entry)) i (now (ends .entry)) (settingsIn (now (table .entry))) (now (inputs .entry)) limit tick (now (cells .entry)) (now (cells .exit)) e ⌝ }
+{
+    if r.kind == kinds::END {
+        return going(tick, i + 1);
+    }
+    if r.kind == kinds::ELSE {
+        return going(tick, behind(s, i, ends));
+    }
+    if r.kind == kinds::IF {
+        if limit <= tick {
+            return cut_off(tick);
+        }
+        let holds = test_holds(cells, r);
+        return going(tick + 1, side(s, i, ends, holds));
+    }
+    run_plain(i, r, table, inputs, limit, tick, cells)
+}
+
+// The records from `from` on, up to a loop, or up to `to`.
+fn run_steps(
     s: &[u8],
     from: usize,
     to: usize,
     ends: &[u16],
-    n: Settings,
+    table: &[u32; 16],
     inputs: &[u32],
     limit: u32,
     tick: u32,
     cells: &mut [u32],
 ) -> Progress
-    requires { ⌜ Entered (now s) from to (now ends) (now inputs) (now cells) limit tick ⌝ }
-    ensures { λ e. ⌜ BlockRan (now (s .entry)) from to n (now (inputs .entry)) limit tick (now (cells .entry)) (now (cells .exit)) e ⌝ }
+    requires { ⌜ Begun (now s) from to (now ends) (now inputs) (now cells) limit tick ⌝ }
+    ensures { λ e. ⌜ StepsRan (now (s .entry)) from to (now (ends .entry)) (settingsIn (now (table .entry))) (now (inputs .entry)) limit tick (now (cells .entry)) (now (cells .exit)) e ⌝ }
 {
     let mut at = tick;
     let mut next = from;
     while next < to {
-        if closes(kind_at(s, next)) {
+        let r = record_at(s, next);
+        if loops(r.kind) {
             return going(at, next);
         }
-        let e = run_statement(s, next, to, ends, n, inputs, limit, at, cells);
+        let e = run_one(s, next, ends, r, table, inputs, limit, at, cells);
         if ended(e) {
             return e;
         }
@@ -217,33 +262,39 @@ pub fn run_block(
     going(at, next)
 }
 
-// The records from `from` on: what is left of the block that it stands in, then what follows the IF around that, up to the last record.
-pub fn run_from(
+// The records from `from` on, up to `to`: the end of the file, or the END of the loop around them.
+pub fn run_records(
     s: &[u8],
     from: usize,
     to: usize,
     ends: &[u16],
-    n: Settings,
+    table: &[u32; 16],
     inputs: &[u32],
     limit: u32,
     tick: u32,
     cells: &mut [u32],
 ) -> Progress
-    requires { ⌜ TakesUp (now s) from to (now ends) (now inputs) (now cells) limit tick ⌝ }
-    ensures { λ e. ⌜ TookUp (now (s .entry)) from to n (now (inputs .entry)) limit tick (now (cells .entry)) (now (cells .exit)) e ⌝ }
+    requires { ⌜ Begun (now s) from to (now ends) (now inputs) (now cells) limit tick ⌝ }
+    ensures { λ e. ⌜ RecordsRan (now (s .entry)) from to (settingsIn (now (table .entry))) (now (inputs .entry)) limit tick (now (cells .entry)) (now (cells .exit)) e ⌝ }
 {
     let mut at = tick;
     let mut next = from;
     while next < to {
-        let e = run_block(s, next, to, ends, n, inputs, limit, at, cells);
+        let e = run_steps(s, next, to, ends, table, inputs, limit, at, cells);
         if ended(e) {
             return e;
         }
-        if to <= e.next {
+        at = e.tick;
+        next = e.next;
+        if to <= next {
+            return going(at, next);
+        }
+        let e = run_loop(s, next, ends, table, inputs, limit, at, cells);
+        if ended(e) {
             return e;
         }
         at = e.tick;
-        next = past(s, e.next, to, ends);
+        next = e.next;
     }
     going(at, next)
 }

@@ -1,21 +1,19 @@
 // Runs of files of all three forms: whole, up to a tick, and taken up.
 mod blocks;
 mod ready;
+mod tables;
 
 ghost use mathlib.Core.Path.{_≡_};
 ghost use lib.ListN.{length, replicate};
 ghost use Rattle.model.specs.Answers.{ran, stopped, resumed};
 ghost use Rattle.model.specs.Replies.{runReply, runBuffers, stopReply, stopBuffers, stopImage, resumeReply, resumeBuffers, restartReply, restartBuffers, buffersOf, loan};
 ghost use Rattle.machine.specs.Calls.{Ready, RunWhole, Stops, Resumes};
-use blocks::run_block;
-use blocks::run_from;
 use model::Form;
 use model::Ran;
 use model::Refusal;
 use model::Resumed;
 use model::Settings;
 use model::Stopped;
-use reading::closings::fill;
 use ready::bad_buffers;
 use ready::ready;
 use records::settings::Decoded;
@@ -28,6 +26,7 @@ use stepping::buffers::store_marks;
 use stepping::images::after_save;
 use stepping::images::store_image;
 use stepping::progress::Progress;
+use tables::run_from;
 
 // All levels and marks set to 0.
 fn clear(levels: &mut [u32], marks: &mut [u8])
@@ -55,10 +54,7 @@ fn run_whole(
     let mut cells: [u32; 50] = [0; 50];
     load_variables(&mut cells, variables);
     load_outputs(&mut cells, levels, marks);
-    let to = file.len() / 12;
-    let mut ends: [u16; 5462] = [0; 5462];
-    fill(file, to, &mut ends);
-    let e = run_block(file, 0, to, &ends, n, inputs, n.period, 0, &mut cells);
+    let e = run_from(file, 0, n, inputs, n.period, 0, &mut cells);
     store(&cells, variables, levels, marks);
     e
 }
@@ -114,10 +110,7 @@ fn run_until_ready(
 {
     let mut cells: [u32; 50] = [0; 50];
     load_variables(&mut cells, variables);
-    let to = file.len() / 12;
-    let mut ends: [u16; 5462] = [0; 5462];
-    fill(file, to, &mut ends);
-    let e = run_block(file, 0, to, &ends, n, inputs, stop, 0, &mut cells);
+    let e = run_from(file, 0, n, inputs, stop, 0, &mut cells);
     if !e.cut {
         return Stopped::Refused(Refusal::LateStop);
     }
@@ -186,11 +179,8 @@ fn resume_ready(
     let mut cells: [u32; 50] = [0; 50];
     load_variables(&mut cells, &words[2..]);
     load_outputs(&mut cells, levels, marks);
-    let to = file.len() / 12;
-    let mut ends: [u16; 5462] = [0; 5462];
-    fill(file, to, &mut ends);
     let limit = tick + n.period;
-    let last = run_from(file, index, to, &ends, n, inputs, limit, tick, &mut cells);
+    let last = run_from(file, index, n, inputs, limit, tick, &mut cells);
     store(&cells, variables, levels, marks);
     Resumed::Ended {
         tick: last.tick,

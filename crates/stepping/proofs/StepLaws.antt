@@ -1,25 +1,58 @@
 -- Tests, operations, fields that fit, and what a record does.
-use Prim.Native.Nat.{ℕ, _+_, _*_, _%_, _^_, _≤_, _<_}
+use Prim.Native.Nat.{ℕ, zero, suc, _+_, _*_, _/_, _%_, _^_, _≤_, _<_}
 use native.Mathlib.Omega.{arith}
 use mathlib.Core.Path.{_≡_, refl, sym, subst}
-use mathlib.Core.Bool.{Bool, true, false, cond, _&&_}
+use mathlib.Core.Bool.{Bool, true, false, cond, not, _&&_}
 use mathlib.Core.List.{List, [], _∷_}
 use lib.Dec.{eqb, leb, ltb}
 use lib.ListN.{getD}
-use borrow.Author.Tests.{ltb-true, le-leb, ne-eqb}
+use native.Mathlib.Nat.{lt-of-not-le}
+use borrow.Author.Tests.{ltb-true, ltb-false, leb-true, eqb-true, eqb-false, le-leb, lt-leb, le-ltb, lt-ltb, ne-eqb}
 use Rattle.model.specs.Records.{Rec, rec, SET, READ, WRITE, CHECK, BEAT, SAVE}
 use Rattle.model.specs.Refusals.{variable, port, unused, opFits, setFits, testFits, fieldsFit}
 use Rattle.model.specs.Runs.{Effect, nothing, assigns, outputs, beats, saves, overruns, isOverrun, compares, holds, result}
 use Rattle.model.proofs.Shapes.{and-left, and-right, zeros}
 use Rattle.reading.specs.Ranges.{testOf}
 use Rattle.stepping.specs.Machines.{held, affect, setResult, recordEffect}
-use Rattle.stepping.specs.Steps.{Acts}
+use Rattle.stepping.specs.Steps.{ordered, Acts}
 
 -- TESTS AND OPERATIONS
 
--- a relation above 4 is ≥
-pub compares-last : (o a b : ℕ) → (o ≡ 0 → ⊥) → (o ≡ 1 → ⊥) → (o ≡ 2 → ⊥) → (o ≡ 3 → ⊥) → (o ≡ 4 → ⊥) → leb b a ≡ compares o a b
-compares-last o a b n0 n1 n2 n3 n4 = rw (ne-eqb o 0 n0, ne-eqb o 1 n1, ne-eqb o 2 n2, ne-eqb o 3 n3, ne-eqb o 4 n4)
+-- what holds of six numbers holds of every relation
+of-relations : (P : ℕ → Type 0) → P 0 → P 1 → P 2 → P 3 → P 4 → P 5 → (o : ℕ) → o < 6 → P o
+of-relations P a b c d e f zero h = a
+of-relations P a b c d e f (suc zero) h = b
+of-relations P a b c d e f (suc (suc zero)) h = c
+of-relations P a b c d e f (suc (suc (suc zero))) h = d
+of-relations P a b c d e f (suc (suc (suc (suc zero)))) h = e
+of-relations P a b c d e f (suc (suc (suc (suc (suc zero))))) h = f
+of-relations P a b c d e f (suc (suc (suc (suc (suc (suc o)))))) h = absurd (omega arith)
+
+-- the bit of a relation and an order
+abbrev bit : ℕ → ℕ → Bool
+bit o k = eqb (214634 / 2 ^ (3 * o + k) % 2) 1
+
+-- compares once the order is known
+abbrev answer : ℕ → (equal less no-more more no-less : Bool) → Bool
+answer o equal less no-more more no-less =
+    cond (eqb o 0) equal (cond (eqb o 1) (not equal) (cond (eqb o 2) less (cond (eqb o 3) no-more (cond (eqb o 4) more no-less))))
+
+pub compares-bit : (o a b : ℕ) → o < 6 → eqb (214634 / 2 ^ (3 * o + ordered a b) % 2) 1 ≡ compares o a b
+compares-bit o a b h = go (ltb a b) refl (eqb a b) refl
+  where
+    go : (l : Bool) → ltb a b ≡ l → (e : Bool) → eqb a b ≡ e → bit o (cond (ltb a b) 0 (cond (eqb a b) 1 2)) ≡ compares o a b
+    go true x e y =
+        let l = ltb-true a b x in
+        rw (x, ne-eqb a b (λ z. omega arith), le-leb a b (omega arith), le-ltb b a (omega arith), lt-leb b a l)
+        (of-relations (λ k. bit k 0 ≡ answer k false true true false false) refl refl refl refl refl refl o h)
+    go false x true y =
+        let z = eqb-true a b y in
+        rw (x, y, le-leb a b (omega arith), le-ltb b a (omega arith), le-leb b a (omega arith))
+        (of-relations (λ k. bit k 1 ≡ answer k true false true false true) refl refl refl refl refl refl o h)
+    go false x false y =
+        let l : b < a = lt-of-not-le (λ m. eqb-false a b y (omega (arith, ltb-false a b x))) in
+        rw (x, y, lt-leb a b l, lt-ltb b a l, le-leb b a (omega arith))
+        (of-relations (λ k. bit k 2 ≡ answer k false false false true true) refl refl refl refl refl refl o h)
 
 pub result-copy : (o a b : ℕ) → o ≡ 0 → b ≡ result o a b
 unfolding result
@@ -45,6 +78,17 @@ op-right n o x h g = ltb-true x 16 (and-right (leb o (16 + n)) (ltb x 16) (rw (l
 
 pub test-left : (r : Rec) → testFits r ≡ true → r .left < 16
 test-left r h = ltb-true (r .left) 16 (and-right (opFits 5 (r .op) (r .value) && unused (r .target ∷ [])) (variable (r .left)) h)
+
+pub test-relation : (r : Rec) → testFits r ≡ true → r .op % 16 < 6
+test-relation r h =
+    go (leb 16 (r .op)) refl
+    (and-left (opFits 5 (r .op) (r .value)) (unused (r .target ∷ [])) (and-left (opFits 5 (r .op) (r .value) && unused (r .target ∷ [])) (variable (r .left)) h))
+  where
+    go : (o : Bool) → leb 16 (r .op) ≡ o → cond o (leb (r .op) (16 + 5) && variable (r .value)) (leb (r .op) 5) ≡ true → r .op % 16 < 6
+    go true e f =
+        let l = leb-true (r .op) 21 (and-left (leb (r .op) 21) (variable (r .value)) f) in
+        omega (arith, leb-true 16 (r .op) e)
+    go false e f = omega (arith, leb-true (r .op) 5 f)
 
 pub test-right : (r : Rec) → testFits r ≡ true → 16 ≤ r .op → r .value < 16
 test-right r h =

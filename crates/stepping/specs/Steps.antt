@@ -1,13 +1,18 @@
 -- What the functions that do one step of a run answer.
 use Prim.Native.Nat.{ℕ}
 use mathlib.Core.Path.{_≡_}
-use mathlib.Core.Bool.{Bool, false, _||_}
+use mathlib.Core.Bool.{Bool, false, cond, _||_}
 use mathlib.Core.List.{List}
+use lib.Dec.{eqb, ltb}
 use lib.ListN.{length}
 use Rattle.model.specs.Records.{Rec}
 use Rattle.model.specs.Runs.{isOverrun, Run}
 use Rattle.stepping.specs.declared.progress.Progress.{Progress}
 use Rattle.stepping.specs.Machines.{held, affect, Machine, machine, runs, recordEffect}
+
+-- less, equal or more
+abbrev pub ordered : ℕ → ℕ → ℕ
+ordered a b = cond (ltb a b) 0 (cond (eqb a b) 1 2)
 
 -- what a run is lent: inputs and cells
 pub record Lent (ins w : List ℕ) : Type 0 where

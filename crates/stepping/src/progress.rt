@@ -44,14 +44,19 @@ pub fn cut_off(tick: u32) -> Progress
     }
 }
 
+// Whether it was cut or overran, asked one after the other: where a caller knows both, the compiler then asks neither.
 pub fn ended(e: Progress) -> bool
     ensures { λ r. ⌜ r ≡ halted e ⌝ }
 {
-    e.cut | e.overran
+    if e.cut {
+        return true;
+    }
+    e.overran
 }
 
-// The record at i, which opens and closes no block.
+// The record at i, which is of that kind and opens and closes no block.
 pub fn run_step(
+    kind: u8,
     i: usize,
     r: Record,
     lasts: u32,
@@ -60,7 +65,7 @@ pub fn run_step(
     tick: u32,
     cells: &mut [u32],
 ) -> Progress
-    requires { ⌜ (Lent (now inputs) (now cells)) × (fieldsFit (recordOf r) ≡ true) × (i < 5461) × (tick ≤ limit) ⌝ }
+    requires { ⌜ (Lent (now inputs) (now cells)) × (fieldsFit (recordOf r) ≡ true) × (i < 5461) × (tick ≤ limit) × (r .kind ≡ kind) ⌝ }
     ensures { λ e. ⌜ Ran limit (single lasts i (recordEffect (now (inputs .entry)) (recordOf r))) (i + 1) tick (now (cells .entry)) (now (cells .exit)) e ⌝ }
 {
     if limit - tick < lasts {
@@ -68,7 +73,7 @@ pub fn run_step(
     }
     let next = i + 1;
     let end = tick + lasts;
-    let overran = act(r, next, end, inputs, cells);
+    let overran = act(kind, r, next, end, inputs, cells);
     Progress {
         tick: end,
         next,

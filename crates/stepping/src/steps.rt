@@ -8,7 +8,7 @@ ghost use Rattle.model.specs.Runs.{rightValue, compares, holds, result};
 ghost use Rattle.records.specs.Records.{recordOf};
 ghost use Rattle.reading.specs.Ranges.{testOf};
 ghost use Rattle.stepping.specs.Machines.{held, setResult};
-ghost use Rattle.stepping.specs.Steps.{Lent, Acts};
+ghost use Rattle.stepping.specs.Steps.{ordered, Lent, Acts};
 use crate::cells::assign;
 use crate::cells::output;
 use crate::cells::save;
@@ -30,17 +30,28 @@ fn right_value(cells: &[u32], op: u8, value: u32) -> u32
     value
 }
 
+// How a compares with b: 0 for less, 1 for equal, 2 for more.
+fn order(a: u32, b: u32) -> u32
+    ensures { λ r. ⌜ (r ≡ ordered a b) × (r ≤ 2) ⌝ }
+{
+    if a < b {
+        return 0;
+    }
+    if a == b {
+        return 1;
+    }
+    2
+}
+
+// Three bits for each relation, from the lowest on: whether it holds of less, of equal and of more. A jump by the relation costs more.
+const HOLDING: u32 = 0b110_100_011_001_101_010;
+
 fn compare(relation: u8, a: u32, b: u32) -> bool
+    requires { ⌜ relation < 6 ⌝ }
     ensures { λ r. ⌜ r ≡ compares relation a b ⌝ }
 {
-    match relation {
-        0 => a == b,
-        1 => a != b,
-        2 => a < b,
-        3 => a <= b,
-        4 => b < a,
-        _ => b <= a,
-    }
+    let place = 3 * relation as u32 + order(a, b);
+    (HOLDING >> place) % 2 == 1
 }
 
 // Whether the test in a record holds.
@@ -65,7 +76,7 @@ fn compute(op: u8, a: u32, b: u32) -> u32
 }
 
 // The result of a SET's operation.
-fn set_value(cells: &[u32], r: Record) -> u32
+pub fn set_value(cells: &[u32], r: Record) -> u32
     requires { ⌜ (length (now cells) ≡ 50) × (setFits (recordOf r) ≡ true) ⌝ }
     ensures { λ x. ⌜ x ≡ setResult (recordOf r) (held (now (cells .entry)) .variables) ⌝ }
 {
@@ -74,14 +85,13 @@ fn set_value(cells: &[u32], r: Record) -> u32
     compute(r.op % 16, a, b)
 }
 
-// What a record does at the tick where it ends, before the record `next`; whether it overran.
-pub fn act(r: Record, next: usize, tick: u32, inputs: &[u32], cells: &mut [u32]) -> bool
-    requires { ⌜ (Lent (now inputs) (now cells)) × (fieldsFit (recordOf r) ≡ true) × (1 ≤ next) × (next ≤ 5461) ⌝ }
+// What a record of that kind does at the tick where it ends, before the record `next`; whether it overran.
+pub fn act(kind: u8, r: Record, next: usize, tick: u32, inputs: &[u32], cells: &mut [u32]) -> bool
+    requires { ⌜ (Lent (now inputs) (now cells)) × (fieldsFit (recordOf r) ≡ true) × (1 ≤ next) × (next ≤ 5461) × (r .kind ≡ kind) ⌝ }
     ensures { λ o. ⌜ Acts (now (inputs .entry)) (recordOf r) next tick (now (cells .entry)) (now (cells .exit)) o ⌝ }
 {
     let target = r.target as usize;
     let left = r.left as usize;
-    let kind = r.kind;
     match kind {
         kinds::SET => {
             let x = set_value(cells, r);

@@ -5,11 +5,6 @@ use Rattle.machine.specs.Calls.{Readies}
 use Rattle.machine.proofs.Replies.{is-ready, restart-refused, restart-finished}
 use Rattle.machine.proofs.restart.Statement.{statement}
 use Rattle.machine.proofs.restart.Tie as tie
-use Rattle.machine.proofs.restart.Reads as reads
-use Rattle.machine.proofs.restart.Lts as lts
-use Rattle.machine.proofs.ready.bad_buffers.Reads as bad-buffers-reads
-use Rattle.machine.proofs.ready.ready.Reads as ready-reads
-use Rattle.machine.proofs.run_whole.Reads as run-whole-reads
 
 bad-buffers-requires : tie.Need-bad-buffers-requires
 bad-buffers-requires c κs = search needs

@@ -4,11 +4,6 @@ use Rattle.machine.specs.Calls.{Readies}
 use Rattle.machine.proofs.Replies.{is-ready, image-lent, resume-refused, resume-finished}
 use Rattle.machine.proofs.resume.Statement.{statement}
 use Rattle.machine.proofs.resume.Tie as tie
-use Rattle.machine.proofs.resume.Reads as reads
-use Rattle.machine.proofs.resume.Lts as lts
-use Rattle.machine.proofs.ready.bad_buffers.Reads as bad-buffers-reads
-use Rattle.machine.proofs.ready.ready.Reads as ready-reads
-use Rattle.machine.proofs.resume_ready.Reads as resume-ready-reads
 
 bad-buffers-requires : tie.Need-bad-buffers-requires
 bad-buffers-requires c κs = search needs

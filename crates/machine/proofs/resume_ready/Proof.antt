@@ -1,10 +1,8 @@
-use Prim.Native.Nat.{ℕ}
 use native.Mathlib.Omega.{arith}
 use mathlib.Core.Path.{ap, _∙_}
-use lib.ListN.{length-replicate}
 use borrow.Author.Needs.{needs}
 use Rattle.stepping.specs.Buffers.{withOutputs}
-use Rattle.machine.proofs.Whole.{lent, index-small, whole-fills, words-stray, words-late, words-take, words-bytes, words-ran}
+use Rattle.machine.proofs.Whole.{lent, index-small, words-stray, words-late, words-started, words-bytes, words-ran}
 use Rattle.machine.proofs.resume_ready.Statement.{statement}
 use Rattle.machine.proofs.resume_ready.Tie as tie
 
@@ -20,13 +18,8 @@ array-read-index c = search needs
 cast-index : tie.Need-cast-index
 cast-index c =
     let w = c .before .before .before .before .before .before .before .before .before in
-    record {
-      fits = omega (
-        arith,
-        index-small (c .before .load-words .last .1 .0) (w .args .image .now) (c .before .load-words .ensures)
-            (λ i. c .before .before .before .shared-slice-known3 .given i .fits),
-      );
-    }
+    let words = c .before .load-words .last .1 .0 in
+    record { fits = omega (arith, index-small words (w .args .image .now) (c .before .load-words .ensures) (λ i. (c .before .before .before .shared-slice-known3) .given i .fits)) }
 
 array-read-tick : tie.Need-array-read-tick
 array-read-tick c = search needs
@@ -37,13 +30,15 @@ after-save-requires c κs = search needs
 returns : tie.Need-returns
 returns c =
     let w = c .before .before .before .before .before .before .before .before .before .before .before in
-    words-stray (w .pre .0) (c .before .before .before .load-words .last .1 .0) (c .before .after-save .ensures) (c .before .before .before .load-words .ensures) (c .if1 .taken)
+    let words = c .before .before .before .load-words .last .1 .0 in
+    words-stray (w .pre .0) words (c .before .after-save .ensures) (c .before .before .before .load-words .ensures) (c .if1 .taken)
 
 returns-2 : tie.Need-returns-2
 returns-2 c =
     let w = c .before .before .before .before .before in
     let v = w .before .before .before .before .before .before .before .before in
-    words-late (v .pre .0) (w .load-words .last .1 .0) (w .load-words .ensures) (c .if2 .taken)
+    let words = w .load-words .last .1 .0 in
+    words-late (v .pre .0) words (w .load-words .ensures) (c .if2 .taken)
 
 slice-aggregate-load-variables : tie.Need-slice-aggregate-load-variables
 slice-aggregate-load-variables c = search needs
@@ -68,34 +63,22 @@ load-outputs-requires c κs =
     let w = c .before .before .before .before .before .before .before .before .before .before .before .before .before .before .before .before .before .before .before .before .before in
     (search needs, lent (w .pre .0) .levels, lent (w .pre .0) .marks)
 
-slice-aggregate-fill : tie.Need-slice-aggregate-fill
-slice-aggregate-fill c = search needs
-
-fill-requires : tie.Need-fill-requires
-fill-requires c κs =
-    let v = c .before .before .before .before .before .before .before .before .before .before .before .before in
-    let w = v .before .before .before .before .before .before .before .before .before .before .before .before in
-    whole-fills (w .pre .0) (length-replicate {A = ℕ} 5462 0)
-
 add-limit : tie.Need-add-limit
 add-limit c =
-    let w = c .before .before .before .before .before .before .before .before .before .before .before .before .before .before in
+    let w = c .before .before .before .before .before .before .before .before .before .before .before in
     let v = w .before .before .before .before .before .before .before .before .before .before .before .before .before in
     omega (arith, v .pre .0 .short, w .if2 .left)
 
 slice-aggregate-run-from : tie.Need-slice-aggregate-run-from
 slice-aggregate-run-from c = search needs
 
-slice-aggregate-run-from-2 : tie.Need-slice-aggregate-run-from-2
-slice-aggregate-run-from-2 c = search needs
-
 run-from-requires : tie.Need-run-from-requires
 run-from-requires c κs =
-    let w = c .before .before .before .before in
-    let v = w .before .before .before .before .before .before .before .before .before .before .before .before in
-    let u = v .before .before .before .before .before in
-    let q = u .before .before .before .before .before .before .before .before in
-    words-take (q .pre .0) (u .load-words .last .1 .0) (v .before .before .before .after-save .ensures) (v .before .before .if1 .left) (v .if2 .left) (w .fill .ensures) (search needs)
+    let w = c .before .before .before .before .before .before .before .before .before .before .before .before in
+    let v = w .before .before .before .before .before in
+    let u = v .before .before .before .before .before .before .before .before in
+    let words = v .load-words .last .1 .0 in
+    words-started (u .pre .0) words (w .before .before .before .after-save .ensures) (w .before .before .if1 .left) (w .if2 .left) (search needs)
 
 slice-aggregate-store : tie.Need-slice-aggregate-store
 slice-aggregate-store c = search needs
@@ -103,19 +86,20 @@ slice-aggregate-store c = search needs
 store-requires : tie.Need-store-requires
 store-requires c κs =
     let w = c .before .before .before .before .before in
-    let v = w .before .before .before .before .before .before .before .before in
+    let v = w .before .before .before .before in
     let u = v .before .before .before .before .before in
     let q = u .before .before .before .before in
     let p = q .before .before .before .before .before in
-    let o = p .before .before .before .before .before .before .before .before in (
+    let o = p .before .before .before .before .before .before .before .before in
+    let words = p .load-words .last .1 .0 in
+    let k = v .load-outputs .ensures ∙ ap (withOutputs _ _) (u .load-variables .ensures) in (
       record {
-        cells = w .run-from .kept .1 .1 .1 .1 .1 .1 .1 .1 .0 ∙ v .load-outputs .kept .0 ∙ u .load-variables .kept .0;
+        cells = w .run-from .kept .1 .1 .1 .1 .1 .1 .0 ∙ v .load-outputs .kept .0 ∙ u .load-variables .kept .0;
         variables = lent (o .pre .0) .variables;
         levels = lent (o .pre .0) .levels;
         marks = lent (o .pre .0) .marks;
       },
-      words-bytes (o .pre .0) (p .load-words .last .1 .0) (q .before .before .before .after-save .ensures) (q .before .before .if1 .left)
-          (q .if2 .left) (w .run-from .ensures) (v .load-outputs .ensures ∙ ap (withOutputs _ _) (u .load-variables .ensures)) (λ i. p .before .before .before .slice-known3 .given i .fits),
+      words-bytes (o .pre .0) words (q .before .before .before .after-save .ensures) (q .before .before .if1 .left) (q .if2 .left) (w .run-from .ensures) k (λ i. (p .before .before .before .slice-known3) .given i .fits),
     )
 
 same-length : tie.Need-same-length
@@ -131,13 +115,14 @@ returns-3 : tie.Need-returns-3
 returns-3 c =
     let w = c .before .before .before .before .before .before in
     let v = w .before .before .before .before .before .before in
-    let u = v .before .before .before .before .before .before .before .before in
+    let u = v .before .before .before .before in
     let q = u .before .before .before .before .before in
     let p = q .before .before .before .before in
     let o = p .before .before .before .before .before in
-    let n = o .before .before .before .before .before .before .before .before in
-    words-ran (n .pre .0) (o .load-words .last .1 .0) (p .before .before .before .after-save .ensures) (p .before .before .if1 .left) (p .if2 .left) (v .run-from .ensures)
-    (u .load-outputs .ensures ∙ ap (withOutputs _ _) (q .load-variables .ensures)) (o .load-words .ensures) (w .store .ensures)
+    let y = o .before .before .before .before .before .before .before .before in
+    let words = o .load-words .last .1 .0 in
+    let k = u .load-outputs .ensures ∙ ap (withOutputs _ _) (q .load-variables .ensures) in
+    words-ran (y .pre .0) words (p .before .before .before .after-save .ensures) (p .before .before .if1 .left) (p .if2 .left) (v .run-from .ensures) k (o .load-words .ensures) (w .store .ensures)
 
 pub resume-ready-spec : {M : Type 1} → statement M
 resume-ready-spec =
@@ -158,11 +143,8 @@ resume-ready-spec =
     load-variables-requires
     slice-aggregate-load-outputs
     load-outputs-requires
-    slice-aggregate-fill
-    fill-requires
     add-limit
     slice-aggregate-run-from
-    slice-aggregate-run-from-2
     run-from-requires
     slice-aggregate-store
     store-requires

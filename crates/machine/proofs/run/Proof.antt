@@ -6,12 +6,6 @@ use Rattle.machine.proofs.Whole.{lent, cleared-ready, cleared-run}
 use Rattle.machine.proofs.Replies.{is-ready, run-refused, run-finished}
 use Rattle.machine.proofs.run.Statement.{statement}
 use Rattle.machine.proofs.run.Tie as tie
-use Rattle.machine.proofs.run.Reads as reads
-use Rattle.machine.proofs.run.Lts as lts
-use Rattle.machine.proofs.clear.Reads as clear-reads
-use Rattle.machine.proofs.ready.bad_buffers.Reads as bad-buffers-reads
-use Rattle.machine.proofs.ready.ready.Reads as ready-reads
-use Rattle.machine.proofs.run_whole.Reads as run-whole-reads
 
 bad-buffers-requires : tie.Need-bad-buffers-requires
 bad-buffers-requires c κs = search needs

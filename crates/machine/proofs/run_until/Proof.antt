@@ -4,11 +4,6 @@ use Rattle.machine.specs.Calls.{Readies}
 use Rattle.machine.proofs.Replies.{is-ready, image-lent, until-refused, until-finished}
 use Rattle.machine.proofs.run_until.Statement.{statement}
 use Rattle.machine.proofs.run_until.Tie as tie
-use Rattle.machine.proofs.run_until.Reads as reads
-use Rattle.machine.proofs.run_until.Lts as lts
-use Rattle.machine.proofs.ready.bad_buffers.Reads as bad-buffers-reads
-use Rattle.machine.proofs.ready.ready.Reads as ready-reads
-use Rattle.machine.proofs.run_until_ready.Reads as run-until-ready-reads
 
 bad-buffers-requires : tie.Need-bad-buffers-requires
 bad-buffers-requires c κs = search needs

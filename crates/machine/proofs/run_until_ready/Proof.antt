@@ -1,7 +1,7 @@
 use mathlib.Core.Path.{refl, _∙_}
 use borrow.Author.Needs.{needs}
 use Rattle.machine.proofs.Marks.{zeros-bytes}
-use Rattle.machine.proofs.Whole.{left-bytes, lent, whole-fills, whole-entered, stop-left, stop-late, stop-done}
+use Rattle.machine.proofs.Whole.{left-bytes, lent, whole-started, stop-left, stop-late, stop-done}
 use Rattle.machine.proofs.run_until_ready.Statement.{statement}
 use Rattle.machine.proofs.run_until_ready.Tie as tie
 
@@ -13,50 +13,37 @@ load-variables-requires c κs =
     let w = c .before .before .before .before .before .before .before .before in
     (refl, lent (w .pre .0) .variables)
 
-slice-aggregate-fill : tie.Need-slice-aggregate-fill
-slice-aggregate-fill c = search needs
+slice-aggregate-run-from : tie.Need-slice-aggregate-run-from
+slice-aggregate-run-from c = search needs
 
-fill-requires : tie.Need-fill-requires
-fill-requires c κs =
+run-from-requires : tie.Need-run-from-requires
+run-from-requires c κs =
     let w = c .before .before .before .before .before .before .before .before .before .before .before in
-    whole-fills (w .pre .0) refl
-
-slice-aggregate-run-block : tie.Need-slice-aggregate-run-block
-slice-aggregate-run-block c = search needs
-
-slice-aggregate-run-block-2 : tie.Need-slice-aggregate-run-block-2
-slice-aggregate-run-block-2 c = search needs
-
-run-block-requires : tie.Need-run-block-requires
-run-block-requires c κs =
-    let w = c .before .before .before .before .before .before .before .before .before .before .before .before .before .before .before in
-    whole-entered (w .pre .0) (c .before .before .before .fill .ensures) (search needs)
+    whole-started (w .pre .0) (search needs)
 
 same-length : tie.Need-same-length
 same-length c = search needs
 
 returns : tie.Need-returns
 returns c =
-    let w = c .before .before .before .before .before .before .before .before .before .before in
+    let w = c .before .before .before .before .before .before in
     let v = w .before .before .before .before .before .before .before .before .before in
-    stop-late (v .pre .0) (c .before .before .before .run-block .ensures) (w .load-variables .ensures) (c .if1 .taken)
+    stop-late (v .pre .0) (c .before .before .before .run-from .ensures) (w .load-variables .ensures) (c .if1 .taken)
 
 slice-aggregate-store : tie.Need-slice-aggregate-store
 slice-aggregate-store c = search needs
 
 store-requires : tie.Need-store-requires
 store-requires c κs =
-    let w = c .before .before .before .before .before .before .before in
-    let v = w .before .before .before .before .before .before .before in
-    let u = v .before .before .before .before .before .before .before .before .before in (
+    let v = c .before .before .before .before .before .before .before in
+    let w = (c .before .before .before .before .before .before .before .before .before .before .before .before .before .before .before .before .before .before .before) in (
       record {
-        cells = w .run-block .kept .1 .1 .1 .1 .1 .1 .1 .1 .0 ∙ v .load-variables .kept .0;
-        variables = lent (u .pre .0) .variables;
-        levels = lent (u .pre .0) .levels;
-        marks = lent
-            (u .pre .0) .marks;
+        cells = v .run-from .kept .1 .1 .1 .1 .1 .1 .0 ∙ v .before .before .before .load-variables .kept .0;
+        variables = lent (w .pre .0) .variables;
+        levels = lent (w .pre .0) .levels;
+        marks = lent (w .pre .0) .marks;
       },
-      left-bytes (stop-left (u .pre .0) (w .run-block .ensures) (v .load-variables .ensures)) (zeros-bytes 8),
+      left-bytes (stop-left (w .pre .0) (v .run-from .ensures) (v .before .before .before .load-variables .ensures)) (zeros-bytes 8),
     )
 
 slice-aggregate-store-image : tie.Need-slice-aggregate-store-image
@@ -65,9 +52,8 @@ slice-aggregate-store-image c = search needs
 store-image-requires : tie.Need-store-image-requires
 store-image-requires c κs =
     let w = c .before .before .before .before .before .before .before .before .before .before .before .before .before .before .before .before in
-    let v = w .before .before .before .before .before .before .before in
-    let u = v .before .before .before .before .before .before .before .before .before in
-    (w .run-block .kept .1 .1 .1 .1 .1 .1 .1 .1 .0 ∙ v .load-variables .kept .0, u .pre .1)
+    let v = w .before .before .before .before .before .before .before .before .before .before .before .before in
+    (w .run-from .kept .1 .1 .1 .1 .1 .1 .0 ∙ w .before .before .before .load-variables .kept .0, v .pre .1)
 
 same-length-2 : tie.Need-same-length-2
 same-length-2 c = search needs
@@ -85,9 +71,9 @@ returns-2 : tie.Need-returns-2
 returns-2 c =
     let w = c .before .before .before .before .before .before .before .before .before .before .before in
     let v = w .before .before .before .before .before in
-    let u = v .before .before .before .before .before .before .before .before .before .before in
+    let u = v .before .before .before .before .before .before in
     let q = u .before .before .before .before .before .before .before .before .before in
-    stop-done (q .pre .0) (v .before .before .before .run-block .ensures) (u .load-variables .ensures) (v .if1 .left) (w .store .ensures) (c .before .before .store-image .ensures)
+    stop-done (q .pre .0) (v .before .before .before .run-from .ensures) (u .load-variables .ensures) (v .if1 .left) (w .store .ensures) (c .before .before .store-image .ensures)
 
 pub run-until-ready-spec : {M : Type 1} → statement M
 run-until-ready-spec =
@@ -95,11 +81,8 @@ run-until-ready-spec =
     (tie.spec
     slice-aggregate-load-variables
     load-variables-requires
-    slice-aggregate-fill
-    fill-requires
-    slice-aggregate-run-block
-    slice-aggregate-run-block-2
-    run-block-requires
+    slice-aggregate-run-from
+    run-from-requires
     same-length
     returns
     slice-aggregate-store

@@ -1,7 +1,7 @@
 use mathlib.Core.Path.{refl, ap, _∙_}
 use borrow.Author.Needs.{needs}
 use Rattle.stepping.specs.Buffers.{withOutputs}
-use Rattle.machine.proofs.Whole.{left-bytes, lent, whole-fills, whole-entered, run-left, run-ran}
+use Rattle.machine.proofs.Whole.{left-bytes, lent, whole-started, run-left, run-ran}
 use Rattle.machine.proofs.run_whole.Statement.{statement}
 use Rattle.machine.proofs.run_whole.Tie as tie
 
@@ -11,7 +11,7 @@ slice-aggregate-load-variables c = search needs
 load-variables-requires : tie.Need-load-variables-requires
 load-variables-requires c κs =
     let w = c .before .before .before .before .before .before .before in
-    (refl, lent (w .pre) .variables)
+    (refl, lent ((w .pre)) .variables)
 
 slice-aggregate-load-outputs : tie.Need-slice-aggregate-load-outputs
 slice-aggregate-load-outputs c = search needs
@@ -21,24 +21,13 @@ load-outputs-requires c κs =
     let w = c .before .before .before .before .before .before .before .before .before .before .before .before in
     (search needs, lent (w .pre) .levels, lent (w .pre) .marks)
 
-slice-aggregate-fill : tie.Need-slice-aggregate-fill
-slice-aggregate-fill c = search needs
+slice-aggregate-run-from : tie.Need-slice-aggregate-run-from
+slice-aggregate-run-from c = search needs
 
-fill-requires : tie.Need-fill-requires
-fill-requires c κs =
+run-from-requires : tie.Need-run-from-requires
+run-from-requires c κs =
     let w = c .before .before .before .before .before .before .before .before .before .before .before .before .before .before .before in
-    whole-fills (w .pre) refl
-
-slice-aggregate-run-block : tie.Need-slice-aggregate-run-block
-slice-aggregate-run-block c = search needs
-
-slice-aggregate-run-block-2 : tie.Need-slice-aggregate-run-block-2
-slice-aggregate-run-block-2 c = search needs
-
-run-block-requires : tie.Need-run-block-requires
-run-block-requires c κs =
-    let w = c .before .before .before .before .before .before .before .before .before .before .before .before .before .before .before .before .before .before .before in
-    whole-entered (w .pre) (c .before .before .before .fill .ensures) (search needs)
+    whole-started ((w .pre)) (search needs)
 
 slice-aggregate-store : tie.Need-slice-aggregate-store
 slice-aggregate-store c = search needs
@@ -46,12 +35,16 @@ slice-aggregate-store c = search needs
 store-requires : tie.Need-store-requires
 store-requires c κs =
     let w = c .before .before .before .before .before in
-    let v = w .before .before .before .before .before .before .before in
-    let u = v .before .before .before .before .before in
-    let q = u .before .before .before .before .before .before .before .before in (
-      record { cells = search needs; variables = lent (q .pre) .variables; levels = lent (q .pre) .levels; marks = lent (q .pre) .marks },
-      left-bytes (run-left (q .pre) (w .run-block .ensures) (v .load-outputs .ensures ∙ ap (withOutputs _ _) (u .load-variables .ensures)))
-          (λ i. u .before .before .before .slice-known3 .given i .fits),
+    let v = w .before .before .before .before .before .before .before .before in
+    let u = v .before .before .before .before .before .before .before .before in
+    let k = w .before .before .before .load-outputs .ensures ∙ ap (withOutputs _ _) (v .load-variables .ensures) in (
+      record {
+        cells = w .run-from .kept .1 .1 .1 .1 .1 .1 .0 ∙ w .before .before .before .load-outputs .kept .0 ∙ v .load-variables .kept .0;
+        variables = lent (u .pre) .variables;
+        levels = lent (u .pre) .levels;
+        marks = lent (u .pre) .marks;
+      },
+      left-bytes (run-left (u .pre) (w .run-from .ensures) k) (λ i. (v .before .before .before .slice-known3) .given i .fits),
     )
 
 same-length : tie.Need-same-length
@@ -67,10 +60,10 @@ returns : tie.Need-returns
 returns c =
     let w = c .before .before .before .before .before .before in
     let v = w .before .before .before .before .before .before in
-    let u = v .before .before .before .before .before .before .before in
-    let q = u .before .before .before .before .before in
-    let p = q .before .before .before .before .before .before .before .before in
-    run-ran (p .pre) (v .run-block .ensures) (u .load-outputs .ensures ∙ ap (withOutputs _ _) (q .load-variables .ensures)) (w .store .ensures)
+    let u = v .before .before .before .before .before .before .before .before in
+    let q = u .before .before .before .before .before .before .before .before in
+    let k = v .before .before .before .load-outputs .ensures ∙ ap (withOutputs _ _) (u .load-variables .ensures) in
+    run-ran ((q .pre)) (v .run-from .ensures) k (w .store .ensures)
 
 pub run-whole-spec : {M : Type 1} → statement M
 run-whole-spec =
@@ -80,11 +73,8 @@ run-whole-spec =
     load-variables-requires
     slice-aggregate-load-outputs
     load-outputs-requires
-    slice-aggregate-fill
-    fill-requires
-    slice-aggregate-run-block
-    slice-aggregate-run-block-2
-    run-block-requires
+    slice-aggregate-run-from
+    run-from-requires
     slice-aggregate-store
     store-requires
     same-length

@@ -1,3 +1,4 @@
+use mathlib.Core.Path.{sym, _∙_}
 use borrow.Author.Needs.{needs}
 use native.Mathlib.Omega.{arith}
 use Rattle.records.specs.Records.{recordOf}
@@ -14,13 +15,13 @@ cast-left c = search needs
 set-value-requires : tie.Need-set-value-requires
 set-value-requires c κs =
     let s = c .before .before .before .before .before .before in
-    (s .pre .0 .cells, fits-set (recordOf (s .args .r)) (c .before .match .keys1) (s .pre .1))
+    (s .pre .0 .cells, fits-set (recordOf (s .args .r)) (s .pre .4 ∙ c .before .match .keys1) (s .pre .1))
 
 assign-requires : tie.Need-assign-requires
 assign-requires c κs =
     let s = c .before .before .before .before .before .before .before .before in
     let r = recordOf (s .args .r) in
-    (s .pre .0 .cells, set-target r (fits-set r (c .before .before .before .match .keys1) (s .pre .1)))
+    (s .pre .0 .cells, set-target r (fits-set r (s .pre .4 ∙ c .before .before .before .match .keys1) (s .pre .1)))
 
 mul-assign : tie.Need-mul-assign
 mul-assign c = search needs
@@ -28,28 +29,28 @@ mul-assign c = search needs
 shared-slice-read-assign : tie.Need-shared-slice-read-assign
 shared-slice-read-assign c =
     let s = c .before .before .before .before .before .before .before in
-    let l = fits-read (recordOf (s .args .r)) (c .before .before .match .keys2) (s .pre .1) in
+    let l = fits-read (recordOf (s .args .r)) (s .pre .4 ∙ c .before .before .match .keys2) (s .pre .1) in
     omega arith
 
 assign-requires-2 : tie.Need-assign-requires-2
 assign-requires-2 c κs =
     let s = c .before .before .before .before .before .before .before in
-    (s .pre .0 .cells, fits-read (recordOf (s .args .r)) (c .before .before .match .keys2) (s .pre .1) .0)
+    (s .pre .0 .cells, fits-read (recordOf (s .args .r)) (s .pre .4 ∙ c .before .before .match .keys2) (s .pre .1) .0)
 
 variable-requires : tie.Need-variable-requires
 variable-requires c κs =
     let s = c .before .before .before .before .before .before in
-    (s .pre .0 .cells, fits-write (recordOf (s .args .r)) (c .before .match .keys3) (s .pre .1) .0)
+    (s .pre .0 .cells, fits-write (recordOf (s .args .r)) (s .pre .4 ∙ c .before .match .keys3) (s .pre .1) .0)
 
 output-requires : tie.Need-output-requires
 output-requires c κs =
     let s = c .before .before .before .before .before .before .before .before in
-    (s .pre .0 .cells, fits-write (recordOf (s .args .r)) (c .before .before .before .match .keys3) (s .pre .1) .1)
+    (s .pre .0 .cells, fits-write (recordOf (s .args .r)) (s .pre .4 ∙ c .before .before .before .match .keys3) (s .pre .1) .1)
 
 test-holds-requires : tie.Need-test-holds-requires
 test-holds-requires c κs =
     let s = c .before .before .before .before .before .before in
-    (s .pre .0 .cells, fits-check (recordOf (s .args .r)) (c .before .match .keys4) (s .pre .1))
+    (s .pre .0 .cells, fits-check (recordOf (s .args .r)) (s .pre .4 ∙ c .before .match .keys4) (s .pre .1))
 
 cast-save : tie.Need-cast-save
 cast-save c = search needs
@@ -61,34 +62,47 @@ same-length : tie.Need-same-length
 same-length c = search needs
 
 returns : tie.Need-returns
-returns c = acts-set (c .before .before .before .before .before .before .match .keys1) (c .before .before .before .before .set-value .ensures) (c .before .before .assign .ensures)
+returns c =
+    let s = c .before .before .before .before .before .before .before .before .before .before .before in
+    acts-set (s .pre .4 ∙ c .before .before .before .before .before .before .match .keys1) (c .before .before .before .before .set-value .ensures) (c .before .before .assign .ensures)
 
 same-length-2 : tie.Need-same-length-2
 same-length-2 c = search needs
 
 returns-2 : tie.Need-returns-2
-returns-2 c = acts-read (c .before .before .before .before .before .match .keys2) (c .before .before .assign2 .ensures)
+returns-2 c =
+    let s = c .before .before .before .before .before .before .before .before .before .before in
+    acts-read (s .pre .4 ∙ c .before .before .before .before .before .match .keys2) (c .before .before .assign2 .ensures)
 
 same-length-3 : tie.Need-same-length-3
 same-length-3 c = search needs
 
 returns-3 : tie.Need-returns-3
-returns-3 c = acts-write (c .before .before .before .before .before .before .match .keys3) (c .before .before .before .before .variable .ensures) (c .before .before .output .ensures)
+returns-3 c =
+    let s = c .before .before .before .before .before .before .before .before .before .before .before in
+    acts-write (s .pre .4 ∙ c .before .before .before .before .before .before .match .keys3) (c .before .before .before .before .variable .ensures) (c .before .before .output .ensures)
 
 same-length-4 : tie.Need-same-length-4
 same-length-4 c = search needs
 
 returns-4 : tie.Need-returns-4
-returns-4 c = acts-check (c .before .before .match .keys4) (c .test-holds .ensures)
+returns-4 c =
+    let s = c .before .before .before .before .before .before .before in
+    acts-check (s .pre .4 ∙ c .before .before .match .keys4) (c .test-holds .ensures)
 
 same-length-5 : tie.Need-same-length-5
 same-length-5 c = search needs
 
 returns-5 : tie.Need-returns-5
-returns-5 c = acts-save (c .before .before .before .before .match .keys5) (c .before .before .save .ensures)
+returns-5 c =
+    let s = c .before .before .before .before .before .before .before .before .before in
+    acts-save (s .pre .4 ∙ c .before .before .before .before .match .keys5) (c .before .before .save .ensures)
 
 returns-6 : tie.Need-returns-6
-returns-6 c = let n = c .match .rest in acts-other (n .0 .0 .0 .0 .1) (n .0 .0 .0 .1) (n .0 .0 .1) (n .0 .1) (n .1)
+returns-6 c =
+    let n = c .match .rest in
+    let k = sym (c .before .before .before .before .before .pre .4) in
+    acts-other (λ e. n .0 .0 .0 .0 .1 (k ∙ e)) (λ e. n .0 .0 .0 .1 (k ∙ e)) (λ e. n .0 .0 .1 (k ∙ e)) (λ e. n .0 .1 (k ∙ e)) (λ e. n .1 (k ∙ e))
 
 pub act-spec : {M : Type 1} → statement M
 act-spec =

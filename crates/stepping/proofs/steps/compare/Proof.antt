@@ -1,24 +1,22 @@
-use Rattle.stepping.proofs.StepLaws.{compares-last}
+use borrow.Author.Needs.{needs}
+use Rattle.stepping.proofs.StepLaws.{compares-bit}
 use Rattle.stepping.proofs.steps.compare.Statement.{statement}
 use Rattle.stepping.proofs.steps.compare.Tie as tie
 
+mul-place : tie.Need-mul-place
+mul-place c = search needs
+
+order-requires : tie.Need-order-requires
+order-requires c κs = search needs
+
+add-place : tie.Need-add-place
+add-place c = search needs
+
+shr-result : tie.Need-shr-result
+shr-result c = search needs
+
 returns : tie.Need-returns
-returns c = rw (c .match .keys1)
-
-returns-2 : tie.Need-returns-2
-returns-2 c = rw (c .match .keys2)
-
-returns-3 : tie.Need-returns-3
-returns-3 c = rw (c .match .keys3)
-
-returns-4 : tie.Need-returns-4
-returns-4 c = rw (c .match .keys4)
-
-returns-5 : tie.Need-returns-5
-returns-5 c = rw (c .match .keys5)
-
-returns-6 : tie.Need-returns-6
-returns-6 c = let n = c .match .rest in compares-last (c .before .args .relation) (c .before .args .a) (c .before .args .b) (n .0 .0 .0 .0 .1) (n .0 .0 .0 .1) (n .0 .0 .1) (n .0 .1) (n .1)
+returns c = rw (c .order .ensures .0) (compares-bit (c .before .args .relation) (c .before .args .a) (c .before .args .b) (c .before .pre))
 
 pub compare-spec : {M : Type 1} → statement M
-compare-spec = tie.close (tie.spec returns returns-2 returns-3 returns-4 returns-5 returns-6)
+compare-spec = tie.close (tie.spec mul-place order-requires add-place shr-result returns)

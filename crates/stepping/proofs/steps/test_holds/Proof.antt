@@ -1,7 +1,7 @@
 use borrow.Author.Needs.{needs}
 use Rattle.model.specs.Runs.{holds}
 use Rattle.records.specs.Records.{recordOf}
-use Rattle.stepping.proofs.StepLaws.{test-left, test-right}
+use Rattle.stepping.proofs.StepLaws.{test-left, test-relation, test-right}
 use Rattle.stepping.proofs.steps.test_holds.Statement.{statement}
 use Rattle.stepping.proofs.steps.test_holds.Tie as tie
 
@@ -15,7 +15,7 @@ right-value-requires : tie.Need-right-value-requires
 right-value-requires c κs = (c .before .before .before .pre .0, test-right (recordOf (c .before .before .before .args .r)) (c .before .before .before .pre .1))
 
 compare-requires : tie.Need-compare-requires
-compare-requires c κs = search needs
+compare-requires c κs = let start = c .before .before .before .before .before in test-relation (recordOf (start .args .r)) (start .pre .1)
 
 returns : tie.Need-returns
 unfolding holds

@@ -1,0 +1,531 @@
+-- Records are run one after another; the laws of proofs/Running*.antt say what each turn and each answer comes to.
+use Prim.Native.Nat.{ℕ, _+_, _*_, _-_, _<_}
+use native.Mathlib.Omega.{arith}
+use mathlib.Core.Path.{refl, ap, sym, _∙_}
+use borrow.Author.Needs.{needs}
+use Rattle.model.specs.Records.{Rec, kindAt}
+use Rattle.records.specs.Records.{recordOf}
+use Rattle.reading.specs.Closing.{opensBlock}
+use Rattle.timing.specs.Times.{settingsIn}
+use Rattle.machine.specs.Contracts.{Running}
+use Rattle.machine.proofs.Behind.{loop-goes-on, loop-times}
+use Rattle.machine.proofs.Running.{running-start, running-inside, running-ended, running-ran, running-then, statement-next, past-ran}
+use Rattle.machine.proofs.RunningSteps.{test-there, kind-there}
+use Rattle.machine.proofs.RunningLoops.{Looping, loop-last, loop-entered, loop-halted, loop-next}
+use Rattle.machine.proofs.RunningLoops.{spinning, spinning-start, spinning-cut, spinning-over, spinning-turned, turning, turning-start, turning-turned, times-empty}
+use borrow.Fn.Kinds.{In}
+use borrow.Fn.PlainCycle.{Measures, is, falls, and}
+use Rattle.machine.proofs.blocks.run_loop.Reads as run-loop
+use Rattle.machine.proofs.blocks.run_loop.Kinds as run-loop-kinds
+use Rattle.machine.proofs.blocks.+run_loop+run_records+run_times+run_while.Lts-run_loop as run-loop-lts
+use Rattle.machine.proofs.blocks.run_records.Reads as run-records
+use Rattle.machine.proofs.blocks.run_records.Kinds as run-records-kinds
+use Rattle.machine.proofs.blocks.+run_loop+run_records+run_times+run_while.Lts-run_records as run-records-lts
+use Rattle.machine.proofs.blocks.run_times.Reads as run-times
+use Rattle.machine.proofs.blocks.run_times.Kinds as run-times-kinds
+use Rattle.machine.proofs.blocks.+run_loop+run_records+run_times+run_while.Lts-run_times as run-times-lts
+use Rattle.machine.proofs.blocks.run_while.Reads as run-while
+use Rattle.machine.proofs.blocks.run_while.Kinds as run-while-kinds
+use Rattle.machine.proofs.blocks.+run_loop+run_records+run_times+run_while.Lts-run_while as run-while-lts
+use Rattle.machine.proofs.blocks.last.Reads as last-reads
+use Rattle.machine.proofs.blocks.run_steps.Reads as run-steps-reads
+use Rattle.records.proofs.record_at.Reads as record-at-reads
+use Rattle.stepping.proofs.progress.cut_off.Reads as cut-off-reads
+use Rattle.stepping.proofs.progress.ended.Reads as ended-reads
+use Rattle.stepping.proofs.progress.going.Reads as going-reads
+use Rattle.stepping.proofs.progress.run_last_test.Reads as run-last-test-reads
+use Rattle.stepping.proofs.steps.test_holds.Reads as test-holds-reads
+use Rattle.machine.proofs.blocks.+run_loop+run_records+run_times+run_while.{statement}
+use Rattle.machine.proofs.blocks.+run_loop+run_records+run_times+run_while.Tie.{close}
+
+abbrev μ-run-loop : Measures 5 run-loop-kinds.ps ℕ
+μ-run-loop κs a = 3 * (5461 - a .1 .0) + 1
+
+abbrev μ-run-records : Measures 5 run-records-kinds.ps ℕ
+μ-run-records κs a = 3 * (5461 - a .1 .0) + 2
+
+abbrev μ-run-times : Measures 5 run-times-kinds.ps ℕ
+μ-run-times κs a = 3 * (5461 - a .1 .0)
+
+abbrev μ-run-while : Measures 5 run-while-kinds.ps ℕ
+μ-run-while κs a = 3 * (5461 - a .1 .0)
+
+abbrev run-loop-at : ℕ → In 5 run-loop-kinds.ps
+run-loop-at t = and 5 run-loop-kinds.ps (is 5 run-loop-kinds.ps μ-run-loop t) run-loop.Pre
+
+abbrev run-loop-below : ℕ → In 5 run-loop-kinds.ps
+run-loop-below t =
+    and 5 run-loop-kinds.ps (falls 5 run-loop-kinds.ps _<_ μ-run-loop t) run-loop.Pre
+
+abbrev run-records-at : ℕ → In 5 run-records-kinds.ps
+run-records-at t =
+    and 5 run-records-kinds.ps (is 5 run-records-kinds.ps μ-run-records t) run-records.Pre
+
+abbrev run-records-below : ℕ → In 5 run-records-kinds.ps
+run-records-below t =
+    and 5 run-records-kinds.ps (falls 5 run-records-kinds.ps _<_ μ-run-records t) run-records.Pre
+
+abbrev run-times-at : ℕ → In 5 run-times-kinds.ps
+run-times-at t = and 5 run-times-kinds.ps (is 5 run-times-kinds.ps μ-run-times t) run-times.Pre
+
+abbrev run-times-below : ℕ → In 5 run-times-kinds.ps
+run-times-below t =
+    and 5 run-times-kinds.ps (falls 5 run-times-kinds.ps _<_ μ-run-times t) run-times.Pre
+
+abbrev run-while-at : ℕ → In 5 run-while-kinds.ps
+run-while-at t = and 5 run-while-kinds.ps (is 5 run-while-kinds.ps μ-run-while t) run-while.Pre
+
+abbrev run-while-below : ℕ → In 5 run-while-kinds.ps
+run-while-below t =
+    and 5 run-while-kinds.ps (falls 5 run-while-kinds.ps _<_ μ-run-while t) run-while.Pre
+
+abbrev run-loop-claims : ℕ → run-loop-lts.Claims
+run-loop-claims t = (
+  record-at-reads.Asked,
+  record-at-reads.Learnt,
+  run-while-below t,
+  run-while.Post,
+  run-times-below t,
+  run-times.Post,
+)
+
+abbrev run-records-claims : ℕ → run-records-lts.Claims
+run-records-claims t = (
+  run-steps-reads.Asked,
+  run-steps-reads.Learnt,
+  ended-reads.Asked,
+  ended-reads.Learnt,
+  going-reads.Asked,
+  going-reads.Learnt,
+  run-loop-below t,
+  run-loop.Post,
+)
+
+abbrev run-times-claims : ℕ → run-times-lts.Claims
+run-times-claims t = (
+  last-reads.Asked,
+  last-reads.Learnt,
+  run-last-test-reads.Asked,
+  run-last-test-reads.Learnt,
+  run-records-below t,
+  run-records.Post,
+  ended-reads.Asked,
+  ended-reads.Learnt,
+)
+
+abbrev run-while-claims : ℕ → run-while-lts.Claims
+run-while-claims t = (
+  last-reads.Asked,
+  last-reads.Learnt,
+  cut-off-reads.Asked,
+  cut-off-reads.Learnt,
+  test-holds-reads.Asked,
+  test-holds-reads.Learnt,
+  going-reads.Asked,
+  going-reads.Learnt,
+  run-records-below t,
+  run-records.Post,
+  ended-reads.Asked,
+  ended-reads.Learnt,
+  run-last-test-reads.Asked,
+  run-last-test-reads.Learnt,
+)
+
+run-loop-record-at-requires : (t : ℕ) → run-loop-lts.Need-record-at-requires (run-loop-claims t) (run-loop-at t) run-loop.Post
+run-loop-record-at-requires t c κs =
+    let w = c .before .before .before .before in
+    omega (arith, w .pre .1 .0 .reached .inside)
+
+run-loop-run-while-requires : (t : ℕ) → run-loop-lts.Need-run-while-requires (run-loop-claims t) (run-loop-at t) run-loop.Post
+run-loop-run-while-requires t c κs =
+    let w = c .before .before .before .before .before .before .before .before in
+    (omega (arith, w .pre .0), (w .pre .1 .0, c .before .before .before .record-at .ensures, kind-there (c .before .before .before .record-at .ensures) (c .before .if1 .taken)))
+
+run-loop-same-length : (t : ℕ) → run-loop-lts.Need-same-length (run-loop-claims t) (run-loop-at t) run-loop.Post
+run-loop-same-length t c = search needs
+
+run-loop-returns : (t : ℕ) → run-loop-lts.Need-returns (run-loop-claims t) (run-loop-at t) run-loop.Post
+run-loop-returns t c = (c .before .before .run-while) .ensures
+
+run-loop-run-times-requires : (t : ℕ) → run-loop-lts.Need-run-times-requires (run-loop-claims t) (run-loop-at t) run-loop.Post
+run-loop-run-times-requires t c κs =
+    let w = c .before .before .before .before .before .before .before .before in
+    let kind = ap (λ (x : Rec). x .kind) (c .before .before .before .record-at .ensures) in
+    (omega (arith, w .pre .0), (w .pre .1 .0, c .before .before .before .record-at .ensures, loop-times _ (w .pre .1 .1) (λ e. (c .before .if1) .left (kind ∙ e))))
+
+run-loop-same-length-2 : (t : ℕ) → run-loop-lts.Need-same-length-2 (run-loop-claims t) (run-loop-at t) run-loop.Post
+run-loop-same-length-2 t c = search needs
+
+run-loop-returns-2 : (t : ℕ) → run-loop-lts.Need-returns-2 (run-loop-claims t) (run-loop-at t) run-loop.Post
+run-loop-returns-2 t c = (c .before .before .run-times) .ensures
+
+abbrev run-records-Inv-loop : run-records-lts.InvT-loop
+run-records-Inv-loop s from to ends table inputs limit tick cells₀ at₀ next₀ cells at next = Running s from to ends (settingsIn table) inputs limit at₀ cells₀ cells at next
+
+abbrev run-records-μ-loop : run-records-lts.MeasureT-loop
+run-records-μ-loop s from to ends table inputs limit tick cells₀ at₀ next₀ cells at next = to - next
+
+run-records-loop-holds : (t : ℕ) → run-records-lts.Need-loop-holds (run-records-claims t) (run-records-at t) run-records.Post run-records-Inv-loop run-records-μ-loop
+run-records-loop-holds t c =
+    let w = c .before .before .before .before in
+    running-start (w .pre .1)
+
+run-records-run-steps-requires : (t : ℕ) → run-records-lts.Need-run-steps-requires (run-records-claims t) (run-records-at t) run-records.Post run-records-Inv-loop run-records-μ-loop
+run-records-run-steps-requires t c κs = (c .before .before .loop) .inv .rest
+
+run-records-ended-requires : (t : ℕ) → run-records-lts.Need-ended-requires (run-records-claims t) (run-records-at t) run-records.Post run-records-Inv-loop run-records-μ-loop
+run-records-ended-requires t c κs = search needs
+
+run-records-same-length : (t : ℕ) → run-records-lts.Need-same-length (run-records-claims t) (run-records-at t) run-records.Post run-records-Inv-loop run-records-μ-loop
+run-records-same-length t c = search needs
+
+run-records-returns : (t : ℕ) → run-records-lts.Need-returns (run-records-claims t) (run-records-at t) run-records.Post run-records-Inv-loop run-records-μ-loop
+run-records-returns t c =
+    let w = c .before .before .before .before in
+    running-ran (w .before .before .before .loop .inv) (w .run-steps .ensures .moved .halts (sym (c .before .ended .ensures) ∙ c .if1 .taken))
+
+run-records-going-requires : (t : ℕ) → run-records-lts.Need-going-requires (run-records-claims t) (run-records-at t) run-records.Post run-records-Inv-loop run-records-μ-loop
+run-records-going-requires t c κs = search needs
+
+run-records-same-length-2 : (t : ℕ) → run-records-lts.Need-same-length-2 (run-records-claims t) (run-records-at t) run-records.Post run-records-Inv-loop run-records-μ-loop
+run-records-same-length-2 t c = search needs
+
+run-records-returns-2 : (t : ℕ) → run-records-lts.Need-returns-2 (run-records-claims t) (run-records-at t) run-records.Post run-records-Inv-loop run-records-μ-loop
+run-records-returns-2 t c =
+    let w = c .before .before .before .before .before .before in
+    let on = sym (c .before .before .before .ended .ensures) ∙ c .before .before .if1 .left in
+    let moved = w .run-steps .ensures .moved .goes on in
+    running-ended (running-then (w .before .before .before .loop .inv) moved) (c .before .if2 .taken) (c .going .ensures)
+
+run-records-run-loop-requires : (t : ℕ) → run-records-lts.Need-run-loop-requires (run-records-claims t) (run-records-at t) run-records.Post run-records-Inv-loop run-records-μ-loop
+run-records-run-loop-requires t c κs =
+    let w = c .before .before .before .before .before .before in
+    let v = w .before .before .before .before .before .before .before .before in
+    let on = sym (c .before .before .before .ended .ensures) ∙ c .before .before .if1 .left in
+    let moved = w .run-steps .ensures .moved .goes on in
+    let goes = loop-goes-on (kindAt (v .args .s .now) (w .run-steps .result .next)) (w .run-steps .ensures .stops on (c .before .if2 .left)) in (
+      omega (arith, v .pre .0, w .before .before .before .loop .inv .on, moved .on, running-inside (moved .rest), c .before .if2 .left, moved .rest .given .few),
+      (statement-next (running-then (w .before .before .before .loop .inv) moved) (c .before .if2 .left) goes, w .run-steps .ensures .stops on (c .before .if2 .left)),
+    )
+
+run-records-ended-requires-2 : (t : ℕ) → run-records-lts.Need-ended-requires-2 (run-records-claims t) (run-records-at t) run-records.Post run-records-Inv-loop run-records-μ-loop
+run-records-ended-requires-2 t c κs = search needs
+
+run-records-same-length-3 : (t : ℕ) → run-records-lts.Need-same-length-3 (run-records-claims t) (run-records-at t) run-records.Post run-records-Inv-loop run-records-μ-loop
+run-records-same-length-3 t c = search needs
+
+run-records-returns-3 : (t : ℕ) → run-records-lts.Need-returns-3 (run-records-claims t) (run-records-at t) run-records.Post run-records-Inv-loop run-records-μ-loop
+run-records-returns-3 t c =
+    let w = c .before .before .before .before in
+    let v = w .before .before .before .before in
+    let u = v .before .before .before .before .before .before in
+    let q = u .before .before .before .before .before in
+    let on = sym (v .ended .ensures) ∙ w .before .before .before .if1 .left in
+    let moved = v .before .before .before .run-steps .ensures .moved .goes on in
+    let goes = loop-goes-on (kindAt (q .args .s .now) (v .before .before .before .run-steps .result .next)) (v .before .before .before .run-steps .ensures .stops on (w .before .before .if2 .left)) in
+    let past = past-ran (running-start (moved .rest)) (w .before .before .if2 .left) goes (w .run-loop .ensures) (search needs) in
+    running-ran (running-then (u .loop .inv) moved) (past .moved .halts (sym (c .before .ended2 .ensures) ∙ c .if3 .taken))
+
+run-records-loop-less : (t : ℕ) → run-records-lts.Need-loop-less (run-records-claims t) (run-records-at t) run-records.Post run-records-Inv-loop run-records-μ-loop
+run-records-loop-less t c =
+    let w = c .before .before .before .before in
+    let v = w .before .before .before .before in
+    let u = v .before .before .before .before .before in
+    let q = u .before .before .before .before .before .before in
+    let on = sym (v .ended .ensures) ∙ w .before .before .before .if1 .left in
+    let moved = v .before .before .before .run-steps .ensures .moved .goes on in
+    let goes = loop-goes-on (kindAt (q .args .s .now) (v .before .before .before .run-steps .result .next)) (v .before .before .before .run-steps .ensures .stops on (w .before .before .if2 .left)) in
+    let past = past-ran (running-start (moved .rest)) (w .before .before .if2 .left) goes (w .run-loop .ensures) (search needs) in
+    omega (arith, past .on (sym (c .before .ended2 .ensures) ∙ c .if3 .left), moved .on, u .loop-test .taken)
+
+run-records-loop-again : (t : ℕ) → run-records-lts.Need-loop-again (run-records-claims t) (run-records-at t) run-records.Post run-records-Inv-loop run-records-μ-loop
+run-records-loop-again t c =
+    let w = c .before .before .before .before in
+    let v = w .before .before .before .before in
+    let u = v .before .before .before .before .before .before in
+    let q = u .before .before .before .before .before in
+    let on = sym (v .ended .ensures) ∙ w .before .before .before .if1 .left in
+    let moved = v .before .before .before .run-steps .ensures .moved .goes on in
+    let goes = loop-goes-on (kindAt (q .args .s .now) (v .before .before .before .run-steps .result .next)) (v .before .before .before .run-steps .ensures .stops on (w .before .before .if2 .left)) in
+    let past = past-ran (running-start (moved .rest)) (w .before .before .if2 .left) goes (w .run-loop .ensures) (search needs) in
+    running-then (running-then (u .loop .inv) moved) (past .moved .goes (sym (c .before .ended2 .ensures) ∙ c .if3 .left))
+
+run-records-going-requires-2 : (t : ℕ) → run-records-lts.Need-going-requires-2 (run-records-claims t) (run-records-at t) run-records.Post run-records-Inv-loop run-records-μ-loop
+run-records-going-requires-2 t c κs = search needs
+
+run-records-same-length-4 : (t : ℕ) → run-records-lts.Need-same-length-4 (run-records-claims t) (run-records-at t) run-records.Post run-records-Inv-loop run-records-μ-loop
+run-records-same-length-4 t c = search needs
+
+run-records-returns-4 : (t : ℕ) → run-records-lts.Need-returns-4 (run-records-claims t) (run-records-at t) run-records.Post run-records-Inv-loop run-records-μ-loop
+run-records-returns-4 t c = running-ended ((c .before .before .loop) .inv) ((c .before .loop-test) .left) ((c .going2) .ensures)
+
+abbrev run-times-Inv-loop : run-times-lts.InvT-loop
+run-times-Inv-loop s i ends r table inputs limit tick cells₀ body to next at₀ round₀ cells at round =
+    Looping s i ends (recordOf r) (settingsIn table) inputs limit at₀ cells₀ cells at to (r .count) round next (turning i)
+
+abbrev run-times-μ-loop : run-times-lts.MeasureT-loop
+run-times-μ-loop s i ends r table inputs limit tick cells₀ body to next at₀ round₀ cells at round =
+    r .count - round
+
+run-times-add-body : (t : ℕ) → run-times-lts.Need-add-body (run-times-claims t) (run-times-at t) run-times.Post run-times-Inv-loop run-times-μ-loop
+run-times-add-body t c =
+    let w = c .before .before .before .before in
+    omega (arith, w .pre .1 .0 .reached .inside, w .pre .1 .0 .reached .given .few)
+
+run-times-last-requires : (t : ℕ) → run-times-lts.Need-last-requires (run-times-claims t) (run-times-at t) run-times.Post run-times-Inv-loop run-times-μ-loop
+run-times-last-requires t c κs =
+    let w = c .before .before .before .before in
+    record { before = w .pre .1 .0 .reached .inside; few = w .pre .1 .0 .reached .given .few; table = w .pre .1 .0 .reached .given .table }
+
+run-times-add-next : (t : ℕ) → run-times-lts.Need-add-next (run-times-claims t) (run-times-at t) run-times.Post run-times-Inv-loop run-times-μ-loop
+run-times-add-next t c = record { fits = omega (arith, (c .last) .ensures .1) }
+
+run-times-run-last-test-requires : (t : ℕ) → run-times-lts.Need-run-last-test-requires (run-times-claims t) (run-times-at t) run-times.Post run-times-Inv-loop run-times-μ-loop
+run-times-run-last-test-requires t c κs =
+    let w = c .before .before .before .before .before .before .before in
+    let fits = test-there (w .pre .1 .0) (w .pre .1 .1) (ap opensBlock (w .pre .1 .2)) in
+    (w .pre .1 .0 .reached .given .lent .cells, fits, w .pre .1 .0 .reached .given .early)
+
+run-times-same-length : (t : ℕ) → run-times-lts.Need-same-length (run-times-claims t) (run-times-at t) run-times.Post run-times-Inv-loop run-times-μ-loop
+run-times-same-length t c = search needs
+
+run-times-returns : (t : ℕ) → run-times-lts.Need-returns (run-times-claims t) (run-times-at t) run-times.Post run-times-Inv-loop run-times-μ-loop
+run-times-returns t c =
+    let w = c .before .before .before .before .before .before .before .before in
+    times-empty (w .pre .1 .0) (w .pre .1 .2) (w .pre .1 .1) (c .before .before .before .last .ensures .0) (c .before .before .if1 .taken) (c .run-last-test .ensures)
+
+run-times-loop-holds : (t : ℕ) → run-times-lts.Need-loop-holds (run-times-claims t) (run-times-at t) run-times.Post run-times-Inv-loop run-times-μ-loop
+run-times-loop-holds t c =
+    let w = c .before .before .before .before .before .before in
+    turning-start (w .pre .1 .0) (w .pre .1 .2) (w .pre .1 .1) (c .before .last .ensures .0) refl
+
+run-times-run-records-requires : (t : ℕ) → run-times-lts.Need-run-records-requires (run-times-claims t) (run-times-at t) run-times.Post run-times-Inv-loop run-times-μ-loop
+run-times-run-records-requires t c κs =
+    let w = c .before .before .before .before .before .before .before .before .before .before in
+    (omega (arith, w .pre .0, w .pre .1 .0 .reached .inside, w .pre .1 .0 .reached .given .few), loop-entered (c .before .before .before .loop .inv) (c .before .before .before .loop .inv .early))
+
+run-times-ended-requires : (t : ℕ) → run-times-lts.Need-ended-requires (run-times-claims t) (run-times-at t) run-times.Post run-times-Inv-loop run-times-μ-loop
+run-times-ended-requires t c κs = search needs
+
+run-times-same-length-2 : (t : ℕ) → run-times-lts.Need-same-length-2 (run-times-claims t) (run-times-at t) run-times.Post run-times-Inv-loop run-times-μ-loop
+run-times-same-length-2 t c = search needs
+
+run-times-returns-2 : (t : ℕ) → run-times-lts.Need-returns-2 (run-times-claims t) (run-times-at t) run-times.Post run-times-Inv-loop run-times-μ-loop
+run-times-returns-2 t c =
+    let w = c .before .before .before .before in
+    let v = w .before .before .before .before in
+    let inv = v .loop .inv in
+    loop-halted inv (w .before .before .if2 .taken) (inv .early) (turning-turned inv) (w .run-records .ensures) (sym (c .before .ended .ensures) ∙ c .if3 .taken)
+
+run-times-add-round : (t : ℕ) → run-times-lts.Need-add-round (run-times-claims t) (run-times-at t) run-times.Post run-times-Inv-loop run-times-μ-loop
+run-times-add-round t c = search needs
+
+run-times-loop-less : (t : ℕ) → run-times-lts.Need-loop-less (run-times-claims t) (run-times-at t) run-times.Post run-times-Inv-loop run-times-μ-loop
+run-times-loop-less t c = search needs
+
+run-times-loop-again : (t : ℕ) → run-times-lts.Need-loop-again (run-times-claims t) (run-times-at t) run-times.Post run-times-Inv-loop run-times-μ-loop
+run-times-loop-again t c =
+    let w = c .before .before .before .before in
+    let v = w .before .before .before .before in
+    let inv = v .loop .inv in
+    loop-next inv (w .before .before .if2 .taken) (inv .early) (turning-turned inv) (w .run-records .ensures) (sym (c .before .ended .ensures) ∙ c .if3 .left) (search needs)
+
+run-times-run-last-test-requires-2 : (t : ℕ) → run-times-lts.Need-run-last-test-requires-2 (run-times-claims t) (run-times-at t) run-times.Post run-times-Inv-loop run-times-μ-loop
+run-times-run-last-test-requires-2 t c κs =
+    let w = c .before .before .before .before .before .before .before .before .before .before in
+    let fits = test-there (w .pre .1 .0) (w .pre .1 .1) (ap opensBlock (w .pre .1 .2)) in
+    (c .before .before .before .loop .inv .lent, fits, c .before .before .before .loop .inv .early)
+
+run-times-same-length-3 : (t : ℕ) → run-times-lts.Need-same-length-3 (run-times-claims t) (run-times-at t) run-times.Post run-times-Inv-loop run-times-μ-loop
+run-times-same-length-3 t c = search needs
+
+run-times-returns-3 : (t : ℕ) → run-times-lts.Need-returns-3 (run-times-claims t) (run-times-at t) run-times.Post run-times-Inv-loop run-times-μ-loop
+run-times-returns-3 t c =
+    let w = c .before .before .before .before in
+    loop-last (w .loop .inv) (c .before .before .if2 .left) (c .run-last-test2 .ensures)
+
+abbrev run-while-Inv-loop : run-while-lts.InvT-loop
+run-while-Inv-loop s i ends r table inputs limit tick cells₀ body to next at₀ round₀ cells at round =
+    Looping s i ends (recordOf r) (settingsIn table) inputs limit at₀ cells₀ cells at to (r .count) round next (spinning i)
+
+abbrev run-while-μ-loop : run-while-lts.MeasureT-loop
+run-while-μ-loop s i ends r table inputs limit tick cells₀ body to next at₀ round₀ cells at round =
+    r .count - round
+
+run-while-add-body : (t : ℕ) → run-while-lts.Need-add-body (run-while-claims t) (run-while-at t) run-while.Post run-while-Inv-loop run-while-μ-loop
+run-while-add-body t c =
+    let w = c .before .before .before .before in
+    omega (arith, w .pre .1 .0 .reached .inside, w .pre .1 .0 .reached .given .few)
+
+run-while-last-requires : (t : ℕ) → run-while-lts.Need-last-requires (run-while-claims t) (run-while-at t) run-while.Post run-while-Inv-loop run-while-μ-loop
+run-while-last-requires t c κs =
+    let w = c .before .before .before .before in
+    record { before = w .pre .1 .0 .reached .inside; few = w .pre .1 .0 .reached .given .few; table = w .pre .1 .0 .reached .given .table }
+
+run-while-add-next : (t : ℕ) → run-while-lts.Need-add-next (run-while-claims t) (run-while-at t) run-while.Post run-while-Inv-loop run-while-μ-loop
+run-while-add-next t c = record { fits = omega (arith, (c .last) .ensures .1) }
+
+run-while-loop-holds : (t : ℕ) → run-while-lts.Need-loop-holds (run-while-claims t) (run-while-at t) run-while.Post run-while-Inv-loop run-while-μ-loop
+run-while-loop-holds t c =
+    let w = c .before .before .before .before .before in
+    spinning-start (w .pre .1 .0) (w .pre .1 .2) (w .pre .1 .1) (c .last .ensures .0) refl
+
+run-while-cut-off-requires : (t : ℕ) → run-while-lts.Need-cut-off-requires (run-while-claims t) (run-while-at t) run-while.Post run-while-Inv-loop run-while-μ-loop
+run-while-cut-off-requires t c κs = search needs
+
+run-while-same-length : (t : ℕ) → run-while-lts.Need-same-length (run-while-claims t) (run-while-at t) run-while.Post run-while-Inv-loop run-while-μ-loop
+run-while-same-length t c = search needs
+
+run-while-returns : (t : ℕ) → run-while-lts.Need-returns (run-while-claims t) (run-while-at t) run-while.Post run-while-Inv-loop run-while-μ-loop
+run-while-returns t c =
+    let w = c .before .before .before .before in
+    spinning-cut (w .loop .inv) (c .before .before .if1 .taken) (c .before .if2 .taken) (c .cut-off .ensures)
+
+run-while-add-at : (t : ℕ) → run-while-lts.Need-add-at (run-while-claims t) (run-while-at t) run-while.Post run-while-Inv-loop run-while-μ-loop
+run-while-add-at t c = search needs
+
+run-while-test-holds-requires : (t : ℕ) → run-while-lts.Need-test-holds-requires (run-while-claims t) (run-while-at t) run-while.Post run-while-Inv-loop run-while-μ-loop
+run-while-test-holds-requires t c κs =
+    let w = c .before .before .before .before in
+    let v = w .before .before .before .before .before .before in
+    let fits = test-there (v .pre .1 .0) (v .pre .1 .1) (ap opensBlock (v .pre .1 .2)) in
+    (w .loop .inv .lent, fits)
+
+run-while-going-requires : (t : ℕ) → run-while-lts.Need-going-requires (run-while-claims t) (run-while-at t) run-while.Post run-while-Inv-loop run-while-μ-loop
+run-while-going-requires t c κs = search needs
+
+run-while-same-length-2 : (t : ℕ) → run-while-lts.Need-same-length-2 (run-while-claims t) (run-while-at t) run-while.Post run-while-Inv-loop run-while-μ-loop
+run-while-same-length-2 t c = search needs
+
+run-while-returns-2 : (t : ℕ) → run-while-lts.Need-returns-2 (run-while-claims t) (run-while-at t) run-while.Post run-while-Inv-loop run-while-μ-loop
+run-while-returns-2 t c =
+    let w = c .before .before .before .before in
+    spinning-over (w .before .before .before .loop .inv) (w .before .if1 .taken) (w .if2 .left) (c .before .before .test-holds .ensures) (c .before .if3 .taken) (c .going .ensures)
+
+run-while-run-records-requires : (t : ℕ) → run-while-lts.Need-run-records-requires (run-while-claims t) (run-while-at t) run-while.Post run-while-Inv-loop run-while-μ-loop
+run-while-run-records-requires t c κs =
+    let w = c .before .before .before .before .before .before .before in
+    let v = w .before .before .before .before .before .before in
+    (omega (arith, v .pre .0, v .pre .1 .0 .reached .inside, v .pre .1 .0 .reached .given .few), loop-entered (w .loop .inv) (search needs))
+
+run-while-ended-requires : (t : ℕ) → run-while-lts.Need-ended-requires (run-while-claims t) (run-while-at t) run-while.Post run-while-Inv-loop run-while-μ-loop
+run-while-ended-requires t c κs = search needs
+
+run-while-same-length-3 : (t : ℕ) → run-while-lts.Need-same-length-3 (run-while-claims t) (run-while-at t) run-while.Post run-while-Inv-loop run-while-μ-loop
+run-while-same-length-3 t c = search needs
+
+run-while-returns-3 : (t : ℕ) → run-while-lts.Need-returns-3 (run-while-claims t) (run-while-at t) run-while.Post run-while-Inv-loop run-while-μ-loop
+run-while-returns-3 t c =
+    let w = c .before .before .before .before in
+    let v = w .before .before .before .before .before in
+    let inv = v .before .before .before .loop .inv in
+    let turned = spinning-turned inv (v .before .if1 .taken) (v .if2 .left) (w .before .before .before .test-holds .ensures) (w .before .before .if3 .left) in
+    loop-halted inv (v .before .if1 .taken) (omega (arith, v .if2 .left)) turned (w .run-records .ensures) (sym (c .before .ended .ensures) ∙ c .if4 .taken)
+
+run-while-add-round : (t : ℕ) → run-while-lts.Need-add-round (run-while-claims t) (run-while-at t) run-while.Post run-while-Inv-loop run-while-μ-loop
+run-while-add-round t c = search needs
+
+run-while-loop-less : (t : ℕ) → run-while-lts.Need-loop-less (run-while-claims t) (run-while-at t) run-while.Post run-while-Inv-loop run-while-μ-loop
+run-while-loop-less t c = search needs
+
+run-while-loop-again : (t : ℕ) → run-while-lts.Need-loop-again (run-while-claims t) (run-while-at t) run-while.Post run-while-Inv-loop run-while-μ-loop
+run-while-loop-again t c =
+    let w = c .before .before .before .before in
+    let v = w .before .before .before .before .before in
+    let inv = v .before .before .before .loop .inv in
+    let turned = spinning-turned inv (v .before .if1 .taken) (v .if2 .left) (w .before .before .before .test-holds .ensures) (w .before .before .if3 .left) in
+    loop-next inv (v .before .if1 .taken) (omega (arith, v .if2 .left)) turned (w .run-records .ensures) (sym (c .before .ended .ensures) ∙ c .if4 .left) (search needs)
+
+run-while-run-last-test-requires : (t : ℕ) → run-while-lts.Need-run-last-test-requires (run-while-claims t) (run-while-at t) run-while.Post run-while-Inv-loop run-while-μ-loop
+run-while-run-last-test-requires t c κs =
+    let w = c .before .before .before .before .before .before .before .before .before in
+    let fits = test-there (w .pre .1 .0) (w .pre .1 .1) (ap opensBlock (w .pre .1 .2)) in
+    (c .before .before .before .loop .inv .lent, fits, c .before .before .before .loop .inv .early)
+
+run-while-same-length-4 : (t : ℕ) → run-while-lts.Need-same-length-4 (run-while-claims t) (run-while-at t) run-while.Post run-while-Inv-loop run-while-μ-loop
+run-while-same-length-4 t c = search needs
+
+run-while-returns-4 : (t : ℕ) → run-while-lts.Need-returns-4 (run-while-claims t) (run-while-at t) run-while.Post run-while-Inv-loop run-while-μ-loop
+run-while-returns-4 t c =
+    let w = c .before .before .before .before in
+    loop-last (w .loop .inv) (c .before .before .if1 .left) (c .run-last-test .ensures)
+
+pub +run-loop+run-records+run-times+run-while-spec : {M : Type 1} → statement M
++run-loop+run-records+run-times+run-while-spec =
+    close μ-run-loop μ-run-records μ-run-times μ-run-while (λ t. run-loop-lts.spec (run-loop-claims t) (run-loop-at t)
+    run-loop.Post
+    (run-loop-record-at-requires t)
+    (run-loop-run-while-requires t)
+    (run-loop-same-length t)
+    (run-loop-returns t)
+    (run-loop-run-times-requires t)
+    (run-loop-same-length-2 t)
+    (run-loop-returns-2 t))
+    (λ t. run-records-lts.spec (run-records-claims t) (run-records-at t)
+    run-records.Post
+    run-records-Inv-loop
+    run-records-μ-loop
+    (run-records-loop-holds t)
+    (run-records-run-steps-requires t)
+    (run-records-ended-requires t)
+    (run-records-same-length t)
+    (run-records-returns t)
+    (run-records-going-requires t)
+    (run-records-same-length-2 t)
+    (run-records-returns-2 t)
+    (run-records-run-loop-requires t)
+    (run-records-ended-requires-2 t)
+    (run-records-same-length-3 t)
+    (run-records-returns-3 t)
+    (run-records-loop-less t)
+    (run-records-loop-again t)
+    (run-records-going-requires-2 t)
+    (run-records-same-length-4 t)
+    (run-records-returns-4 t))
+    (λ t. run-times-lts.spec (run-times-claims t) (run-times-at t)
+    run-times.Post
+    run-times-Inv-loop
+    run-times-μ-loop
+    (run-times-add-body t)
+    (run-times-last-requires t)
+    (run-times-add-next t)
+    (run-times-run-last-test-requires t)
+    (run-times-same-length t)
+    (run-times-returns t)
+    (run-times-loop-holds t)
+    (run-times-run-records-requires t)
+    (run-times-ended-requires t)
+    (run-times-same-length-2 t)
+    (run-times-returns-2 t)
+    (run-times-add-round t)
+    (run-times-loop-less t)
+    (run-times-loop-again t)
+    (run-times-run-last-test-requires-2 t)
+    (run-times-same-length-3 t)
+    (run-times-returns-3 t))
+    λ t. run-while-lts.spec (run-while-claims t) (run-while-at t)
+    run-while.Post
+    run-while-Inv-loop
+    run-while-μ-loop
+    (run-while-add-body t)
+    (run-while-last-requires t)
+    (run-while-add-next t)
+    (run-while-loop-holds t)
+    (run-while-cut-off-requires t)
+    (run-while-same-length t)
+    (run-while-returns t)
+    (run-while-add-at t)
+    (run-while-test-holds-requires t)
+    (run-while-going-requires t)
+    (run-while-same-length-2 t)
+    (run-while-returns-2 t)
+    (run-while-run-records-requires t)
+    (run-while-ended-requires t)
+    (run-while-same-length-3 t)
+    (run-while-returns-3 t)
+    (run-while-add-round t)
+    (run-while-loop-less t)
+    (run-while-loop-again t)
+    (run-while-run-last-test-requires t)
+    (run-while-same-length-4 t)
+    (run-while-returns-4 t)
