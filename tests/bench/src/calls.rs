@@ -2,6 +2,7 @@
 
 use crate::clock;
 use crate::file::{LONGEST, RECORD};
+use std::hint::black_box;
 
 /// What is handed over: settings, and a file with its form.
 pub struct Input<'a> {
@@ -10,7 +11,7 @@ pub struct Input<'a> {
     pub file: &'a [u8],
 }
 
-#[derive(Clone, Copy)]
+#[derive(Clone, Copy, PartialEq)]
 pub enum Form {
     Task,
     Equalised,
@@ -18,7 +19,7 @@ pub enum Form {
 }
 
 impl Form {
-    fn of_rack(self) -> rack::Form {
+    pub fn of_rack(self) -> rack::Form {
         match self {
             Form::Task => rack::Form::Task,
             Form::Equalised => rack::Form::Equalised,
@@ -38,80 +39,109 @@ impl Form {
 /// The values of a finished result, or a refusal's number.
 pub type Answer = Result<(u32, u32), u8>;
 
-/// The answer, and the seconds of one call of the proved and of the second program.
+/// The answer, and the seconds of one call of the proved and of the second program, and of copying the bytes.
 pub struct Measured {
     pub answer: Answer,
     pub proved: f64,
     pub second: f64,
+    pub copying: f64,
 }
 
-fn measured(mut one: impl FnMut() -> Answer, mut two: impl FnMut() -> Answer) -> Measured {
-    let answer = one();
-    assert_eq!(answer, two(), "the two programs answer alike");
-    let (proved, second) = clock::both(
+/// Each program has a buffer of its own for a result; `written` gives the bytes that a call with that answer left there.
+fn measured(x: &Input, written: fn(Answer) -> usize, one: impl Fn(&mut [u8]) -> Answer, two: impl Fn(&mut [u8]) -> Answer) -> Measured {
+    let mut out = (room(), room());
+    let answer = one(&mut out.0);
+    assert_eq!(answer, two(&mut out.1), "the two programs answer alike");
+    let result = out.0[..written(answer)].to_vec();
+    let [proved, second, copying] = clock::best([
         &mut || {
-            std::hint::black_box(one()).ok();
+            black_box(one(&mut out.0)).ok();
         },
         &mut || {
-            std::hint::black_box(two()).ok();
+            black_box(two(&mut out.1)).ok();
         },
-    );
-    Measured { answer, proved, second }
+        &mut copies(x.file, &result),
+    ]);
+    Measured { answer, proved, second, copying }
+}
+
+/// Copies both into buffers made beforehand.
+fn copies<'a>(file: &'a [u8], result: &'a [u8]) -> impl FnMut() + 'a {
+    let mut to = (vec![0; file.len()], vec![0; result.len()]);
+    move || {
+        to.0.copy_from_slice(black_box(file));
+        to.1.copy_from_slice(black_box(result));
+        black_box(&mut to);
+    }
+}
+
+fn nothing(_: Answer) -> usize {
+    0
+}
+
+fn first_value(answer: Answer) -> usize {
+    answer.map_or(0, |(bytes, _)| bytes as usize)
 }
 
 pub fn time(x: &Input) -> Measured {
     measured(
-        || rack::time_file(x.settings, x.form.of_rack(), x.file).map(|t| (t, 0)).map_err(|r| r.number),
-        || second::time_file(x.settings, x.form.of_second(), x.file).map(|t| (t, 0)).map_err(|r| r.number),
+        x,
+        nothing,
+        |_| rack::time_file(x.settings, x.form.of_rack(), x.file).map(|t| (t, 0)).map_err(|r| r.number),
+        |_| second::time_file(x.settings, x.form.of_second(), x.file).map(|t| (t, 0)).map_err(|r| r.number),
     )
 }
 
 pub fn equalise(x: &Input) -> Measured {
-    let (mut one, mut two) = (room(), room());
     measured(
-        || rack::equalise(x.settings, x.file, &mut one).map(|w| (w.bytes as u32, w.time)).map_err(|r| r.number),
-        || second::equalise(x.settings, x.file, &mut two).map(|w| (w.bytes as u32, w.time)).map_err(|r| r.number),
+        x,
+        first_value,
+        |out| rack::equalise(x.settings, x.file, out).map(|w| (w.bytes as u32, w.time)).map_err(|r| r.number),
+        |out| second::equalise(x.settings, x.file, out).map(|w| (w.bytes as u32, w.time)).map_err(|r| r.number),
     )
 }
 
 pub fn lay_out(x: &Input) -> Measured {
-    let (mut one, mut two) = (room(), room());
     measured(
-        || rack::lay_out(x.settings, x.file, &mut one).map(|w| (w.bytes as u32, w.time)).map_err(|r| r.number),
-        || second::lay_out(x.settings, x.file, &mut two).map(|w| (w.bytes as u32, w.time)).map_err(|r| r.number),
+        x,
+        first_value,
+        |out| rack::lay_out(x.settings, x.file, out).map(|w| (w.bytes as u32, w.time)).map_err(|r| r.number),
+        |out| second::lay_out(x.settings, x.file, out).map(|w| (w.bytes as u32, w.time)).map_err(|r| r.number),
     )
 }
 
-fn room() -> Vec<u8> {
+pub fn room() -> Vec<u8> {
     vec![0; RECORD * LONGEST]
 }
 
 /// The factorial is taken of 12, so that its loop has all its rounds.
-const INPUTS: [u32; 8] = [12, 0, 0, 0, 0, 0, 0, 0];
+pub const INPUTS: [u32; 8] = [12, 0, 0, 0, 0, 0, 0, 0];
 
 /// What a run is lent.
-struct Lent {
-    variables: [u32; 16],
-    levels: [u32; 8],
-    marks: [u8; 8],
-    image: [u8; 72],
+pub struct Lent {
+    pub variables: [u32; 16],
+    pub levels: [u32; 8],
+    pub marks: [u8; 8],
+    pub image: [u8; 72],
 }
 
 impl Lent {
-    fn new() -> Self {
+    pub fn new() -> Self {
         Lent { variables: [0; 16], levels: [0; 8], marks: [0; 8], image: [0; 72] }
     }
 }
 
 pub fn run(x: &Input) -> Measured {
     measured(
-        || {
+        x,
+        nothing,
+        |_| {
             let mut l = Lent::new();
             rack::run(x.settings, x.form.of_rack(), x.file, &mut l.variables, &INPUTS, &mut l.levels, &mut l.marks)
                 .map(|e| (e.tick, u32::from(e.overran)))
                 .map_err(|r| r.number)
         },
-        || {
+        |_| {
             let mut l = Lent::new();
             second::run(x.settings, x.form.of_second(), x.file, &mut l.variables, &INPUTS, &mut l.levels, &mut l.marks)
                 .map(|e| (e.tick, u32::from(e.overran)))
@@ -122,7 +152,7 @@ pub fn run(x: &Input) -> Measured {
 
 /// Stopped at a tick by which a checkpoint is finished, and taken up.
 pub fn stop_and_resume(x: &Input, stop: u32) -> Measured {
-    measured(|| rack_stop(x, stop), || second_stop(x, stop))
+    measured(x, nothing, |_| rack_stop(x, stop), |_| second_stop(x, stop))
 }
 
 fn rack_stop(x: &Input, stop: u32) -> Answer {

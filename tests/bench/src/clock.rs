@@ -1,31 +1,43 @@
-//! Times of two calls that do the same work.
+//! Times of calls that are set beside each other.
 
 use std::time::Instant;
 
-/// The seconds of one call, the best of twenty measurements of each, taken in turn, or of those begun within three seconds. Short calls
+/// The seconds of one call of each, the best of twenty measurements, taken in turn, or of those begun within three seconds. Short calls
 /// are measured many at a time.
-pub fn both(one: &mut dyn FnMut(), two: &mut dyn FnMut()) -> (f64, f64) {
-    let mut calls = (1, 1);
-    let mut least = (warm(one, &mut calls.0), warm(two, &mut calls.1));
+pub fn best<const N: usize>(calls: [&mut dyn FnMut(); N]) -> [f64; N] {
+    let mut timed = calls.map(Timed::warm);
     let started = Instant::now();
     for _ in 1..20 {
         if started.elapsed().as_secs_f64() > 3.0 {
             break;
         }
-        least.0 = least.0.min(lasts(one, calls.0));
-        least.1 = least.1.min(lasts(two, calls.1));
+        timed.iter_mut().for_each(Timed::again);
     }
-    (least.0 / f64::from(calls.0), least.1 / f64::from(calls.1))
+    timed.map(|t| t.least / f64::from(t.calls))
 }
 
-/// Doubles the number of calls until they last five milliseconds.
-fn warm(call: &mut dyn FnMut(), calls: &mut u32) -> f64 {
-    let mut took = lasts(call, *calls);
-    while took < 0.005 {
-        *calls *= 2;
-        took = lasts(call, *calls);
+/// A call, how many of it are measured at a time, and the least seconds that they took.
+struct Timed<'a> {
+    call: &'a mut dyn FnMut(),
+    calls: u32,
+    least: f64,
+}
+
+impl<'a> Timed<'a> {
+    /// Doubles the number of calls until they last five milliseconds.
+    fn warm(call: &'a mut dyn FnMut()) -> Self {
+        let mut calls = 1;
+        let mut least = lasts(call, calls);
+        while least < 0.005 {
+            calls *= 2;
+            least = lasts(call, calls);
+        }
+        Timed { call, calls, least }
     }
-    took
+
+    fn again(&mut self) {
+        self.least = self.least.min(lasts(self.call, self.calls));
+    }
 }
 
 fn lasts(call: &mut dyn FnMut(), calls: u32) -> f64 {

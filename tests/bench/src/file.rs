@@ -153,22 +153,32 @@ pub fn choices(f: &mut File, n: u32) {
     }
 }
 
-fn nested(f: &mut File, depth: u32, n: u32) {
-    for _ in 0..depth {
-        f.add(IF, 0).add(ELSE, 0);
+/// The kinds before and behind what a block holds.
+pub type Around = (&'static [u8], &'static [u8]);
+
+pub const IN_FIRST: Around = (&[IF], &[ELSE, END]);
+pub const IN_SECOND: Around = (&[IF, ELSE], &[END]);
+pub const IN_WHILE: Around = (&[WHILE], &[END]);
+pub const IN_TIMES: Around = (&[TIMES], &[END]);
+
+/// n steps, with so many blocks around them, of these kinds by turns from the outermost on. Loops have one round.
+pub fn nested(f: &mut File, kinds: &[Around], depth: usize, n: u32) {
+    let around = || (0..depth).map(|i| kinds[i % kinds.len()]);
+    for kind in around().flat_map(|(before, _)| before) {
+        f.add(*kind, u32::from([WHILE, TIMES].contains(kind)));
     }
     f.steps(n);
-    for _ in 0..depth {
-        f.add(END, 0);
+    for kind in around().rev().flat_map(|(_, behind)| behind) {
+        f.add(*kind, 0);
     }
 }
 
 pub fn eight_nested(f: &mut File, n: u32) {
-    nested(f, 8, n);
+    nested(f, &[IN_SECOND], 8, n);
 }
 
 pub fn sixteen_nested(f: &mut File, n: u32) {
-    nested(f, 16, n);
+    nested(f, &[IN_SECOND], 16, n);
 }
 
 /// n WHILEs, eight deep at most.

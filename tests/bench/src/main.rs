@@ -1,9 +1,11 @@
 //! Times every call of the proved preparer and of the second program side by side, on small, middle and the largest files and on the
-//! inputs that cost most. It prints one table. No time makes it fail; an answer that differs does.
+//! inputs that cost most, and measures the stack of each call. It prints a table of each. No time makes it fail; an answer that differs
+//! does.
 
 mod calls;
 mod clock;
 mod file;
+mod stack;
 mod table;
 
 use calls::{Form, Input, Measured};
@@ -29,9 +31,17 @@ impl Case<'_> {
     }
 
     fn measure_bytes(&self, input: &str, file: &[u8], units: f64, unit: &str) {
+        if !wanted(self.call, input) {
+            return;
+        }
         let m = (self.make)(&Input { settings: &self.settings, form: self.form, file });
         line(&Work { call: self.call, input, records: file.len() / RECORD, units, unit }, &m);
     }
+}
+
+/// Whether a line has every word that the program was given.
+fn wanted(call: &str, input: &str) -> bool {
+    std::env::args().skip(1).all(|word| call.contains(&word) || input.contains(&word))
 }
 
 /// Equalised and laid out; a task comes first where the form says so.
@@ -204,6 +214,9 @@ fn stopping() {
 
 /// Stopped at half its time.
 fn stop_laid(input: &str, form: Form, shape: Shape, n: u32) {
+    if !wanted("run until, resume", input) {
+        return;
+    }
     let settings = file::usual();
     let Some(file) = laid(&settings, form, &made(shape, n).0) else { return };
     let records = file.len() / RECORD;
@@ -220,4 +233,7 @@ fn main() {
     running();
     stopping();
     worst_lay_out();
+    if std::env::args().len() == 1 {
+        stack::table();
+    }
 }

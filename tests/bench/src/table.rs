@@ -3,8 +3,8 @@
 use crate::calls::{Answer, Measured};
 
 pub fn head() {
-    println!("| call | input | records | answer | units | proved, ms | ns each | second, ms | ns each | ratio |");
-    println!("|---|---|--:|---|--:|--:|--:|--:|--:|--:|");
+    println!("| call | input | records | answer | units | proved, ms | ns each | second, ms | ns each | copying, ms | ratio |");
+    println!("|---|---|--:|---|--:|--:|--:|--:|--:|--:|--:|");
 }
 
 /// What a line is about: the call, the input in words, its records, and the units of work that a call does.
@@ -18,7 +18,7 @@ pub struct Work<'a> {
 
 pub fn line(w: &Work, m: &Measured) {
     println!(
-        "| {} | {} | {} | {} | {} {} | {:.4} | {:.1} | {:.4} | {:.1} | {:.2} |",
+        "| {} | {} | {} | {} | {} {} | {:.4} | {:.1} | {:.4} | {:.1} | {:.6} | {:.2} |",
         w.call,
         w.input,
         w.records,
@@ -29,6 +29,7 @@ pub fn line(w: &Work, m: &Measured) {
         1e9 * m.proved / w.units,
         1e3 * m.second,
         1e9 * m.second / w.units,
+        1e3 * m.copying,
         m.proved / m.second,
     );
 }
