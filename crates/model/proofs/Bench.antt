@@ -7,18 +7,18 @@ use lib.ListN.{length, getD, take, drop, replicate}
 use Rattle.model.specs.declared.Form.the-variants.{Task}
 use Rattle.model.specs.Records.{firstRecords, records, bytes, SKIP, SET, READ, WRITE, IF, ELSE, WHILE, END, BEAT, SAVE}
 use Rattle.model.specs.Settings.{settingsOf, badSettings}
-use Rattle.model.specs.Trees.{flatten, stackOf, treeOf, fileTree}
+use Rattle.model.specs.Trees.{linearise, stackOf, treeOf, fileTree}
 use Rattle.model.specs.Runs.{Effect, nothing, assigns, outputs, beats, saves, overruns, Buffers, isBeat, isSave, starts, holds, result, effect}
 use Rattle.model.specs.Equalising.{equalise}
 use Rattle.model.specs.Layout.{before, lastValue, layout, total}
 use Rattle.model.specs.Stopping.{imageBytes, imageOf, takeUp}
 use Rattle.model.specs.Refusals.{fieldsFit, scan, fault}
 use Rattle.model.specs.Answers.{Verdict, finished, refused}
-use Rattle.model.specs.Replies.{reading, timeReply, equalisedTree, equaliseReply, equaliseOut, laidTree, layOutReply, layOutOut}
+use Rattle.model.specs.Replies.{reading, timeReply, equalisedTree, equaliseReply, equaliseOut, laidTree, layOutReply, layOutOut, prepareReply}
 use Rattle.model.specs.Replies.{Loan, ready, stepsOf, runReply, runBuffers, imageAt, stopReply, stopBuffers, stopImage}
 use Rattle.model.specs.Replies.{takenUp, takenBuffers, resumeReply, resumeBuffers, restartReply, restartBuffers}
 use Rattle.model.specs.Chain.{Set, Outputs, Chain, layingOut, laidFile, plainLoan, wholeLoan, stoppedLoan, takingUp, takenUpBuffers, imageTick, runTwice}
-use Rattle.model.specs.Listing.{Line, Printed, listed, turnedDown, printed}
+use Rattle.model.specs.Listing.{printed, ascii, decimal, printedText}
 
 -- THE TASKS
 
@@ -151,21 +151,13 @@ isOutput (beats x) = false
 isOutput (saves m) = false
 isOutput overruns = false
 
-abbrev lineNumbers : List Line → List (List ℕ)
-lineNumbers [] = []
-lineNumbers (l ∷ ls) = (l .tick ∷ l .kind ∷ l .numbers) ∷ lineNumbers ls
-
-abbrev printedNumbers : Printed → List (List ℕ)
-printedNumbers (listed ls t) = lineNumbers ls ++ (t ∷ []) ∷ []
-printedNumbers (turnedDown n) = (n ∷ []) ∷ []
-
 -- WHAT THE PAPER ASKS OF THEM
 
 pub data Question : Type 0 where
   timing : Question  -- the answer of timing the task
   laying-out : Question  -- the answer of laying out, and the last record
   laid : Question  -- the laid file's bytes
-  listing : Question  -- the lines, and the total
+  listing : Question  -- what is printed
   placed : Question  -- the start ticks of the BEATs, SAVEs and WRITEs of the laid file's run
   running : Question  -- the ends of the task as written and of the laid file
   taking-up : ℕ → Question  -- stopped at a tick and taken up
@@ -174,7 +166,7 @@ abbrev answer : Bench → Question → List (List ℕ)
 answer c timing = said (timeReply (c .rack) Task (c .task)) ∷ []
 answer c laying-out = let k = chain c 0 in outcome (layingOut k) ∷ drop (length (laidFile k) - 12) (laidFile k) ∷ []
 answer c laid = laidFile (chain c 0) ∷ []
-answer c listing = printedNumbers (printed (c .rack) (c .task))
+answer c listing = printedText (printed (c .rack) (c .task)) ∷ []
 answer c placed =
     let es = stepsOf (wholeLoan (chain c 0)) in
     starts isBeat 0 es ∷ starts isSave 0 es ∷ starts isOutput 0 es ∷ []
@@ -204,15 +196,7 @@ lettered =
     case (settings 20 100) [] 0 laid (file (row BEAT 0 0 0 1 0 ∷ row SAVE 0 0 0 0 0 ∷ row SKIP 0 0 0 0 7 ∷ row BEAT 0 0 0 4 0 ∷ []) ∷ [])
     ∷ case (settings 20 100) [] 0 laying-out ((0 ∷ 23 ∷ []) ∷ row BEAT 0 0 0 4 0 ∷ [])
     -- B
-    ∷ case (settings 20 100) copied 0 listing
-    ((0 ∷ BEAT ∷ 1 ∷ [])
-    ∷ (3 ∷ SAVE ∷ [])
-    ∷ (13 ∷ READ ∷ 0 ∷ 0 ∷ [])
-    ∷ (16 ∷ WRITE ∷ 0 ∷ 0 ∷ [])
-    ∷ (19 ∷ SKIP ∷ 1 ∷ [])
-    ∷ (20 ∷ BEAT ∷ 4 ∷ [])
-    ∷ (23 ∷ [])
-    ∷ [])
+    ∷ case (settings 20 100) copied 0 listing (ascii "0 BEAT 1\n3 SAVE\n13 READ 0 0\n16 WRITE 0 0\n19 SKIP 1\n20 BEAT 4\n23 end\n" ∷ [])
     -- C, on 12 and on 0
     ∷ case (settings 20 200) factorial 12 timing ((0 ∷ 84 ∷ []) ∷ [])
     ∷ case (settings 20 200) factorial 12 placed ((0 ∷ 20 ∷ 40 ∷ 60 ∷ 80 ∷ 100 ∷ 120 ∷ 140 ∷ []) ∷ (3 ∷ 83 ∷ []) ∷ (124 ∷ []) ∷ [])
@@ -223,41 +207,16 @@ lettered =
     ∷ case (settings 20 143) factorial 12 laying-out ((0 ∷ 143 ∷ []) ∷ row BEAT 0 0 0 0 0 ∷ [])
     -- E
     ∷ case (settings 20 142) factorial 12 laying-out ((8 ∷ []) ∷ [] ∷ [])
+    ∷ case (settings 20 142) factorial 12 listing (ascii "refused 8\n" ∷ [])
     -- F
     ∷ case (settings 16 100) [] 0 laying-out ((0 ∷ 19 ∷ []) ∷ row BEAT 0 0 0 6 0 ∷ [])
     -- G
     ∷ case (settings 15 100) [] 0 laying-out ((7 ∷ []) ∷ [] ∷ [])
     -- H
     ∷ case (settings 20 100) branching 0 timing ((0 ∷ 10 ∷ []) ∷ [])
-    ∷ case (settings 20 100) branching 0 listing
-    ((0 ∷ BEAT ∷ 1 ∷ [])
-    ∷ (3 ∷ SAVE ∷ [])
-    ∷ (13 ∷ READ ∷ 0 ∷ 0 ∷ [])
-    ∷ (16 ∷ SET ∷ 0 ∷ 1 ∷ 0 ∷ 5 ∷ [])
-    ∷ (19 ∷ IF ∷ 0 ∷ 0 ∷ 0 ∷ 5 ∷ [])
-    ∷ (20 ∷ BEAT ∷ 1 ∷ [])
-    ∷ (23 ∷ SET ∷ 0 ∷ 1 ∷ 0 ∷ 7 ∷ [])
-    ∷ (20 ∷ ELSE ∷ [])
-    ∷ (20 ∷ BEAT ∷ 1 ∷ [])
-    ∷ (23 ∷ SKIP ∷ 3 ∷ [])
-    ∷ (26 ∷ END ∷ [])
-    ∷ (26 ∷ SKIP ∷ 14 ∷ [])
-    ∷ (40 ∷ BEAT ∷ 3 ∷ [])
-    ∷ (43 ∷ [])
-    ∷ [])
+    ∷ case (settings 20 100) branching 0 listing (ascii "0 BEAT 1\n3 SAVE\n13 READ 0 0\n16 SET 0 1 0 5\n19 IF 0 0 0 5\n20 BEAT 1\n23 SET 0 1 0 7\n20 ELSE\n20 BEAT 1\n23 SKIP 3\n26 END\n26 SKIP 14\n40 BEAT 3\n43 end\n" ∷ [])
     -- I
-    ∷ case (settings 20 100) reading-twice 0 listing
-    ((0 ∷ BEAT ∷ 1 ∷ [])
-    ∷ (3 ∷ SAVE ∷ [])
-    ∷ (13 ∷ READ ∷ 0 ∷ 0 ∷ [])
-    ∷ (16 ∷ READ ∷ 1 ∷ 1 ∷ [])
-    ∷ (19 ∷ SKIP ∷ 1 ∷ [])
-    ∷ (20 ∷ BEAT ∷ 1 ∷ [])
-    ∷ (23 ∷ WRITE ∷ 0 ∷ 0 ∷ [])
-    ∷ (26 ∷ SKIP ∷ 14 ∷ [])
-    ∷ (40 ∷ BEAT ∷ 3 ∷ [])
-    ∷ (43 ∷ [])
-    ∷ [])
+    ∷ case (settings 20 100) reading-twice 0 listing (ascii "0 BEAT 1\n3 SAVE\n13 READ 0 0\n16 READ 1 1\n19 SKIP 1\n20 BEAT 1\n23 WRITE 0 0\n26 SKIP 14\n40 BEAT 3\n43 end\n" ∷ [])
     -- J
     ∷ case (settings 20 100) spinning 0 running (end 5 1 0 0 0 0 ++ end 18 1 0 0 0 0)
     -- K
@@ -272,8 +231,8 @@ lettered =
 
 pub bench : Holds lettered
 unfolding
-    lettered firstRecords records bytes settingsOf badSettings flatten stackOf treeOf fileTree holds result effect equalise before
+    lettered firstRecords records bytes settingsOf badSettings linearise stackOf treeOf fileTree holds result effect equalise before
     lastValue layout total imageBytes imageOf takeUp fieldsFit scan fault reading timeReply equalisedTree equaliseReply equaliseOut
     laidTree layOutReply layOutOut ready stepsOf runReply runBuffers imageAt stopReply stopBuffers stopImage takenUp takenBuffers
-    resumeReply resumeBuffers restartReply restartBuffers printed
-bench = (refl, (refl, (refl, (refl, (refl, (refl, (refl, (refl, (refl, (refl, (refl, (refl, (refl, (refl, (refl, (refl, (refl, (refl, (refl, (refl, (refl, (refl, tt))))))))))))))))))))))
+    resumeReply resumeBuffers restartReply restartBuffers prepareReply printed decimal printedText
+bench = (refl, (refl, (refl, (refl, (refl, (refl, (refl, (refl, (refl, (refl, (refl, (refl, (refl, (refl, (refl, (refl, (refl, (refl, (refl, (refl, (refl, (refl, (refl, tt)))))))))))))))))))))))

@@ -7,6 +7,7 @@ pub mod Sound
 pub mod Passes
 pub mod Images
 pub mod Injective
+pub mod Untouched
 pub mod Bench
 pub mod TurnedDown
 pub mod Limits

@@ -8,10 +8,10 @@ use borrow.Author.Tests.{le-ltb, eq-eqb}
 use Rattle.model.specs.declared.Form.{Form}
 use Rattle.model.specs.declared.Form.the-variants.{Task, Equalised, Laid}
 use Rattle.model.specs.Records.{Rec, IF, WHILE, TIMES, bytes}
-use Rattle.model.specs.Trees.{Block, nil, skip, act, branch, while, times, size, depth, testRec, skipRec, actRec, elseRec, endRec, flatten, fileTree}
+use Rattle.model.specs.Trees.{Block, nil, skip, act, branch, while, times, size, depth, testRec, skipRec, actRec, elseRec, endRec, linearise, fileTree}
 use Rattle.model.specs.Refusals.{maxRecords, maxDepth, fieldsFit, Open, first, second, loop, inside, nest, sound, scan, fault}
 use Rattle.model.proofs.Bytes.{length-bytes, records-bytes}
-use Rattle.model.proofs.Trees.{length-flatten, treeOf-flatten}
+use Rattle.model.proofs.Trees.{length-linearise, treeOf-linearise}
 use Rattle.model.proofs.Shapes.{Fit}
 use Rattle.model.proofs.Sound.{OfForm, nest-act}
 
@@ -36,59 +36,59 @@ module _ (f : Form) where
 
   -- past a loop that opens with r, given that it goes past the body and what follows
   past-loop : (r : Rec) (a b : Block) (i j : ℕ) (os : List Open) (rs : List Rec) → Fit f r → nest (r .kind) os ≡ inside (loop ∷ os) → 1 + length os ≤ maxDepth f
-      → scan f (i + 1) (loop ∷ os) (flatten a ++ endRec ∷ (flatten b ++ rs)) ≡ scan f (i + 1 + size a) (loop ∷ os) (endRec ∷ (flatten b ++ rs))
-      → scan f (i + 2 + size a) os (flatten b ++ rs) ≡ scan f j os rs
-      → scan f i os ((r ∷ (flatten a ++ endRec ∷ flatten b)) ++ rs) ≡ scan f j os rs
+      → scan f (i + 1) (loop ∷ os) (linearise a ++ endRec ∷ (linearise b ++ rs)) ≡ scan f (i + 1 + size a) (loop ∷ os) (endRec ∷ (linearise b ++ rs))
+      → scan f (i + 2 + size a) os (linearise b ++ rs) ≡ scan f j os rs
+      → scan f i os ((r ∷ (linearise a ++ endRec ∷ linearise b)) ++ rs) ≡ scan f j os rs
   past-loop r a b i j os rs fit n l body next =
-      let ends = endRec ∷ (flatten b ++ rs) in
+      let ends = endRec ∷ (linearise b ++ rs) in
       let e : i + 1 + size a + 1 ≡ i + 2 + size a = omega arith in
       simp append-assoc
-      (past i os (loop ∷ os) r (flatten a ++ ends) fit n (omega arith)
+      (past i os (loop ∷ os) r (linearise a ++ ends) fit n (omega arith)
       ∙ body
-      ∙ past (i + 1 + size a) (loop ∷ os) os endRec (flatten b ++ rs) (end-fits f) refl (omega arith)
-      ∙ ap (λ (k : ℕ). scan f k os (flatten b ++ rs)) e
+      ∙ past (i + 1 + size a) (loop ∷ os) os endRec (linearise b ++ rs) (end-fits f) refl (omega arith)
+      ∙ ap (λ (k : ℕ). scan f k os (linearise b ++ rs)) e
       ∙ next)
 
   -- and past a block, up to the record with index j
   past-block : (b : Block) (i j : ℕ) (os : List Open) (rs : List Rec) → OfForm f b → depth b + length os ≤ maxDepth f → i + size b ≡ j
-      → scan f i os (flatten b ++ rs) ≡ scan f j os rs
-  unfolding flatten
+      → scan f i os (linearise b ++ rs) ≡ scan f j os rs
+  unfolding linearise
   past-block nil i j os rs p l e = ap (λ (k : ℕ). scan f k os rs) (omega arith)
   past-block (skip n b) i j os rs p l e =
-      past i os os (skipRec n) (flatten b ++ rs) (p .0) refl (omega arith) ∙ past-block b (i + 1) j os rs (p .1) l (omega arith)
+      past i os os (skipRec n) (linearise b ++ rs) (p .0) refl (omega arith) ∙ past-block b (i + 1) j os rs (p .1) l (omega arith)
   past-block (act a b) i j os rs p l e =
-      past i os os (actRec a) (flatten b ++ rs) (p .0) (nest-act a os) (omega arith) ∙ past-block b (i + 1) j os rs (p .1) l (omega arith)
+      past i os os (actRec a) (linearise b ++ rs) (p .0) (nest-act a os) (omega arith) ∙ past-block b (i + 1) j os rs (p .1) l (omega arith)
   past-block (branch q a d b) i j os rs p l e =
       let m = i + 1 + size a in
       let n = m + 1 + size d in
-      let ends = endRec ∷ (flatten b ++ rs) in
-      let others = elseRec ∷ (flatten d ++ ends) in
+      let ends = endRec ∷ (linearise b ++ rs) in
+      let others = elseRec ∷ (linearise d ++ ends) in
       simp append-assoc
-      (past i os (first ∷ os) (testRec IF q 0) (flatten a ++ others) (p .0) refl (omega arith)
+      (past i os (first ∷ os) (testRec IF q 0) (linearise a ++ others) (p .0) refl (omega arith)
       ∙ past-block a (i + 1) m (first ∷ os) others (p .1) (omega arith) refl
-      ∙ past m (first ∷ os) (second ∷ os) elseRec (flatten d ++ ends) (else-fits f) refl (omega arith)
+      ∙ past m (first ∷ os) (second ∷ os) elseRec (linearise d ++ ends) (else-fits f) refl (omega arith)
       ∙ past-block d (m + 1) n (second ∷ os) ends (p .2) (omega arith) refl
-      ∙ past n (second ∷ os) os endRec (flatten b ++ rs) (end-fits f) refl (omega arith)
+      ∙ past n (second ∷ os) os endRec (linearise b ++ rs) (end-fits f) refl (omega arith)
       ∙ past-block b (n + 1) j os rs (p .3) (omega arith) (omega arith))
   past-block (while q n a b) i j os rs p l e =
       past-loop (testRec WHILE q n) a b i j os rs (p .0) refl (omega arith)
-      (past-block a (i + 1) (i + 1 + size a) (loop ∷ os) (endRec ∷ (flatten b ++ rs)) (p .1) (omega arith) refl)
+      (past-block a (i + 1) (i + 1 + size a) (loop ∷ os) (endRec ∷ (linearise b ++ rs)) (p .1) (omega arith) refl)
       (past-block b (i + 2 + size a) j os rs (p .2) (omega arith) (omega arith))
   past-block (times q n a b) i j os rs p l e =
       past-loop (testRec TIMES q n) a b i j os rs (p .0) refl (omega arith)
-      (past-block a (i + 1) (i + 1 + size a) (loop ∷ os) (endRec ∷ (flatten b ++ rs)) (p .1) (omega arith) refl)
+      (past-block a (i + 1) (i + 1 + size a) (loop ∷ os) (endRec ∷ (linearise b ++ rs)) (p .1) (omega arith) refl)
       (past-block b (i + 2 + size a) j os rs (p .2) (omega arith) (omega arith))
 
-pub length-file : (b : Block) → length (bytes (flatten b)) ≡ 12 * size b
-length-file b = rw (length-bytes (flatten b), length-flatten b)
+pub length-file : (b : Block) → length (bytes (linearise b)) ≡ 12 * size b
+length-file b = rw (length-bytes (linearise b), length-linearise b)
 
-pub tree-back : (b : Block) → fileTree (bytes (flatten b)) ≡ b
+pub tree-back : (b : Block) → fileTree (bytes (linearise b)) ≡ b
 unfolding fileTree
-tree-back b = rw (records-bytes (flatten b)) (treeOf-flatten b)
+tree-back b = rw (records-bytes (linearise b)) (treeOf-linearise b)
 
-pub passes : (f : Form) (b : Block) → OfForm f b → depth b ≤ maxDepth f → size b ≤ maxRecords f → fault f (bytes (flatten b)) ≡ sound
+pub passes : (f : Form) (b : Block) → OfForm f b → depth b ≤ maxDepth f → size b ≤ maxRecords f → fault f (bytes (linearise b)) ≡ sound
 unfolding fault scan
 passes f b p d s =
     let l = length-file b in
-    rw (eq-eqb (length (bytes (flatten b)) % 12) 0 (omega arith), le-ltb (12 * maxRecords f) (length (bytes (flatten b))) (omega arith))
-    (rw (records-bytes (flatten b), ← append-nil (flatten b)) (past-block f b 0 (size b) [] [] p (omega arith) (omega arith)))
+    rw (eq-eqb (length (bytes (linearise b)) % 12) 0 (omega arith), le-ltb (12 * maxRecords f) (length (bytes (linearise b))) (omega arith))
+    (rw (records-bytes (linearise b), ← append-nil (linearise b)) (past-block f b 0 (size b) [] [] p (omega arith) (omega arith)))

@@ -11,11 +11,11 @@ use borrow.Author.Tests.{eqb-true, ltb-false}
 use Rattle.model.specs.declared.Form.{Form}
 use Rattle.model.specs.Records.{Rec, IF, WHILE, TIMES, kindAt, recordAt, records, bytes}
 use Rattle.model.specs.Trees.{Test, Act, Block, nil, skip, act, branch, while, times}
-use Rattle.model.specs.Trees.{size, depth, testRec, skipRec, actRec, elseRec, endRec, flatten, treeOf, fileTree}
+use Rattle.model.specs.Trees.{size, depth, testRec, skipRec, actRec, elseRec, endRec, linearise, treeOf, fileTree}
 use Rattle.model.specs.Refusals.{maxRecords, maxDepth, kindFits, fieldsFit, Open, first, second, loop, Nesting, misplaced, inside, nest}
 use Rattle.model.specs.Refusals.{sound, faulty, deeper, scan, fault}
 use Rattle.model.proofs.Bytes.{Bytes, bytes-records, length-records, recordsAt, recordsAt-suc, records-at}
-use Rattle.model.proofs.Trees.{length-flatten, treeOf-flatten}
+use Rattle.model.proofs.Trees.{length-linearise, treeOf-linearise}
 use Rattle.model.proofs.Stands.{At, begins}
 use Rattle.model.proofs.Shapes.{by-act, Fit, Shape, is-skip, is-act, is-if, is-while, is-times, is-else, is-end, shape}
 
@@ -39,25 +39,25 @@ record Inner (f : Form) (m n : ℕ) (b : Block) : Type 0 where
 record Upto (f : Form) (m n : ℕ) (closer : Rec) (More : List Rec → Type 0) (rs : List Rec) : Type 0 where
   block : Block
   others : List Rec
-  same : rs ≡ flatten block ++ closer ∷ others
+  same : rs ≡ linearise block ++ closer ∷ others
   inner : Inner f m n block
   more : More others
 
 -- records that close the open blocks and then end with the file
 abbrev Parsed : Form → ℕ → List Open → List Rec → Type 0
-Parsed f m [] rs = (b : Block) × (rs ≡ flatten b) × Inner f m 0 b
+Parsed f m [] rs = (b : Block) × (rs ≡ linearise b) × Inner f m 0 b
 Parsed f m (first ∷ os) rs = Upto f m (suc (length os)) elseRec (Upto f m (suc (length os)) endRec (Parsed f m os)) rs
 Parsed f m (second ∷ os) rs = Upto f m (suc (length os)) endRec (Parsed f m os) rs
 Parsed f m (loop ∷ os) rs = Upto f m (suc (length os)) endRec (Parsed f m os) rs
 
 -- a statement put before the first block: its records are l
-module _ (f : Form) (m : ℕ) (g : Block → Block) (l : List Rec) (flat : (b : Block) → flatten (g b) ≡ l ++ flatten b) where
+module _ (f : Form) (m : ℕ) (g : Block → Block) (l : List Rec) (flat : (b : Block) → linearise (g b) ≡ l ++ linearise b) where
   front-upto : (n : ℕ) (closer : Rec) (More : List Rec → Type 0) (rs : List Rec)
       → ((b : Block) → Inner f m n b → Inner f m n (g b)) → Upto f m n closer More rs → Upto f m n closer More (l ++ rs)
   front-upto n closer More rs keeps u = record {
     block = g (u .block);
     others = u .others;
-    same = ap (λ (x : List Rec). l ++ x) (u .same) ∙ sym (append-assoc l (flatten (u .block)) (closer ∷ u .others)) ∙ ap (λ (x : List Rec). x ++ closer ∷ u .others) (sym (flat (u .block)));
+    same = ap (λ (x : List Rec). l ++ x) (u .same) ∙ sym (append-assoc l (linearise (u .block)) (closer ∷ u .others)) ∙ ap (λ (x : List Rec). x ++ closer ∷ u .others) (sym (flat (u .block)));
     inner = keeps (u .block) (u .inner);
     more = u .more;
   }
@@ -83,21 +83,21 @@ empty f m n l = record { of-form = tt; shallow = omega arith }
 
 module _ (f : Form) (m : ℕ) (os : List Open) (rs : List Rec) where
   skip-turn : (n : ℕ) → Fit f (skipRec n) → Parsed f m os rs → Parsed f m os (skipRec n ∷ rs)
-  unfolding flatten
+  unfolding linearise
   skip-turn n fit p =
       front f m (skip n) (skipRec n ∷ []) (λ b. refl) os rs (λ b i. record { of-form = (fit, i .of-form); shallow = i .shallow }) p
 
   act-turn : (a : Act) → Fit f (actRec a) → Parsed f m os rs → Parsed f m os (actRec a ∷ rs)
-  unfolding flatten
+  unfolding linearise
   act-turn a fit p =
       front f m (act a) (actRec a ∷ []) (λ b. refl) os rs (λ b i. record { of-form = (fit, i .of-form); shallow = i .shallow }) p
 
   if-turn : (q : Test) → Fit f (testRec IF q 0) → Parsed f m (first ∷ os) rs → Parsed f m os (testRec IF q 0 ∷ rs)
-  unfolding flatten
+  unfolding linearise
   if-turn q fit u =
       let a = u .block in
       let d = u .more .block in
-      let l = testRec IF q 0 ∷ (flatten a ++ elseRec ∷ (flatten d ++ endRec ∷ [])) in
+      let l = testRec IF q 0 ∷ (linearise a ++ elseRec ∷ (linearise d ++ endRec ∷ [])) in
       let e : l ++ u .more .others ≡ testRec IF q 0 ∷ rs = rw (u .same, u .more .same) (simp append-assoc) in
       subst (Parsed f m os) e
       (front f m (branch q a d) l (λ b. simp append-assoc) os (u .more .others)
@@ -109,14 +109,14 @@ module _ (f : Form) (m : ℕ) (os : List Open) (rs : List Rec) where
 
   -- a loop, g, that opens with the record r
   loop-turn : (g : Block → Block → Block) (r : Rec)
-      → ((a b : Block) → flatten (g a b) ≡ r ∷ (flatten a ++ endRec ∷ flatten b))
+      → ((a b : Block) → linearise (g a b) ≡ r ∷ (linearise a ++ endRec ∷ linearise b))
       → ((a b : Block) → depth (g a b) ≡ max (1 + depth a) (depth b))
       → ((a b : Block) → OfForm f a → OfForm f b → OfForm f (g a b))
       → Parsed f m (loop ∷ os) rs
       → Parsed f m os (r ∷ rs)
   loop-turn g r flat deep of u =
       let a = u .block in
-      let l = r ∷ (flatten a ++ endRec ∷ []) in
+      let l = r ∷ (linearise a ++ endRec ∷ []) in
       let e : l ++ u .others ≡ r ∷ rs = rw (u .same) (simp append-assoc) in
       subst (Parsed f m os) e
       (front f m (g a) l (λ b. flat a b ∙ simp append-assoc) os (u .others)
@@ -124,11 +124,11 @@ module _ (f : Form) (m : ℕ) (os : List Open) (rs : List Rec) where
       (u .more))
 
   end-turn : length os + 1 ≤ m → Parsed f m os rs → Upto f m (suc (length os)) endRec (Parsed f m os) (endRec ∷ rs)
-  unfolding flatten
+  unfolding linearise
   end-turn l p = record { block = nil; others = rs; same = refl; inner = empty f m (suc (length os)) (omega arith); more = p }
 
 else-turn : (f : Form) (m : ℕ) (os next : List Open) (rs : List Rec) → length os ≤ m → nest 6 os ≡ inside next → Parsed f m next rs → Parsed f m os (elseRec ∷ rs)
-unfolding flatten
+unfolding linearise
 else-turn f m [] next rs l e p = let z : _≡_ {A = ℕ} 0 1 = cc in absurd (omega arith)
 else-turn f m (first ∷ os) next rs l e p =
     record { block = nil; others = rs; same = refl; inner = empty f m (suc (length os)) l; more = reopen f m (second ∷ os) next rs e p }
@@ -143,7 +143,7 @@ close-turn f m (loop ∷ os) next rs l e p = end-turn f m os rs (omega arith) (r
 
 turn : (f : Form) (m : ℕ) (os next : List Open) (r : Rec) (rs : List Rec) → Shape r → Fit f r → length os ≤ m
     → nest (r .kind) os ≡ inside next → Parsed f m next rs → Parsed f m os (r ∷ rs)
-unfolding flatten
+unfolding linearise
 turn f m os next r rs (is-skip n) fit l e p = skip-turn f m os rs n fit (reopen f m os next rs e p)
 turn f m os next r rs (is-act a) fit l e p =
     act-turn f m os rs a fit (reopen f m os next rs (sym (nest-act a os) ∙ e) p)
@@ -185,7 +185,7 @@ passed f i os r rs e = by-kind (kindFits f (r .kind)) refl (fieldsFit r) refl (n
     by-kind true k true x (inside next) t h = by-depth k x next t (ltb (maxDepth f) (length next)) refl h
 
 parsed : (f : Form) (i : ℕ) (os : List Open) (rs : List Rec) → length os ≤ maxDepth f → scan f i os rs ≡ sound → Parsed f (maxDepth f) os rs
-unfolding scan flatten
+unfolding scan linearise
 parsed f i [] [] l e = (nil, refl, empty f (maxDepth f) 0 (omega arith))
 parsed f i (o ∷ os) [] l e = let z : _≡_ {A = ℕ} 0 1 = cc in absurd (omega arith)
 parsed f i os (r ∷ rs) l e =
@@ -212,7 +212,7 @@ whole f s e = go (eqb (length s % 12) 0) refl (ltb (12 * maxRecords f) (length s
 
 -- b is the tree of a sound file s of form f
 pub record Sound (f : Form) (s : List ℕ) (b : Block) : Type 0 where
-  pub same : flatten b ≡ records s
+  pub same : linearise b ≡ records s
   pub whole-records : length s ≡ 12 * size b
   pub stands : At s 0 b
   pub few : size b ≤ maxRecords f
@@ -221,7 +221,7 @@ pub record Sound (f : Form) (s : List ℕ) (b : Block) : Type 0 where
 
 pub sound-file : (f : Form) (s : List ℕ) → fault f s ≡ sound → Sound f s (fileTree s)
 unfolding fileTree
-sound-file f s e = subst (Sound f s) (sym (ap treeOf (p .1) ∙ treeOf-flatten (p .0))) sound-tree
+sound-file f s e = subst (Sound f s) (sym (ap treeOf (p .1) ∙ treeOf-linearise (p .0))) sound-tree
   where
     w : Whole f s
     w = whole f s e
@@ -230,20 +230,20 @@ sound-file f s e = subst (Sound f s) (sym (ap treeOf (p .1) ∙ treeOf-flatten (
     p = parsed f 0 [] (records s) (omega arith) (w .scanned)
 
     n : length s / 12 ≡ size (p .0)
-    n = sym (length-records s) ∙ ap length (p .1) ∙ length-flatten (p .0)
+    n = sym (length-records s) ∙ ap length (p .1) ∙ length-linearise (p .0)
 
     sound-tree : Sound f s (p .0)
     sound-tree = record {
       same = sym (p .1);
       whole-records = omega (arith, w .even, n);
-      stands = begins s 0 (length s / 12) (p .0) [] (sym (records-at s) ∙ p .1 ∙ sym (append-nil (flatten (p .0)))) .stands;
+      stands = begins s 0 (length s / 12) (p .0) [] (sym (records-at s) ∙ p .1 ∙ sym (append-nil (linearise (p .0)))) .stands;
       few = omega (arith, w .few, w .even, n);
       shallow = omega (arith, p .2 .shallow);
       of-form = p .2 .of-form;
     }
 
 -- the file is the bytes of its tree
-pub sound-bytes : (f : Form) (s : List ℕ) → Bytes s → fault f s ≡ sound → bytes (flatten (fileTree s)) ≡ s
+pub sound-bytes : (f : Form) (s : List ℕ) → Bytes s → fault f s ≡ sound → bytes (linearise (fileTree s)) ≡ s
 sound-bytes f s h e = rw (sound-file f s e .same) (bytes-records s h (whole f s e .even))
 
 -- every kind in it is one of the form

@@ -5,7 +5,7 @@ use mathlib.Core.List.{List, [], _∷_, _++_, append-assoc, append-nil}
 use lib.ListN.{length, length-append}
 use Rattle.model.specs.Records.{Rec}
 use Rattle.model.specs.Trees.{Act, set, read, write, check, beat, save, Block, nil, skip, act, branch, while, times, _⧺_}
-use Rattle.model.specs.Trees.{size, actRec, elseRec, endRec, flatten, push, top, under, stackOf, treeOf}
+use Rattle.model.specs.Trees.{size, actRec, elseRec, endRec, linearise, push, top, under, stackOf, treeOf}
 
 pub ⧺-nil : (b : Block) → b ⧺ nil ≡ b
 ⧺-nil nil = refl
@@ -23,22 +23,22 @@ pub ⧺-assoc : (a b c : Block) → (a ⧺ b) ⧺ c ≡ a ⧺ (b ⧺ c)
 ⧺-assoc (while q n x a) b c = rw (⧺-assoc a b c)
 ⧺-assoc (times q n x a) b c = rw (⧺-assoc a b c)
 
-pub length-flatten : (b : Block) → length (flatten b) ≡ size b
-unfolding flatten
-length-flatten nil = refl
-length-flatten (skip n b) = omega (arith, length-flatten b)
-length-flatten (act p b) = omega (arith, length-flatten b)
-length-flatten (branch q a d b) =
+pub length-linearise : (b : Block) → length (linearise b) ≡ size b
+unfolding linearise
+length-linearise nil = refl
+length-linearise (skip n b) = omega (arith, length-linearise b)
+length-linearise (act p b) = omega (arith, length-linearise b)
+length-linearise (branch q a d b) =
     omega (
       arith,
-      length-append (flatten a) (elseRec ∷ (flatten d ++ endRec ∷ flatten b)),
-      length-append (flatten d) (endRec ∷ flatten b),
-      length-flatten a,
-      length-flatten d,
-      length-flatten b,
+      length-append (linearise a) (elseRec ∷ (linearise d ++ endRec ∷ linearise b)),
+      length-append (linearise d) (endRec ∷ linearise b),
+      length-linearise a,
+      length-linearise d,
+      length-linearise b,
     )
-length-flatten (while q n a b) = omega (arith, length-append (flatten a) (endRec ∷ flatten b), length-flatten a, length-flatten b)
-length-flatten (times q n a b) = omega (arith, length-append (flatten a) (endRec ∷ flatten b), length-flatten a, length-flatten b)
+length-linearise (while q n a b) = omega (arith, length-append (linearise a) (endRec ∷ linearise b), length-linearise a, length-linearise b)
+length-linearise (times q n a b) = omega (arith, length-append (linearise a) (endRec ∷ linearise b), length-linearise a, length-linearise b)
 
 push-act : (p : Act) (bs : List Block) → push (actRec p) bs ≡ act p (top bs) ∷ under bs
 push-act (set o t l x) bs = refl
@@ -49,20 +49,20 @@ push-act (beat x) bs = refl
 push-act (save m) bs = refl
 
 -- a block's records before others join the block to the stack's top
-pub stackOf-flatten : (b : Block) (rs : List Rec) (c : Block) (st : List Block) → stackOf rs ≡ c ∷ st → stackOf (flatten b ++ rs) ≡ (b ⧺ c) ∷ st
-unfolding flatten stackOf
-stackOf-flatten nil rs c st e = e
-stackOf-flatten (skip n b) rs c st e = rw (stackOf-flatten b rs c st e)
-stackOf-flatten (act p b) rs c st e = rw (push-act, stackOf-flatten b rs c st e)
-stackOf-flatten (branch q a d b) rs c st e =
-    let f = stackOf-flatten d (endRec ∷ (flatten b ++ rs)) nil ((b ⧺ c) ∷ st) (rw (stackOf-flatten b rs c st e)) in
-    let g = stackOf-flatten a (elseRec ∷ (flatten d ++ endRec ∷ (flatten b ++ rs))) nil ((d ⧺ nil) ∷ (b ⧺ c) ∷ st) (rw f) in
+pub stackOf-linearise : (b : Block) (rs : List Rec) (c : Block) (st : List Block) → stackOf rs ≡ c ∷ st → stackOf (linearise b ++ rs) ≡ (b ⧺ c) ∷ st
+unfolding linearise stackOf
+stackOf-linearise nil rs c st e = e
+stackOf-linearise (skip n b) rs c st e = rw (stackOf-linearise b rs c st e)
+stackOf-linearise (act p b) rs c st e = rw (push-act, stackOf-linearise b rs c st e)
+stackOf-linearise (branch q a d b) rs c st e =
+    let f = stackOf-linearise d (endRec ∷ (linearise b ++ rs)) nil ((b ⧺ c) ∷ st) (rw (stackOf-linearise b rs c st e)) in
+    let g = stackOf-linearise a (elseRec ∷ (linearise d ++ endRec ∷ (linearise b ++ rs))) nil ((d ⧺ nil) ∷ (b ⧺ c) ∷ st) (rw f) in
     simp (append-assoc, g, ⧺-nil)
-stackOf-flatten (while q n a b) rs c st e =
-    simp (append-assoc, stackOf-flatten a (endRec ∷ (flatten b ++ rs)) nil ((b ⧺ c) ∷ st) (rw (stackOf-flatten b rs c st e)), ⧺-nil)
-stackOf-flatten (times q n a b) rs c st e =
-    simp (append-assoc, stackOf-flatten a (endRec ∷ (flatten b ++ rs)) nil ((b ⧺ c) ∷ st) (rw (stackOf-flatten b rs c st e)), ⧺-nil)
+stackOf-linearise (while q n a b) rs c st e =
+    simp (append-assoc, stackOf-linearise a (endRec ∷ (linearise b ++ rs)) nil ((b ⧺ c) ∷ st) (rw (stackOf-linearise b rs c st e)), ⧺-nil)
+stackOf-linearise (times q n a b) rs c st e =
+    simp (append-assoc, stackOf-linearise a (endRec ∷ (linearise b ++ rs)) nil ((b ⧺ c) ∷ st) (rw (stackOf-linearise b rs c st e)), ⧺-nil)
 
-pub treeOf-flatten : (b : Block) → treeOf (flatten b) ≡ b
+pub treeOf-linearise : (b : Block) → treeOf (linearise b) ≡ b
 unfolding treeOf stackOf
-treeOf-flatten b = ap top (simp (append-nil, ⧺-nil) at (stackOf-flatten b [] nil [] refl))
+treeOf-linearise b = ap top (simp (append-nil, ⧺-nil) at (stackOf-linearise b [] nil [] refl))

@@ -1,191 +1,81 @@
--- Document 01, "Why a call is turned down", rows 6 and 1 to 5: settings and files at the limits, and what timing them answers.
+-- Document 01, "Why a call is turned down", rows 6 and 1 to 5: settings and files at the limits and past them, and what timing them answers.
 use Prim.Native.Nat.{ℕ}
 use mathlib.Core.Path.{_≡_, refl}
-use mathlib.Core.List.{List, [], _∷_, _++_}
+use mathlib.Core.List.{List, [], _∷_, _++_, map}
 use lib.ListN.{replicate}
 use Rattle.model.specs.declared.Form.{Form}
 use Rattle.model.specs.declared.Form.the-variants.{Task, Equalised, Laid}
-use Rattle.model.specs.Records.{firstRecords, records, SKIP, SET, READ, WRITE, IF, ELSE, WHILE, END, TIMES, CHECK, BEAT, SAVE}
+use Rattle.model.specs.Records.{firstRecords, records, SKIP, SET, READ, IF, ELSE, WHILE, END, TIMES, CHECK, BEAT, SAVE}
 use Rattle.model.specs.Settings.{settingsOf, badSettings}
 use Rattle.model.specs.Trees.{stackOf, treeOf, fileTree}
 use Rattle.model.specs.Refusals.{fieldsFit, scan, fault}
 use Rattle.model.specs.Answers.{Verdict}
 use Rattle.model.specs.Replies.{reading, timeReply}
-use Rattle.model.proofs.Bench.{row, file, settings, junk, said}
-
--- settings by their numbers: the five ticks, K, H, and the lower three bytes of P
-abbrev rack-of : ℕ → ℕ → ℕ → ℕ → ℕ → ℕ → ℕ → ℕ → ℕ → ℕ → List ℕ
-rack-of a b c d e k h p q r = a ∷ b ∷ c ∷ d ∷ e ∷ k ∷ h ∷ 0 ∷ p ∷ q ∷ r ∷ 0 ∷ []
-
--- P 1,000,000
-abbrev long-period : List ℕ
-long-period = rack-of 3 3 3 3 10 4 20 64 66 15
-
--- rows whose bytes 4 to 7, or 8 to 11, hold the number with these three lower bytes
-abbrev valued : ℕ → ℕ → ℕ → ℕ → List ℕ
-valued k a b c = k ∷ 0 ∷ 0 ∷ 0 ∷ a ∷ b ∷ c ∷ 0 ∷ 0 ∷ 0 ∷ 0 ∷ 0 ∷ []
-
-abbrev counted : ℕ → ℕ → ℕ → ℕ → List ℕ
-counted k a b c = k ∷ 0 ∷ 0 ∷ 0 ∷ 0 ∷ 0 ∷ 0 ∷ 0 ∷ a ∷ b ∷ c ∷ 0 ∷ []
+use Rattle.model.proofs.Bench.{row, file, junk, said}
 
 -- an answer, and what the table says: the number and value, or 0 and the values of a finished result
 pub record Case : Type 0 where
   pub answer : Verdict
   pub expects : List ℕ
 
-abbrev pub answered : List Case → List (List ℕ)
-answered [] = []
-answered (c ∷ cs) = said (c .answer) ∷ answered cs
+infix 30 _says_
+abbrev pub _says_ : Verdict → List ℕ → Case
+_says_ r xs = record { answer = r; expects = xs }
 
-abbrev pub expected : List Case → List (List ℕ)
-expected [] = []
-expected (c ∷ cs) = c .expects ∷ expected cs
+abbrev pub Answered : List Case → Type 0
+Answered cs = map (λ (c : Case). said (c .answer)) cs ≡ map (λ (c : Case). c .expects) cs
 
--- timing a file of these rows
-abbrev turn : List ℕ → Form → List (List ℕ) → List ℕ → Case
-turn s f rs a = record { answer = timeReply s f (file rs); expects = a }
+-- settings of ticks and K n, H 20, and P with these three lower bytes
+abbrev rack : ℕ → ℕ → ℕ → ℕ → List ℕ
+rack n p q r = n ∷ n ∷ n ∷ n ∷ n ∷ n ∷ 20 ∷ 0 ∷ p ∷ q ∷ r ∷ 0 ∷ []
 
--- "settings not 12 bytes, or a number outside its range": before anything of the file
-pub settings-turns : List Case
-settings-turns =
-    turn (3 ∷ 3 ∷ 3 ∷ []) Task (junk 5 ∷ []) (6 ∷ [])
-    ∷ turn (settings 0 100) Task [] (6 ∷ [])
-    ∷ turn (settings 20 0) Task [] (6 ∷ [])
-    ∷ turn (rack-of 3 3 3 3 10 0 20 100 0 0) Task [] (6 ∷ [])
-    ∷ turn (rack-of 3 3 3 3 10 4 20 65 66 15) Task [] (6 ∷ [])
-    ∷ turn long-period Task [] (0 ∷ 0 ∷ [])
-    ∷ turn (rack-of 0 3 3 3 10 4 20 100 0 0) Task [] (6 ∷ [])
-    ∷ turn (rack-of 3 0 3 3 10 4 20 100 0 0) Task [] (6 ∷ [])
-    ∷ turn (rack-of 3 3 0 3 10 4 20 100 0 0) Task [] (6 ∷ [])
-    ∷ turn (rack-of 3 3 3 0 10 4 20 100 0 0) Task [] (6 ∷ [])
-    ∷ turn (rack-of 3 3 3 3 0 4 20 100 0 0) Task [] (6 ∷ [])
-    ∷ turn (rack-of 1 1 1 1 1 1 1 1 0 0) Task [] (0 ∷ 0 ∷ [])
-    ∷ turn (junk 11) Task [] (6 ∷ [])
-    ∷ turn (junk 13) Task [] (6 ∷ [])
+-- a file of these rows, timed with P 1,000,000
+abbrev time : Form → List (List ℕ) → Verdict
+time f rs = timeReply (rack 3 64 66 15) f (file rs)
+
+-- rows of a kind alone, and of a count with these three lower bytes
+abbrev bare : ℕ → List ℕ
+bare k = row k 0 0 0 0 0
+
+abbrev counted : ℕ → ℕ → ℕ → ℕ → List ℕ
+counted k a b c = k ∷ 0 ∷ 0 ∷ 0 ∷ 0 ∷ 0 ∷ 0 ∷ 0 ∷ a ∷ b ∷ c ∷ 0 ∷ []
+
+abbrev skips : ℕ → List (List ℕ)
+skips n = replicate n (row SKIP 0 0 0 0 1)
+
+-- on a line, at the limit and past it
+pub turns : List Case
+turns =
+    -- "settings not 12 bytes, or a number outside its range"
+    (timeReply (rack 1 1 0 0) Task [] says 0 ∷ 0 ∷ []) ∷ (timeReply (rack 0 1 0 0) Task [] says 6 ∷ [])
+    ∷ (timeReply (rack 1 64 66 15) Task [] says 0 ∷ 0 ∷ []) ∷ (timeReply (rack 1 65 66 15) Task [] says 6 ∷ [])
+    ∷ (timeReply (junk 13) Task (junk 5) says 6 ∷ [])
+    -- "file not whole records, or too many"
+    ∷ (time Task (skips 256) says 0 ∷ 256 ∷ []) ∷ (time Task (skips 257) says 1 ∷ 3084 ∷ [])
+    ∷ (time Laid (skips 5461) says 0 ∷ 5461 ∷ []) ∷ (time Equalised (skips 5462) says 1 ∷ 65544 ∷ [])
+    ∷ (time Laid (junk 13 ∷ []) says 1 ∷ 13 ∷ [])
+    -- "kind not of this file"
+    ∷ (time Task (counted WHILE 1 0 0 ∷ bare END ∷ []) says 0 ∷ 2 ∷ []) ∷ (time Task (counted TIMES 1 0 0 ∷ bare END ∷ []) says 2 ∷ 0 ∷ [])
+    ∷ (time Equalised (counted TIMES 1 0 0 ∷ bare END ∷ []) says 0 ∷ 1 ∷ []) ∷ (time Equalised (counted WHILE 1 0 0 ∷ []) says 2 ∷ 0 ∷ [])
+    ∷ (time Laid (bare CHECK ∷ bare BEAT ∷ bare SAVE ∷ []) says 0 ∷ 7 ∷ []) ∷ (time Laid (bare SAVE ∷ bare 13 ∷ []) says 2 ∷ 1 ∷ [])
+    -- "a field out of range or an unused byte not 0"
+    ∷ (time Task (row SET 19 15 15 15 0 ∷ []) says 0 ∷ 3 ∷ []) ∷ (time Task (row SET 20 0 0 0 0 ∷ []) says 3 ∷ 0 ∷ [])
+    ∷ (time Task (row SET 1 16 0 0 0 ∷ []) says 3 ∷ 0 ∷ []) ∷ (time Task (row SET 0 0 1 0 0 ∷ []) says 3 ∷ 0 ∷ [])
+    ∷ (time Task (row READ 0 15 7 0 0 ∷ []) says 0 ∷ 3 ∷ []) ∷ (time Task (row READ 0 0 8 0 0 ∷ []) says 3 ∷ 0 ∷ [])
+    ∷ (time Laid (row CHECK 21 0 15 15 0 ∷ []) says 0 ∷ 1 ∷ []) ∷ (time Laid (row CHECK 22 0 0 0 0 ∷ []) says 3 ∷ 0 ∷ [])
+    ∷ (time Task (counted SKIP 64 66 15 ∷ []) says 0 ∷ 1000000 ∷ []) ∷ (time Task (counted SKIP 65 66 15 ∷ []) says 3 ∷ 0 ∷ [])
+    ∷ (time Task (counted WHILE 255 255 0 ∷ bare END ∷ []) says 0 ∷ 65536 ∷ []) ∷ (time Task (counted WHILE 0 0 1 ∷ []) says 3 ∷ 0 ∷ [])
+    ∷ (time Laid (bare SAVE ∷ []) says 0 ∷ 3 ∷ []) ∷ (time Laid (row SAVE 0 0 0 1 0 ∷ []) says 3 ∷ 0 ∷ [])
+    -- "ELSE whose innermost open block is not an IF, END with no block open, IF closed with no ELSE, second ELSE, or a block open at the end"
+    ∷ (time Task (bare IF ∷ bare ELSE ∷ bare END ∷ []) says 0 ∷ 1 ∷ []) ∷ (time Task (counted WHILE 1 0 0 ∷ bare ELSE ∷ []) says 4 ∷ 1 ∷ [])
+    ∷ (time Task (bare END ∷ bare SAVE ∷ []) says 4 ∷ 0 ∷ []) ∷ (time Task (bare IF ∷ bare END ∷ []) says 4 ∷ 1 ∷ [])
+    ∷ (time Task (bare IF ∷ bare ELSE ∷ bare ELSE ∷ bare END ∷ []) says 4 ∷ 2 ∷ [])
+    -- the same, and "nesting too deep"; in a task 8 and 9 are bench tasks
+    ∷ (time Laid (replicate 16 (bare IF)) says 4 ∷ 16 ∷ []) ∷ (time Laid (replicate 17 (bare IF)) says 5 ∷ 16 ∷ [])
+    -- "2 to 5 are tried in turn at each record"
+    ∷ (time Task (replicate 8 (bare IF) ++ row IF 6 0 0 0 0 ∷ []) says 3 ∷ 8 ∷ [])
     ∷ []
 
-pub settings-turns-answered : answered settings-turns ≡ expected settings-turns
-unfolding settings-turns firstRecords records settingsOf badSettings stackOf treeOf fileTree fieldsFit scan fault reading timeReply
-settings-turns-answered = refl
-
--- "file not whole records, or too many"
-pub length-turns : List Case
-length-turns =
-    turn long-period Task (replicate 256 (row SKIP 0 0 0 0 1)) (0 ∷ 256 ∷ [])
-    ∷ turn long-period Task (replicate 257 (row SKIP 0 0 0 0 1)) (1 ∷ 3084 ∷ [])
-    ∷ turn long-period Laid (replicate 5461 (row SKIP 0 0 0 0 1)) (0 ∷ 5461 ∷ [])
-    ∷ turn long-period Equalised (replicate 5462 (row SKIP 0 0 0 0 1)) (1 ∷ 65544 ∷ [])
-    ∷ turn long-period Laid (junk 13 ∷ []) (1 ∷ 13 ∷ [])
-    ∷ []
-
-pub length-turns-answered : answered length-turns ≡ expected length-turns
-unfolding length-turns firstRecords records settingsOf badSettings stackOf treeOf fileTree fieldsFit scan fault reading timeReply
-length-turns-answered = refl
-
--- "kind not of this file"
-pub kind-turns : List Case
-kind-turns =
-    turn (settings 20 100) Task (row 0 0 0 0 0 0 ∷ []) (2 ∷ 0 ∷ [])
-    ∷ turn (settings 20 100) Task (row TIMES 0 0 0 0 0 ∷ []) (2 ∷ 0 ∷ [])
-    ∷ turn (settings 20 100) Task (row SAVE 0 0 0 0 0 ∷ []) (2 ∷ 0 ∷ [])
-    ∷ turn (settings 20 100) Equalised (row WHILE 0 0 0 0 0 ∷ []) (2 ∷ 0 ∷ [])
-    ∷ turn (settings 20 100) Equalised (row CHECK 0 0 0 0 0 ∷ []) (2 ∷ 0 ∷ [])
-    ∷ turn (settings 20 100) Laid (row WHILE 0 0 0 0 0 ∷ []) (2 ∷ 0 ∷ [])
-    ∷ turn (settings 20 100) Laid (row TIMES 0 0 0 0 0 ∷ []) (2 ∷ 0 ∷ [])
-    ∷ turn (settings 20 100) Laid (row 13 0 0 0 0 0 ∷ []) (2 ∷ 0 ∷ [])
-    ∷ turn (settings 20 100) Laid (row CHECK 0 0 0 0 0 ∷ row BEAT 0 0 0 0 0 ∷ row SAVE 0 0 0 0 0 ∷ []) (0 ∷ 14 ∷ [])
-    ∷ []
-
-pub kind-turns-answered : answered kind-turns ≡ expected kind-turns
-unfolding kind-turns firstRecords records settingsOf badSettings stackOf treeOf fileTree fieldsFit scan fault reading timeReply
-kind-turns-answered = refl
-
--- "a field out of range or an unused byte not 0"
-pub field-turns : List Case
-field-turns =
-    turn (settings 20 100) Task (row SKIP 0 0 0 0 0 ∷ []) (3 ∷ 0 ∷ [])
-    ∷ turn (settings 20 100) Task (row SKIP 1 0 0 0 1 ∷ []) (3 ∷ 0 ∷ [])
-    ∷ turn (settings 20 100) Task (row SET 4 0 0 0 0 ∷ []) (3 ∷ 0 ∷ [])
-    ∷ turn (settings 20 100) Task (row SET 15 0 0 0 0 ∷ []) (3 ∷ 0 ∷ [])
-    ∷ turn (settings 20 100) Task (row SET 20 0 0 0 0 ∷ []) (3 ∷ 0 ∷ [])
-    ∷ turn (settings 20 100) Task (row SET 19 15 15 15 0 ∷ []) (0 ∷ 3 ∷ [])
-    ∷ turn (settings 20 100) Task (row SET 1 16 0 0 0 ∷ []) (3 ∷ 0 ∷ [])
-    ∷ turn (settings 20 100) Task (row SET 1 0 16 0 0 ∷ []) (3 ∷ 0 ∷ [])
-    ∷ turn (settings 20 100) Task (row SET 17 0 0 16 0 ∷ []) (3 ∷ 0 ∷ [])
-    ∷ turn (settings 20 100) Task (row SET 0 0 1 0 0 ∷ []) (3 ∷ 0 ∷ [])
-    ∷ turn (settings 20 100) Task (row SET 16 0 1 0 0 ∷ []) (3 ∷ 0 ∷ [])
-    ∷ turn (settings 20 100) Task (row SET 0 0 0 0 1 ∷ []) (3 ∷ 0 ∷ [])
-    ∷ turn (settings 20 100) Task (row READ 0 15 7 0 0 ∷ []) (0 ∷ 3 ∷ [])
-    ∷ turn (settings 20 100) Task (row READ 0 16 0 0 0 ∷ []) (3 ∷ 0 ∷ [])
-    ∷ turn (settings 20 100) Task (row READ 0 0 8 0 0 ∷ []) (3 ∷ 0 ∷ [])
-    ∷ turn (settings 20 100) Task (row READ 0 0 0 0 1 ∷ []) (3 ∷ 0 ∷ [])
-    ∷ turn (settings 20 100) Task (row READ 0 0 0 1 0 ∷ []) (3 ∷ 0 ∷ [])
-    ∷ turn (settings 20 100) Task (row WRITE 1 0 0 0 0 ∷ []) (3 ∷ 0 ∷ [])
-    ∷ turn (settings 20 100) Task (row IF 6 0 0 0 0 ∷ []) (3 ∷ 0 ∷ [])
-    ∷ turn (settings 20 100) Task (row IF 22 0 0 0 0 ∷ []) (3 ∷ 0 ∷ [])
-    ∷ turn (settings 20 100) Task (row IF 0 1 0 0 0 ∷ []) (3 ∷ 0 ∷ [])
-    ∷ turn (settings 20 100) Task (row IF 0 0 16 0 0 ∷ []) (3 ∷ 0 ∷ [])
-    ∷ turn (settings 20 100) Task (row IF 16 0 0 16 0 ∷ []) (3 ∷ 0 ∷ [])
-    ∷ turn (settings 20 100) Task (row IF 0 0 0 0 1 ∷ []) (3 ∷ 0 ∷ [])
-    ∷ turn (settings 20 100) Task (row WHILE 0 0 0 0 0 ∷ []) (3 ∷ 0 ∷ [])
-    ∷ turn (settings 20 100) Equalised (row TIMES 0 0 0 0 0 ∷ []) (3 ∷ 0 ∷ [])
-    ∷ turn (settings 20 100) Task (row END 0 0 0 1 0 ∷ []) (3 ∷ 0 ∷ [])
-    ∷ turn (settings 20 100) Laid (row SAVE 0 0 0 1 0 ∷ []) (3 ∷ 0 ∷ [])
-    ∷ turn (settings 20 100) Laid (row CHECK 0 0 0 0 1 ∷ []) (3 ∷ 0 ∷ [])
-    ∷ turn (settings 20 100) Laid (row BEAT 0 0 0 0 1 ∷ []) (3 ∷ 0 ∷ [])
-    ∷ turn long-period Task (counted SKIP 64 66 15 ∷ []) (0 ∷ 1000000 ∷ [])
-    ∷ turn long-period Task (counted SKIP 65 66 15 ∷ []) (3 ∷ 0 ∷ [])
-    ∷ turn long-period Task (counted WHILE 255 255 0 ∷ row END 0 0 0 0 0 ∷ []) (0 ∷ 65536 ∷ [])
-    ∷ turn long-period Task (counted WHILE 0 0 1 ∷ row END 0 0 0 0 0 ∷ []) (3 ∷ 0 ∷ [])
-    ∷ turn long-period Equalised (counted TIMES 255 255 0 ∷ row END 0 0 0 0 0 ∷ []) (0 ∷ 1 ∷ [])
-    ∷ turn long-period Equalised (counted TIMES 0 0 1 ∷ row END 0 0 0 0 0 ∷ []) (3 ∷ 0 ∷ [])
-    ∷ turn long-period Laid (valued BEAT 64 66 15 ∷ []) (0 ∷ 3 ∷ [])
-    ∷ turn long-period Laid (valued BEAT 65 66 15 ∷ []) (3 ∷ 0 ∷ [])
-    ∷ turn (settings 20 100) Task (row SET 3 15 15 255 0 ∷ []) (0 ∷ 3 ∷ [])
-    ∷ turn (settings 20 100) Task (row IF 5 0 15 255 0 ∷ row ELSE 0 0 0 0 0 ∷ row END 0 0 0 0 0 ∷ []) (0 ∷ 1 ∷ [])
-    ∷ turn (settings 20 100) Task (row IF 21 0 15 15 0 ∷ row ELSE 0 0 0 0 0 ∷ row END 0 0 0 0 0 ∷ []) (0 ∷ 1 ∷ [])
-    ∷ turn (settings 20 100) Task (row WRITE 0 15 7 0 0 ∷ []) (0 ∷ 3 ∷ [])
-    ∷ []
-
-pub field-turns-answered : answered field-turns ≡ expected field-turns
-unfolding field-turns firstRecords records settingsOf badSettings stackOf treeOf fileTree fieldsFit scan fault reading timeReply
-field-turns-answered = refl
-
--- "ELSE whose innermost open block is not an IF, END with no block open, IF closed with no ELSE, second ELSE, or a block open at the end"
-pub block-turns : List Case
-block-turns =
-    turn (settings 20 100) Task (row ELSE 0 0 0 0 0 ∷ []) (4 ∷ 0 ∷ [])
-    ∷ turn (settings 20 100) Task (row WHILE 0 0 0 0 2 ∷ row ELSE 0 0 0 0 0 ∷ []) (4 ∷ 1 ∷ [])
-    ∷ turn (settings 20 100) Task (row IF 0 0 0 0 0 ∷ row WHILE 0 0 0 0 2 ∷ row ELSE 0 0 0 0 0 ∷ []) (4 ∷ 2 ∷ [])
-    ∷ turn (settings 20 100) Equalised (row TIMES 0 0 0 0 2 ∷ row ELSE 0 0 0 0 0 ∷ []) (4 ∷ 1 ∷ [])
-    ∷ turn (settings 20 100) Task (row END 0 0 0 0 0 ∷ []) (4 ∷ 0 ∷ [])
-    ∷ turn (settings 20 100) Task (row SKIP 0 0 0 0 1 ∷ row WHILE 0 0 0 0 2 ∷ row END 0 0 0 0 0 ∷ row END 0 0 0 0 0 ∷ []) (4 ∷ 3 ∷ [])
-    ∷ turn (settings 20 100) Task (row IF 0 0 0 0 0 ∷ row END 0 0 0 0 0 ∷ []) (4 ∷ 1 ∷ [])
-    ∷ turn (settings 20 100) Task (row IF 0 0 0 0 0 ∷ row ELSE 0 0 0 0 0 ∷ row ELSE 0 0 0 0 0 ∷ []) (4 ∷ 2 ∷ [])
-    ∷ turn (settings 20 100) Task (row IF 0 0 0 0 0 ∷ []) (4 ∷ 1 ∷ [])
-    ∷ turn (settings 20 100) Task (row IF 0 0 0 0 0 ∷ row ELSE 0 0 0 0 0 ∷ []) (4 ∷ 2 ∷ [])
-    ∷ turn (settings 20 100) Task (row WHILE 0 0 0 0 2 ∷ row SKIP 0 0 0 0 1 ∷ []) (4 ∷ 2 ∷ [])
-    ∷ turn (settings 20 100) Task (row IF 0 0 0 0 0 ∷ row ELSE 0 0 0 0 0 ∷ row END 0 0 0 0 0 ∷ []) (0 ∷ 1 ∷ [])
-    ∷ []
-
-pub block-turns-answered : answered block-turns ≡ expected block-turns
-unfolding block-turns firstRecords records settingsOf badSettings stackOf treeOf fileTree fieldsFit scan fault reading timeReply
-block-turns-answered = refl
-
--- "2 to 5 are tried in turn at each record and the first record at fault decides"
-pub order-turns : List Case
-order-turns =
-    turn (settings 20 100) Task (row TIMES 9 9 9 9 0 ∷ []) (2 ∷ 0 ∷ [])
-    ∷ turn (settings 20 100) Task (row ELSE 1 0 0 0 0 ∷ []) (3 ∷ 0 ∷ [])
-    ∷ turn (settings 20 100) Task (row END 0 0 0 0 0 ∷ row SAVE 0 0 0 0 0 ∷ []) (4 ∷ 0 ∷ [])
-    ∷ turn (settings 20 100) Task (row SKIP 0 0 0 0 0 ∷ row SAVE 0 0 0 0 0 ∷ []) (3 ∷ 0 ∷ [])
-    ∷ turn (settings 20 100) Task (replicate 8 (row IF 0 0 0 0 0) ++ row IF 6 0 0 0 0 ∷ []) (3 ∷ 8 ∷ [])
-    ∷ turn (settings 20 100) Task (replicate 9 (row IF 0 0 0 0 0)) (5 ∷ 8 ∷ [])
-    ∷ turn (settings 20 100) Task (replicate 9 (row WHILE 0 0 0 0 2)) (5 ∷ 8 ∷ [])
-    ∷ turn (settings 20 100) Equalised (replicate 16 (row IF 0 0 0 0 0)) (4 ∷ 16 ∷ [])
-    ∷ turn (settings 20 100) Laid (replicate 17 (row IF 0 0 0 0 0)) (5 ∷ 16 ∷ [])
-    ∷ []
-
-pub order-turns-answered : answered order-turns ≡ expected order-turns
-unfolding order-turns firstRecords records settingsOf badSettings stackOf treeOf fileTree fieldsFit scan fault reading timeReply
-order-turns-answered = refl
+pub turns-answered : Answered turns
+unfolding turns firstRecords records settingsOf badSettings stackOf treeOf fileTree fieldsFit scan fault reading timeReply
+turns-answered = refl

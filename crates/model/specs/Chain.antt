@@ -7,11 +7,11 @@ use lib.Dec.{eqb}
 use lib.ListN.{length, getD, take}
 use Rattle.model.specs.declared.Form.{Form}
 use Rattle.model.specs.declared.Form.the-variants.{Task, Laid}
-use Rattle.model.specs.Runs.{Buffers}
-use Rattle.model.specs.Stopping.{imageOf}
+use Rattle.model.specs.Runs.{Step, Buffers}
+use Rattle.model.specs.Stopping.{imageOf, start}
 use Rattle.model.specs.Answers.{Verdict, finished, refused}
 use Rattle.model.specs.Replies.{equaliseReply, equaliseOut, layOutReply, layOutOut, Loan, runReply, runBuffers}
-use Rattle.model.specs.Replies.{stopReply, stopBuffers, stopImage, resumeReply, resumeBuffers, restartReply, restartBuffers}
+use Rattle.model.specs.Replies.{stopReply, stopBuffers, stopImage, takenUp, resumeReply, resumeBuffers, restartReply, restartBuffers}
 
 -- whether a call was not refused, and a value of its answer
 abbrev pub isFinished : Verdict → Bool
@@ -79,7 +79,7 @@ layingOut k = layOutReply (k .settings) (equalisedFile k) (length (k .laidRoom))
 abbrev pub laidFile : Chain → List ℕ
 laidFile k = take (valueAt 0 (layingOut k)) (layOutOut (k .settings) (equalisedFile k) (k .laidRoom))
 
--- "Run .. the task as written on the first set, and its prepared form on the second": what each run is handed over
+-- demand 3: "Run .. the task as written on the first set, and its prepared form on the second": what each run is handed over
 abbrev pub lend : List ℕ → Form → List ℕ → List ℕ → List ℕ → Outputs → Loan
 lend s f file ins v o = record { settings = s; form = f; file = file; inputs = ins; buffers = record { variables = v; levels = o .levels; marks = o .marks } }
 
@@ -121,7 +121,12 @@ takenUpBuffers c image spare stop =
     (resumeBuffers (again c spare (outputsLeft c image stop)) (stopImage c image stop))
     (restartBuffers (again c (c .buffers .variables) (outputsLeft c image stop)))
 
--- "The ticks run twice are the stop tick less the end of the last finished checkpoint, or the stop tick itself if there is none"
+-- its steps: "one taken up begins with its image's index, tick and variables, or, without an image, as said under stopping"
+abbrev pub takenUpSteps : Loan → List ℕ → ℕ → List Step
+takenUpSteps c image stop =
+    cond (hasImage c image stop) (takenUp c (imageOf (stopImage c image stop))) (takenUp c (start (c .buffers .variables)))
+
+-- demand 3: "The ticks run twice are the stop tick less the end of the last finished checkpoint, or the stop tick itself if there is none"
 abbrev pub imageTick : Loan → List ℕ → ℕ → ℕ
 imageTick c image stop = cond (hasImage c image stop) (imageOf (stopImage c image stop) .tick) 0
 
@@ -144,7 +149,7 @@ runEnd c = endOf (runReply c) (runBuffers c)
 abbrev pub takenUpEnd : Loan → List ℕ → List ℕ → ℕ → End
 takenUpEnd c image spare stop = endOf (takingUp c image spare stop) (takenUpBuffers c image spare stop)
 
--- "Run, by the meanings in document 01, the task as written on the first set, and its prepared form on the second, whole or stopped
+-- demand 3: "Run, by the meanings in document 01, the task as written on the first set, and its prepared form on the second, whole or stopped
 -- once .. and taken up"; and the task as written on the second set
 abbrev pub plainEndOne : Chain → End
 plainEndOne k = runEnd (plainLoan k (k .one) (k .plainOne))

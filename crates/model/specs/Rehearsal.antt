@@ -9,17 +9,12 @@ use lib.ListN.{length, replicate}
 use Rattle.model.specs.Settings.{settingsOf}
 use Rattle.model.specs.Runs.{Buffers}
 use Rattle.model.specs.Answers.{Verdict, finished, refused, bit, rehearsed}
-use Rattle.model.specs.Replies.{turnDown, Loan, stepsOf, runReply, stopReply}
+use Rattle.model.specs.Replies.{turnDown, andThen, Loan, stepsOf, runReply, stopReply}
 use Rattle.model.specs.Timeline.{endedBy, lastSaveEnd}
 use Rattle.model.specs.Chain.{isFinished, valueAt, Set, Outputs, Chain, LentSet, equalising, layingOut, plainLoan, wholeLoan, stoppedLoan}
 use Rattle.model.specs.Chain.{hasImage, takingUp, takenUpBuffers, imageTick, End, endOf, runEnd, plainEndOne, plainEndTwo}
 use Rattle.model.specs.declared.Rehearsed.{Rehearsed}
 use Rattle.model.specs.declared.Stop.{Stop}
-
--- the first refusal in a chain of calls
-abbrev pub andThen : Verdict → Verdict → Verdict
-andThen (finished xs) next = next
-andThen (refused n xs) next = refused n xs
 
 -- ENDS
 
@@ -37,8 +32,8 @@ sameEnd a b =
 
 -- THE CHAIN
 
-abbrev pub set : List ℕ → List ℕ → Set
-set v ins = record { variables = v; inputs = ins }
+abbrev pub setOf : List ℕ → List ℕ → Set
+setOf v ins = record { variables = v; inputs = ins }
 
 -- its buffers are its own, and hold zeros before
 unfoldable pub room : List ℕ
@@ -101,19 +96,20 @@ rehearsal stop k =
 
 -- WHAT DEMAND 3 SAYS OF IT
 
--- the task was prepared without refusal, the sets have the table's lengths, and the stop is before the end
+-- "stopped once, at whichever tick before its end"
 abbrev pub Early : Stop → Chain → Type 0
 Early Stop.Never k = Unit {0}
 Early (Stop.At c) k = k .stop < valueAt 0 (runReply (wholeLoan k))
 
-pub record Prepared (stop : Stop) (k : Chain) : Type 0 where
+-- the task was prepared without refusal, the sets have the table's lengths, and the stop is before the end
+pub record Admitted (stop : Stop) (k : Chain) : Type 0 where
   pub equalised : isFinished (equalising k) ≡ true
   pub laid : isFinished (layingOut k) ≡ true
   pub one : LentSet (k .one)
   pub two : LentSet (k .two)
   pub early : Early stop k
 
--- "The ticks run twice are the stop tick less the end of the last finished checkpoint, or the stop tick itself if there is none, and always
+-- demand 3: "The ticks run twice are the stop tick less the end of the last finished checkpoint, or the stop tick itself if there is none, and always
 -- fewer than the checkpoint spacing in the settings."
 abbrev pub Twice : Stop → Chain → Verdict → Type 0
 Twice Stop.Never k r = Unit {0}
@@ -121,11 +117,11 @@ Twice (Stop.At c) k r =
     (valueAt 7 r ≡ k .stop - lastSaveEnd 0 0 (endedBy (k .stop) 0 (stepsOf (stoppedLoan k)))) × (valueAt 7 r < settingsOf (k .settings) .spacing * settingsOf (k .settings) .window)
 
 -- not refused once prepared, and alike exactly when the plain ends are
-pub record Unseen (stop : Stop) (k : Chain) (r : Verdict) : Type 0 where
+pub record Confirms (stop : Stop) (k : Chain) (r : Verdict) : Type 0 where
   pub finishes : isFinished r ≡ true
   pub alike : (valueAt 0 r ≡ 1) ↔ (plainEndOne k ≡ plainEndTwo k)
   pub twice : Twice stop k r
 
 pub record Rehearses (s task : List ℕ) (x y : Set) (stop : Stop) (r : Rehearsed) : Type 0 where
   pub reply : rehearsed r ≡ rehearsal stop (chain s task x y stop)
-  pub unseen : Prepared stop (chain s task x y stop) → Unseen stop (chain s task x y stop) (rehearsed r)
+  pub confirms : Admitted stop (chain s task x y stop) → Confirms stop (chain s task x y stop) (rehearsed r)

@@ -9,7 +9,7 @@ use Rattle.model.specs.declared.Form.{Form}
 use Rattle.model.specs.declared.Form.the-variants.{Task, Equalised}
 use Rattle.model.specs.Records.{bytes, kindAt, SAVE}
 use Rattle.model.specs.Settings.{settingsOf, badSettings}
-use Rattle.model.specs.Trees.{Block, size, flatten, fileTree}
+use Rattle.model.specs.Trees.{Block, size, linearise, fileTree}
 use Rattle.model.specs.Times.{time}
 use Rattle.model.specs.Runs.{Step, duration, overran, Buffers, leave, cleared, run}
 use Rattle.model.specs.Equalising.{equalise}
@@ -45,7 +45,7 @@ above s t = ltb (settingsOf s .period) t
 abbrev pub noRoom : ℕ → ℕ → Bool
 noRoom room n = ltb room (12 * n) || ltb 5461 n
 
--- "Left as it was: all", at a refusal
+-- "Left as it was" .. "all", at a refusal
 abbrev pub kept : {A : Type 0} → Verdict → A → A → A
 kept (finished xs) new old = new
 kept (refused n xs) new old = old
@@ -76,7 +76,7 @@ equaliseReply s task room =
     (finished (12 * n ∷ fileTime s task ∷ []))))
 
 unfoldable pub equaliseOut : List ℕ → List ℕ → List ℕ → List ℕ
-equaliseOut s task out = kept (equaliseReply s task (length out)) (over (bytes (flatten (equalisedTree s task))) out) out
+equaliseOut s task out = kept (equaliseReply s task (length out)) (over (bytes (linearise (equalisedTree s task))) out) out
 
 -- LAYING OUT
 
@@ -96,7 +96,29 @@ layOutReply s file room =
     (finished (12 * n ∷ laidTotal s file ∷ [])))))
 
 unfoldable pub layOutOut : List ℕ → List ℕ → List ℕ → List ℕ
-layOutOut s file out = kept (layOutReply s file (length out)) (over (bytes (flatten (laidTree s file))) out) out
+layOutOut s file out = kept (layOutReply s file (length out)) (over (bytes (linearise (laidTree s file))) out) out
+
+-- PREPARING
+
+-- calls one after another, up to the first that refuses
+abbrev pub andThen : Verdict → Verdict → Verdict
+andThen (finished xs) next = next
+andThen (refused n xs) next = refused n xs
+
+-- room for the longest file, 5,461 records
+abbrev pub fullRoom : ℕ
+fullRoom = 65532
+
+abbrev pub equalisedOf : List ℕ → List ℕ → List ℕ
+equalisedOf s task = bytes (linearise (equalisedTree s task))
+
+-- "prepared means equalised and then laid out", "Laying out gets what equalising wrote": for that there is always room. Rows 6, 1 to 5 and 8
+-- of equalising, and then 7, 8 and 9 of laying out.
+unfoldable pub prepareReply : List ℕ → List ℕ → ℕ → Verdict
+prepareReply s task room = andThen (equaliseReply s task fullRoom) (layOutReply s (equalisedOf s task) room)
+
+unfoldable pub prepareOut : List ℕ → List ℕ → List ℕ → List ℕ
+prepareOut s task out = kept (prepareReply s task (length out)) (over (bytes (linearise (laidTree s (equalisedOf s task)))) out) out
 
 -- RUNNING
 
@@ -122,8 +144,8 @@ badBuffers c =
     || not (eqb (length (c .buffers .levels)) 8) || not (eqb (length (c .buffers .marks)) 8)
 
 -- "or image buffer not 72 bytes" (row 10)
-abbrev pub badImage : List ℕ → Bool
-badImage image = not (eqb (length image) 72)
+abbrev pub badImageLength : List ℕ → Bool
+badImageLength image = not (eqb (length image) 72)
 
 -- rows 6, 1 to 5, 8 and 10
 unfoldable pub ready : Loan → Bool → Verdict → Verdict
@@ -160,7 +182,7 @@ isSaved (saved m) = true
 -- "stop tick at or past the run's end" (row 12)
 unfoldable pub stopReply : Loan → List ℕ → ℕ → Verdict
 stopReply c image stop =
-    ready c (badImage image)
+    ready c (badImageLength image)
     (turnDown 12 (leb (duration (stepsOf c)) stop)
     (finished (stop ∷ 0 ∷ bit (isSaved (imageAt c stop)) ∷ [])))
 
@@ -196,7 +218,7 @@ strayImage c m = not (afterSave (c .file) (m .index)) || above (c .settings) (m 
 
 unfoldable pub resumeReply : Loan → List ℕ → Verdict
 resumeReply c image =
-    ready c (badImage image) (turnDown 11 (strayImage c (imageOf image)) (ended (imageOf image .tick) (takenUp c (imageOf image))))
+    ready c (badImageLength image) (turnDown 11 (strayImage c (imageOf image)) (ended (imageOf image .tick) (takenUp c (imageOf image))))
 
 unfoldable pub resumeBuffers : Loan → List ℕ → Buffers
 resumeBuffers c image = kept (resumeReply c image) (takenBuffers c (imageOf image)) (c .buffers)

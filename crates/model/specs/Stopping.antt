@@ -65,6 +65,7 @@ rest (branch q a d b) (suc j) =
 rest (while q n a b) j = while q n a b
 rest (times q n a b) j = times q n a b
 
--- "one taken up begins with its image's index, tick and variables, or, without an image, as said under stopping"
+-- "one taken up begins with its image's index, tick and variables, or, without an image, as said under stopping". Behind a side that is left, a
+-- step's index is not its record's: nothing reads it, since "Only a stopped run writes an image" and taking up "is not stopped again".
 unfoldable pub takeUp : Settings → List ℕ → Block → Image → List Step
 takeUp σ ins b m = run σ ins (rest b (m .index)) (m .index) (m .variables)

@@ -1,18 +1,18 @@
 -- Document 01, "Laying out" and "Stopping and taking up", as lists: the ticks, BEATs and steps of a run that their sentences single out.
-use Prim.Native.Nat.{ℕ, zero, suc, _+_, _%_}
+use Prim.Native.Nat.{ℕ, zero, suc, _+_, _-_, _%_}
 use mathlib.Core.Path.{_≡_}
 use mathlib.Core.Bool.{Bool, true, cond}
 use mathlib.Core.List.{List, [], _∷_, _++_}
 use lib.Dec.{eqb, leb}
 use Rattle.model.specs.Runs.{Effect, nothing, assigns, outputs, beats, saves, overruns, Step, isBeat, isSave, gather}
 
--- of the n ticks from t on those that p picks, and the multiples of h below n
+-- of the n ticks from t on those that p picks, and the multiples of h from u on and below n
 abbrev pub picks : (ℕ → Bool) → ℕ → ℕ → List ℕ
 picks p t zero = []
 picks p t (suc n) = cond (p t) (t ∷ []) [] ++ picks p (t + 1) n
 
-abbrev pub multiples : ℕ → ℕ → List ℕ
-multiples h n = picks (λ t. eqb (t % h) 0) 0 n
+abbrev pub multiples : ℕ → ℕ → ℕ → List ℕ
+multiples h u n = picks (λ t. eqb (t % h) 0) u (n - u)
 
 -- the start tick and the value of each BEAT among steps of which the first begins at tick t
 abbrev pub beatAt : ℕ → Effect → List (ℕ × ℕ)

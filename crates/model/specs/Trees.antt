@@ -82,13 +82,13 @@ abbrev pub endRec : Rec
 endRec = rec END 0 0 0 0 0
 
 -- the records of a block
-unfoldable pub flatten : Block → List Rec
-flatten nil = []
-flatten (skip n b) = skipRec n ∷ flatten b
-flatten (act p b) = actRec p ∷ flatten b
-flatten (branch q a d b) = testRec IF q 0 ∷ (flatten a ++ elseRec ∷ (flatten d ++ endRec ∷ flatten b))
-flatten (while q n a b) = testRec WHILE q n ∷ (flatten a ++ endRec ∷ flatten b)
-flatten (times q n a b) = testRec TIMES q n ∷ (flatten a ++ endRec ∷ flatten b)
+unfoldable pub linearise : Block → List Rec
+linearise nil = []
+linearise (skip n b) = skipRec n ∷ linearise b
+linearise (act p b) = actRec p ∷ linearise b
+linearise (branch q a d b) = testRec IF q 0 ∷ (linearise a ++ elseRec ∷ (linearise d ++ endRec ∷ linearise b))
+linearise (while q n a b) = testRec WHILE q n ∷ (linearise a ++ endRec ∷ linearise b)
+linearise (times q n a b) = testRec TIMES q n ∷ (linearise a ++ endRec ∷ linearise b)
 
 -- The tree of records, read from the last record to the first with a stack: its top is the block up to the next ELSE or END that
 -- closes a block opened further left, and below it stands the block behind each such ELSE or END.

@@ -76,6 +76,23 @@ pub enum Resumed {
     Refused(Refusal),
 }
 
+// A line of a listing: the start tick and the kind of a record, and four numbers after its name, of which the first `count` are printed.
+pub struct Line {
+    pub tick: u32,
+    pub kind: u8,
+    pub count: usize,
+    pub first: u32,
+    pub second: u32,
+    pub third: u32,
+    pub fourth: u32,
+}
+
+// line_at
+pub enum Shown {
+    Line(Line),
+    Absent,
+}
+
 // rehearse: where the prepared form is stopped
 pub enum Stop {
     Never,
