@@ -1,22 +1,23 @@
 -- What a call that is not refused has shown of what was handed over, and what is enough for a call not to be refused.
-use Prim.Native.Nat.{ℕ, _+_, _*_, _≤_}
+use Prim.Native.Nat.{ℕ, _+_, _*_, _≤_, _<_}
 use native.Mathlib.Omega.{arith}
 use mathlib.Core.Path.{_≡_, refl, _∙_}
 use mathlib.Core.Bool.{Bool, true, false, not, _||_}
 use mathlib.Core.List.{List, [], _∷_}
-use lib.Dec.{eqb, ltb}
+use lib.Dec.{eqb, leb, ltb}
 use lib.ListN.{length}
-use borrow.Author.Tests.{eqb-false, ltb-false, le-ltb}
+use borrow.Author.Tests.{not-false, leb-false, eqb-true, eqb-false, ltb-false, le-ltb}
 use Rattle.model.specs.declared.Settings.{Settings}
 use Rattle.model.specs.declared.Form.{Form}
 use Rattle.model.specs.declared.Form.the-variants.{Task, Equalised}
 use Rattle.model.specs.Settings.{settingsOf, outOfRange, badSettings}
 use Rattle.model.specs.Trees.{Block, size, fileTree}
 use Rattle.model.specs.Times.{time}
+use Rattle.model.specs.Runs.{duration}
 use Rattle.model.specs.Refusals.{Fault, sound, faulty, fault}
-use Rattle.model.specs.Answers.{Verdict, finished}
+use Rattle.model.specs.Answers.{Verdict, finished, bit}
 use Rattle.model.specs.Replies.{turnDown, unless, reading, longest, shortWindow, above, noRoom, fileTime, timeReply}
-use Rattle.model.specs.Replies.{equalisedTree, equaliseReply, laidTree, laidTotal, layOutReply, badBuffers, ready}
+use Rattle.model.specs.Replies.{equalisedTree, equaliseReply, laidTree, laidTotal, layOutReply, Loan, badBuffers, badImageLength, ready, stepsOf, imageAt, isSaved, stopReply}
 use Rattle.model.specs.Chain.{Outputs, lend}
 use Rattle.model.specs.Placement.{Positive, Fits}
 
@@ -178,3 +179,27 @@ module _ (s : List ℕ) (f : Form) (file : List ℕ) (b : Block) (r : Runnable s
   unfolding ready
   readied ins v o h cause next e =
       reads s f file _ (r .settings-good) (r .file-sound) ∙ rw (r .tree, le-ltb (settingsOf s .period) (time (settingsOf s) b) (r .in-time), h, e)
+
+-- a stop that is not refused
+pub record StopAccepted (c : Loan) (image : List ℕ) (stop : ℕ) : Type 0 where
+  pub good : badBuffers c ≡ false
+  pub image-room : length image ≡ 72
+  pub early : stop < duration (stepsOf c)
+
+pub stop-accepted : (c : Loan) (image : List ℕ) (stop : ℕ) (xs : List ℕ) → stopReply c image stop ≡ finished xs → StopAccepted c image stop
+unfolding stopReply ready
+stop-accepted c image stop xs e =
+    let s = c .settings in
+    let bad = badBuffers c || badImageLength image in
+    let past = leb (duration (stepsOf c)) stop in
+    let answer = finished (stop ∷ 0 ∷ bit (isSaved (imageAt c stop)) ∷ []) in
+    let r = read s (c .form) (c .file) _ xs e in
+    let p8 = passed 8 (above s (fileTime s (c .file))) (turnDown 10 bad (turnDown 12 past answer)) xs (r .goes-on) in
+    let p10 = passed 10 bad (turnDown 12 past answer) xs (p8 .1) in
+    let p12 = passed 12 past answer xs (p10 .1) in
+    let q = neither (badBuffers c) (badImageLength image) (p10 .0) in
+    record {
+      good = q .0;
+      image-room = eqb-true (length image) 72 (not-false (eqb (length image) 72) (q .1));
+      early = leb-false (duration (stepsOf c)) stop (p12 .0);
+    }

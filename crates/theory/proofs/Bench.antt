@@ -5,7 +5,7 @@ use mathlib.Core.Path.{_≡_, refl}
 use mathlib.Core.Bool.{true}
 use Rattle.model.specs.Records.{firstRecords, records, bytes}
 use Rattle.model.specs.Settings.{settingsOf, badSettings}
-use Rattle.model.specs.Trees.{flatten, stackOf, treeOf, fileTree}
+use Rattle.model.specs.Trees.{linearise, stackOf, treeOf, fileTree}
 use Rattle.model.specs.Runs.{holds, result, effect}
 use Rattle.model.specs.Equalising.{equalise}
 use Rattle.model.specs.Layout.{before, lastValue, layout, total}
@@ -13,7 +13,7 @@ use Rattle.model.specs.Refusals.{fieldsFit, scan, fault}
 use Rattle.model.specs.Replies.{reading, equalisedTree, equaliseReply, equaliseOut, laidTree, layOutReply, layOutOut, ready, stepsOf, runReply}
 use Rattle.model.specs.Chain.{isFinished, valueAt, Chain, Lent, equalising, layingOut, wholeLoan}
 use Rattle.model.proofs.Bench.{lettered, Holds, bench, settings, factorial, chain}
-use Rattle.theory.proofs.Demand3.{Stopped, demand3}
+use Rattle.theory.proofs.Demand3.{StopUnseen, demand3}
 
 pub bench-tasks : Holds lettered
 bench-tasks = bench
@@ -41,15 +41,15 @@ equalised = refl
 
 laid : isFinished (layingOut k) ≡ true
 unfolding
-    firstRecords records bytes settingsOf badSettings flatten stackOf treeOf fileTree equalise before lastValue layout total fieldsFit
+    firstRecords records bytes settingsOf badSettings linearise stackOf treeOf fileTree equalise before lastValue layout total fieldsFit
     scan fault reading equalisedTree equaliseReply equaliseOut laidTree layOutReply
 laid = refl
 
 whole-tick : valueAt 0 (runReply (wholeLoan k)) ≡ 143
 unfolding
-    firstRecords records bytes settingsOf badSettings flatten stackOf treeOf fileTree holds result effect equalise before lastValue
+    firstRecords records bytes settingsOf badSettings linearise stackOf treeOf fileTree holds result effect equalise before lastValue
     layout total fieldsFit scan fault reading equalisedTree equaliseReply equaliseOut laidTree layOutReply layOutOut ready stepsOf runReply
 whole-tick = refl
 
-pub task-k : Stopped k
+pub task-k : StopUnseen k
 task-k = demand3 k lent equalised laid .stopped (omega (arith, whole-tick))

@@ -8,7 +8,7 @@ use lib.ListN.{length}
 use borrow.Author.Tests.{ne-eqb}
 use Rattle.model.specs.declared.Settings.{Settings}
 use Rattle.model.specs.Records.{Rec, kindAt, recordAt, bytes, SAVE}
-use Rattle.model.specs.Trees.{Act, set, read, write, check, beat, save, Block, nil, skip, act, branch, while, times, size, actRec, flatten}
+use Rattle.model.specs.Trees.{Act, set, read, write, check, beat, save, Block, nil, skip, act, branch, while, times, size, actRec, linearise}
 use Rattle.model.specs.Times.{ticks}
 use Rattle.model.specs.Runs.{Effect, nothing, overruns, isSave, Step, duration, onVariables, variablesAfter, holds, effect, Run, _⊳_, run}
 use Rattle.model.specs.Stopping.{upto, Image, none, saved, lastImage}
@@ -23,7 +23,7 @@ use Rattle.theory.proofs.Every.{Every, every-at, every-nil, every-singl
 use Rattle.theory.proofs.LastImage.{Made, made, made-within}
 
 pub record Checkpoint (b : Block) (v : List ℕ) (c : ℕ) (m : Image) : Type 0 where
-  pub after-save : afterSave (bytes (flatten b)) (m .index) ≡ true
+  pub after-save : afterSave (bytes (linearise b)) (m .index) ≡ true
   pub in-time : m .tick ≤ c
   pub as-many : length (m .variables) ≡ length v
 
@@ -59,10 +59,10 @@ module _ (σ : Settings) (ins s : List ℕ) where
 after : (s : List ℕ) (i j : ℕ) → j ≡ i + 1 → kindAt s i ≡ SAVE → afterSave s j ≡ true
 after s i j e k = let z : i + 1 - 1 ≡ i = omega arith in rw (e, ne-eqb (i + 1) 0 (omega arith), z, k)
 
-stands : (b : Block) → At (bytes (flatten b)) 0 b
+stands : (b : Block) → At (bytes (linearise b)) 0 b
 stands b =
-    let s = bytes (flatten b) in
-    begins s 0 (length s / 12) b [] (sym (records-at s) ∙ records-bytes (flatten b) ∙ sym (append-nil (flatten b))) .stands
+    let s = bytes (linearise b) in
+    begins s 0 (length s / 12) b [] (sym (records-at s) ∙ records-bytes (linearise b) ∙ sym (append-nil (linearise b))) .stands
 
 pub checkpoint : (σ : Settings) (ins : List ℕ) (b : Block) → LoopFree b → (v : List ℕ) (c : ℕ) (m : Image)
     → lastImage (upto c (run σ ins b 0 v)) 0 v none ≡ saved m → Checkpoint b v c m
@@ -74,7 +74,7 @@ checkpoint σ ins b u v c m e =
     }
   where
     s : List ℕ
-    s = bytes (flatten b)
+    s = bytes (linearise b)
 
     whole : List Step
     whole = run σ ins b 0 v

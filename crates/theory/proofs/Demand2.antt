@@ -1,6 +1,6 @@
 -- DEMAND 2, over bytes and replies: each part under the words that it answers. The proofs are in the files that are cited.
 use Prim.Native.Nat.{ℕ, _+_, _*_, _-_, _%_, _≤_, _<_}
-use mathlib.Core.Path.{_≡_, ap, sym, _∙_}
+use mathlib.Core.Path.{_≡_, refl, ap, sym, _∙_}
 use mathlib.Core.Bool.{true, false}
 use mathlib.Core.List.{List, [], _∷_, _++_, map}
 use lib.ListN.{length, drop}
@@ -8,7 +8,7 @@ use Rattle.model.specs.declared.Settings.{Settings}
 use Rattle.model.specs.declared.Form.the-variants.{Task, Equalised, Laid}
 use Rattle.model.specs.Records.{bytes}
 use Rattle.model.specs.Settings.{settingsOf}
-use Rattle.model.specs.Trees.{Block, flatten, fileTree}
+use Rattle.model.specs.Trees.{Block, linearise, fileTree}
 use Rattle.model.specs.Runs.{Step, isBeat, isSave, starts, duration, overran, leave, cleared, run}
 use Rattle.model.specs.Equalising.{F, merge, equalise}
 use Rattle.model.specs.Layout.{ceiling, layout, total}
@@ -19,22 +19,25 @@ use Rattle.model.specs.Replies.{fileTime, timeReply, equalisedTree, equaliseRep
 use Rattle.model.specs.Replies.{Loan, badBuffers, ended, stepsOf, runReply, imageAt, stopReply, stopBuffers, imageOver, stopImage}
 use Rattle.model.specs.Placement.{Fits, Placed}
 use Rattle.model.specs.Timeline.{multiples, beatList, EndsInBeat, endedBy}
-use Rattle.model.specs.Chain.{Outputs, lend}
+use Rattle.model.specs.Chain.{Outputs, lend, takingUp, takenUpSteps, imageTick}
 use Rattle.model.proofs.Sound.{OfForm, sound-file}
 use Rattle.model.proofs.Passes.{length-file}
 use Rattle.theory.proofs.Times.{time-equalise}
 use Rattle.theory.proofs.Lasts.{equalised-lasts}
 use Rattle.theory.proofs.Laid.{time-laid, placed-laid, total-longer, last-start, laid-lasts}
-use Rattle.theory.proofs.LaidRuns.{laid-beats, whole-starts, whole-values, whole-saves, cut-saves, save-follows, no-crossing}
+use Rattle.theory.proofs.LaidRuns.{Total, LaidFrom, laid-beats, whole-starts, whole-values, whole-saves, cut-values, cut-saves}
+use Rattle.theory.proofs.LaidRuns.{save-follows, no-crossing, laid-total, loop-free, laid-whole}
+use Rattle.theory.proofs.TakenUp.{laid-again}
 use Rattle.theory.proofs.Stops.{beyond, upto-beyond, upto-only, upto-all, upto-ended}
-use Rattle.theory.proofs.Accepted.{equalise-accepted, lay-out-accepted, timed}
+use Rattle.theory.proofs.Accepted.{equalise-accepted, lay-out-accepted, Runnable, timed, stop-accepted}
 use Rattle.theory.proofs.Files.{task-runnable, equalised-runnable, equalised-written, laid-runnable, laid-written}
-use Rattle.theory.proofs.Running.{steps, run-steps}
+use Rattle.theory.proofs.Running.{good-lengths, savedAt, steps, run-steps}
+use Rattle.theory.proofs.StoppedOnce.{tick-taken, steps-taken, answered}
 
 -- A RUN
 
 -- of a file whose stated time is t
-pub record Runs (c : Loan) (t : ℕ) : Type 0 where
+pub record RunsInTime (c : Loan) (t : ℕ) : Type 0 where
   -- it is not refused: "A run answers its end tick .. and whether it overran."
   pub answers : runReply c ≡ ended 0 (stepsOf c)
   -- "its stated time is the time of each of its runs that does not overrun a loop count", "the whole lasts exactly the total stated for it"
@@ -44,7 +47,7 @@ pub record Runs (c : Loan) (t : ℕ) : Type 0 where
 
 -- the bytes of the tree that 003's rules give, with SKIPs merged
 abbrev pub equalisedBytes : List ℕ → List ℕ → List ℕ
-equalisedBytes s task = bytes (flatten (merge 0 (F (settingsOf s) (fileTree task))))
+equalisedBytes s task = bytes (linearise (merge 0 (F (settingsOf s) (fileTree task))))
 
 -- for settings s, a task, a lent buffer and an answer xs
 pub record Equalises (s task out xs : List ℕ) : Type 0 where
@@ -57,33 +60,43 @@ pub record Equalises (s task out xs : List ℕ) : Type 0 where
   pub file-time : timeReply s Equalised (equalisedBytes s task) ≡ finished (fileTime s task ∷ [])
   -- and of its runs, from any variables and inputs, with anything in the outputs
   pub runs : (ins v : List ℕ) (o : Outputs) → badBuffers (lend s Equalised (equalisedBytes s task) ins v o) ≡ false
-      → Runs (lend s Equalised (equalisedBytes s task) ins v o) (fileTime s task)
+      → RunsInTime (lend s Equalised (equalisedBytes s task) ins v o) (fileTime s task)
 
 -- LAYING OUT
 
--- the steps of a run of a laid file whose total is t
-pub record LaidSteps (σ : Settings) (t : ℕ) (es : List Step) : Type 0 where
-  -- "a heartbeat starts at every multiple of the window and at no other tick, on every such run": 0, H, 2H, …, total − B
-  pub beats : overran es ≡ false → starts isBeat 0 es ≡ multiples (σ .window) (t - σ .beat) ++ (t - σ .beat) ∷ []
+-- the steps of a run of a laid file whose total is t, begun at tick u: 0, or the tick of the image from which it was taken up
+pub record LaidSteps (σ : Settings) (t u : ℕ) (es : List Step) : Type 0 where
+  -- "a heartbeat starts at every multiple of the window and at no other tick, on every such run": from 0, they are 0, H, 2H, …, total − B
+  pub beats : overran es ≡ false → starts isBeat u es ≡ multiples (σ .window) u (t - σ .beat) ++ (t - σ .beat) ∷ []
   -- "BEAT (value 1)"; "one last BEAT .. with value ceil((P − total) / H)"
   pub values : overran es ≡ false
-      → beatList 0 es ≡ map (λ u. (u, 1)) (multiples (σ .window) (t - σ .beat)) ++ (t - σ .beat, ceiling (σ .period - t) (σ .window)) ∷ []
+      → beatList u es ≡ map (λ x. (x, 1)) (multiples (σ .window) u (t - σ .beat)) ++ (t - σ .beat, ceiling (σ .period - t) (σ .window)) ∷ []
   -- "a SAVE directly after it if that multiple is also one of K × H"; at the last BEAT "never a SAVE"
-  pub saves : overran es ≡ false → starts isSave 0 es ≡ map (λ u. σ .beat + u) (multiples (σ .spacing * σ .window) (t - σ .beat))
+  pub saves : overran es ≡ false → starts isSave u es ≡ map (λ x. σ .beat + x) (multiples (σ .spacing * σ .window) u (t - σ .beat))
+  -- "the whole lasts exactly the total stated for it"
+  pub lasts : overran es ≡ false → u + duration es ≡ t
   -- a run that overruns, up to its end tick; the BEATs of any run
-  pub beats-so-far : starts isBeat 0 es ≡ multiples (σ .window) (duration es)
-  pub saves-so-far : overran es ≡ true → starts isSave 0 es ≡ map (λ u. σ .beat + u) (multiples (σ .spacing * σ .window) (duration es))
+  pub beats-so-far : starts isBeat u es ≡ multiples (σ .window) u (u + duration es)
+  pub values-so-far : overran es ≡ true → beatList u es ≡ map (λ x. (x, 1)) (multiples (σ .window) u (u + duration es))
+  pub saves-so-far : overran es ≡ true → starts isSave u es ≡ map (λ x. σ .beat + x) (multiples (σ .spacing * σ .window) u (u + duration es))
   -- a SAVE starts at the end of its BEAT
   pub save-after-beat : (pre : List Step) (e : Step) (post : List Step) → es ≡ pre ++ e ∷ post → isSave (e .does) ≡ true → EndsInBeat pre
   -- "A step longer than the ticks left to the next multiple of H waits": no step crosses one
-  pub uncrossed : (pre : List Step) (e : Step) (post : List Step) → es ≡ pre ++ e ∷ post → duration pre % σ .window + e .lasts ≤ σ .window
+  pub uncrossed : (pre : List Step) (e : Step) (post : List Step) → es ≡ pre ++ e ∷ post → (u + duration pre) % σ .window + e .lasts ≤ σ .window
+
+-- a run c that was stopped, and is taken up from the image that the stop wrote or, with no finished SAVE, from the start
+pub record TakesUp (c : Loan) (t : ℕ) (image spare : List ℕ) (stop : ℕ) : Type 0 where
+  -- it is not refused: "A run answers its end tick .. and whether it overran."
+  pub answers : takingUp c image spare stop ≡ ended (imageTick c image stop) (takenUpSteps c image stop)
+  -- "one taken up begins with its image's index, tick and variables": BEATs and SAVEs are those from that tick on, and it ends at the total
+  pub steps : LaidSteps (settingsOf (c .settings)) t (imageTick c image stop) (takenUpSteps c image stop)
 
 abbrev pub laidBytes : List ℕ → List ℕ → List ℕ
-laidBytes s file = bytes (flatten (layout (settingsOf s) (fileTree file)))
+laidBytes s file = bytes (linearise (layout (settingsOf s) (fileTree file)))
 
 -- for settings s, any equalised file, a lent buffer and an answer xs
 pub record LaysOut (s file out xs : List ℕ) : Type 0 where
-  -- "laying out [answers] the bytes written and the total"
+  -- "equalising answers .., laying out the bytes written and the total"
   pub answers : xs ≡ length (laidBytes s file) ∷ laidTotal s file ∷ []
   pub writes : layOutOut s file out ≡ laidBytes s file ++ drop (length (laidBytes s file)) out
   -- what was written is a laid file whose time is the total
@@ -94,8 +107,12 @@ pub record LaysOut (s file out xs : List ℕ) : Type 0 where
   pub placed : Placed (settingsOf s) (layout (settingsOf s) (fileTree file)) 0
   -- each run, from any variables and inputs, with anything in the outputs
   pub runs : (ins v : List ℕ) (o : Outputs) → badBuffers (lend s Laid (laidBytes s file) ins v o) ≡ false
-      → Runs (lend s Laid (laidBytes s file) ins v o) (laidTotal s file)
-  pub steps : (ins v : List ℕ) (o : Outputs) → LaidSteps (settingsOf s) (laidTotal s file) (stepsOf (lend s Laid (laidBytes s file) ins v o))
+      → RunsInTime (lend s Laid (laidBytes s file) ins v o) (laidTotal s file)
+  pub steps : (ins v : List ℕ) (o : Outputs) → LaidSteps (settingsOf s) (laidTotal s file) 0 (stepsOf (lend s Laid (laidBytes s file) ins v o))
+  -- stopped at any tick before its end, with anything in the image buffer, and taken up, with any 16 numbers as lent variables
+  pub taken-up : (ins v : List ℕ) (o : Outputs) (image spare : List ℕ) (stop : ℕ) (ys : List ℕ)
+      → stopReply (lend s Laid (laidBytes s file) ins v o) image stop ≡ finished ys → length spare ≡ 16
+      → TakesUp (lend s Laid (laidBytes s file) ins v o) (laidTotal s file) image spare stop
 
 -- STOPPING
 
@@ -136,23 +153,48 @@ equalises s task out xs e =
       answers = sym (ap (λ (n : ℕ). n ∷ fileTime s task ∷ []) (length-file b) ∙ a .answers);
       writes = equalised-written s task out xs e;
       task-time = timed s Task task (fileTree task) (task-runnable s task (length out) xs a);
-      file-time = timed s Equalised (bytes (flatten b)) b r ∙ ap (λ (t : ℕ). finished (t ∷ [])) (time-equalise σ (fileTree task));
+      file-time = timed s Equalised (bytes (linearise b)) b r ∙ ap (λ (t : ℕ). finished (t ∷ [])) (time-equalise σ (fileTree task));
       runs = λ ins v o h. record {
-        answers = run-steps s Equalised (bytes (flatten b)) b r ins v o h;
-        lasts = rw (steps s Equalised (bytes (flatten b)) b (r .tree) ins v o) (equalised-lasts σ ins (fileTree task) 0 .in-all v);
+        answers = run-steps s Equalised (bytes (linearise b)) b r ins v o h;
+        lasts = rw (steps s Equalised (bytes (linearise b)) b (r .tree) ins v o) (equalised-lasts σ ins (fileTree task) 0 .in-all v);
       };
     }
 
-laid-steps : (σ : Settings) → Fits σ → (b : Block) → OfForm Equalised b → (ins v : List ℕ) → LaidSteps σ (total σ b) (run σ ins (layout σ b) 0 v)
-laid-steps σ fits b p ins v = record {
-  beats = whole-starts σ fits b p ins v;
-  values = whole-values σ fits b p ins v;
-  saves = whole-saves σ fits b p ins v;
-  beats-so-far = laid-beats σ fits b p ins v;
-  saves-so-far = cut-saves σ fits b p ins v;
-  save-after-beat = save-follows σ fits b p ins v;
-  uncrossed = no-crossing σ fits b p ins v;
+laid-steps : (σ : Settings) → Fits σ → (t u : ℕ) (es : List Step) → Total σ t → LaidFrom σ t u es → LaidSteps σ t u es
+laid-steps σ fits t u es z p = record {
+  beats = whole-starts σ fits t u es p z;
+  values = whole-values σ fits t u es p z;
+  saves = whole-saves σ fits t u es p z;
+  lasts = p .lasts;
+  beats-so-far = laid-beats σ fits t u es p;
+  values-so-far = cut-values σ fits t u es p;
+  saves-so-far = cut-saves σ fits t u es p;
+  save-after-beat = save-follows σ fits t u es p;
+  uncrossed = no-crossing σ fits t u es p;
 }
+
+takes-up : (s : List ℕ) (b : Block) → Fits (settingsOf s) → OfForm Equalised b
+    → Runnable s Laid (bytes (linearise (layout (settingsOf s) b))) (layout (settingsOf s) b)
+    → (ins v : List ℕ) (o : Outputs) (image spare : List ℕ) (stop : ℕ) (ys : List ℕ)
+    → stopReply (lend s Laid (bytes (linearise (layout (settingsOf s) b))) ins v o) image stop ≡ finished ys → length spare ≡ 16
+    → TakesUp (lend s Laid (bytes (linearise (layout (settingsOf s) b))) ins v o) (total (settingsOf s) b) image spare stop
+takes-up s b fits p r ins v o image spare stop ys e room =
+    let σ = settingsOf s in
+    let t = total σ b in
+    let d = layout σ b in
+    let file = bytes (linearise d) in
+    let c = lend s Laid file ins v o in
+    let a = stop-accepted c image stop ys e in
+    let l = good-lengths s Laid file ins v o (a .good) in
+    let placed = placed-laid σ b p fits in
+    let early : stop < duration (run σ ins d 0 v) = rw (steps s Laid file d (r .tree) ins v o) at (a .early) in
+    let again = laid-again σ fits ins d (loop-free σ fits b p) t v stop (laid-whole σ fits b p ins v) (savedAt stop (run σ ins d 0 v) v) refl in
+    let tick = tick-taken s d r fits placed ins v o l image (a .image-room) spare room stop early in
+    let does = steps-taken s d r fits placed ins v o l image (a .image-room) spare room stop early in
+    record {
+      answers = answered s d r fits placed ins v o l image (a .image-room) spare room stop early;
+      steps = laid-steps σ fits t (imageTick c image stop) (takenUpSteps c image stop) (laid-total σ fits b p) (rw (tick, does) again);
+    }
 
 lays-out : (s file out xs : List ℕ) → layOutReply s file (length out) ≡ finished xs → LaysOut s file out xs
 unfolding laidTree
@@ -163,17 +205,21 @@ lays-out s file out xs e =
     let a = lay-out-accepted s file (length out) xs e in
     let r = laid-runnable s file (length out) xs a in
     let p = sound-file Equalised file (a .file-sound) .of-form in
+    let fits = a .fits-window in
     record {
       answers = sym (ap (λ (n : ℕ). n ∷ laidTotal s file ∷ []) (length-file b) ∙ a .answers);
       writes = laid-written s file out xs e;
-      file-time = timed s Laid (bytes (flatten b)) b r ∙ ap (λ (t : ℕ). finished (t ∷ [])) (time-laid σ tree);
-      last-start = last-start σ tree p (a .fits-window);
-      placed = placed-laid σ tree p (a .fits-window);
+      file-time = timed s Laid (bytes (linearise b)) b r ∙ ap (λ (t : ℕ). finished (t ∷ [])) (time-laid σ tree);
+      last-start = last-start σ tree p fits;
+      placed = placed-laid σ tree p fits;
       runs = λ ins v o h. record {
-        answers = run-steps s Laid (bytes (flatten b)) b r ins v o h;
-        lasts = rw (steps s Laid (bytes (flatten b)) b (r .tree) ins v o) (laid-lasts σ tree p (a .fits-window) ins v);
+        answers = run-steps s Laid (bytes (linearise b)) b r ins v o h;
+        lasts = rw (steps s Laid (bytes (linearise b)) b (r .tree) ins v o) (laid-lasts σ tree p fits ins v);
       };
-      steps = λ ins v o. rw (steps s Laid (bytes (flatten b)) b (r .tree) ins v o) (laid-steps σ (a .fits-window) tree p ins v);
+      steps = λ ins v o.
+          rw (steps s Laid (bytes (linearise b)) b (r .tree) ins v o)
+          (laid-steps σ fits (total σ tree) 0 (run σ ins b 0 v) (laid-total σ fits tree p) (laid-whole σ fits tree p ins v));
+      taken-up = takes-up s tree fits p r;
     }
 
 stops : (c : Loan) (image : List ℕ) (stop : ℕ) → Stops c image stop

@@ -1,17 +1,21 @@
 -- DEMAND 3, as one statement over the chain of replies: each part under the words that it answers. The proofs are in the files that are cited.
-use Prim.Native.Nat.{_+_, _*_, _-_, _<_}
+use Prim.Native.Nat.{ℕ, _+_, _*_, _-_, _<_}
 use mathlib.Core.Path.{_≡_, sym, _∙_}
 use mathlib.Core.Logic.{_↔_}
 use mathlib.Core.Bool.{true}
+use mathlib.Core.List.{List}
+use lib.ListN.{length}
 use Rattle.model.specs.Settings.{settingsOf}
-use Rattle.model.specs.Replies.{stepsOf, runReply, stopReply}
+use Rattle.model.specs.Answers.{finished, refused}
+use Rattle.model.specs.Replies.{layOutOut, prepareReply, prepareOut, stepsOf, runReply, stopReply}
 use Rattle.model.specs.Timeline.{endedBy, lastSaveEnd}
-use Rattle.model.specs.Chain.{isFinished, valueAt, Chain, Lent, equalising, layingOut, plainLoan, wholeLoan, stoppedLoan}
+use Rattle.model.specs.Chain.{isFinished, valueAt, Chain, Lent, equalising, equalisedFile, layingOut, plainLoan, wholeLoan, stoppedLoan}
 use Rattle.model.specs.Chain.{takingUp, imageTick, runTwice, End, plainEndOne, plainEndTwo, wholeEnd, stoppedEnd}
+use Rattle.theory.proofs.Preparing.{prepares-reply, prepares-out, prepares-refused}
 use Rattle.theory.proofs.Ends.{plain-runs, whole-runs, whole-same, stop-runs, take-up-runs, stopped-same, twice, counted, few}
 
 -- of the prepared form stopped once and taken up, for all that is handed over
-pub record Stopped (k : Chain) : Type 0 where
+pub record StopUnseen (k : Chain) : Type 0 where
   -- neither call is refused
   pub stop-runs : isFinished (stopReply (stoppedLoan k) (k .image) (k .stop)) ≡ true
   pub take-up-runs : isFinished (takingUp (stoppedLoan k) (k .image) (k .spare) (k .stop)) ≡ true
@@ -39,13 +43,24 @@ pub record Unseen (k : Chain) : Type 0 where
   -- "So on one and the same set the prepared form, whole .., ends as the task as written does."
   pub same : wholeEnd k ≡ plainEndTwo k
   -- "stopped once, at whichever tick before its end"
-  pub stopped : k .stop < valueAt 0 (runReply (wholeLoan k)) → Stopped k
+  pub stopped : k .stop < valueAt 0 (runReply (wholeLoan k)) → StopUnseen k
 
 -- "Take any task prepared without refusal and any two sets of variables and inputs."
 abbrev pub Demand3 : Type 0
 Demand3 = (k : Chain) → Lent k → isFinished (equalising k) ≡ true → isFinished (layingOut k) ≡ true → Unseen k
 
+-- "prepared means equalised and then laid out", "Laying out gets what equalising wrote": `prepare` answers and writes what the two calls do, with
+-- any buffer lent between them
+pub record PreparesAlike (k : Chain) : Type 0 where
+  pub answers : (xs : List ℕ) → equalising k ≡ finished xs → prepareReply (k .settings) (k .task) (length (k .laidRoom)) ≡ layingOut k
+  pub writes : (xs : List ℕ) → equalising k ≡ finished xs → prepareOut (k .settings) (k .task) (k .laidRoom) ≡ layOutOut (k .settings) (equalisedFile k) (k .laidRoom)
+  -- a refusal is equalising's, unless the lent buffer was too short
+  pub refuses : (n : ℕ) (xs : List ℕ) → equalising k ≡ refused n xs → (n ≡ 9 → ⊥) → prepareReply (k .settings) (k .task) (length (k .laidRoom)) ≡ refused n xs
+
 -- WHERE EACH PART IS PROVED
+
+pub prepares-alike : (k : Chain) → PreparesAlike k
+prepares-alike k = record { answers = prepares-reply k; writes = prepares-out k; refuses = prepares-refused k }
 
 -- alike to what is the same
 alike-to : (a b c : End) → b ≡ c → (a ≡ b) ↔ (a ≡ c)

@@ -8,7 +8,7 @@ use lib.Seq.{take-append-seam}
 use Rattle.model.specs.declared.Form.the-variants.{Task, Equalised, Laid}
 use Rattle.model.specs.Records.{bytes}
 use Rattle.model.specs.Settings.{settingsOf}
-use Rattle.model.specs.Trees.{Block, size, flatten, fileTree}
+use Rattle.model.specs.Trees.{Block, size, linearise, fileTree}
 use Rattle.model.specs.Answers.{Verdict, finished}
 use Rattle.model.specs.Replies.{over, kept, fileTime, equalisedTree, equaliseReply, equaliseOut, laidTree, laidTotal, layOutReply, layOutOut}
 use Rattle.model.specs.Chain.{valueAt}
@@ -21,7 +21,7 @@ use Rattle.theory.proofs.Accepted.{EqualiseAccepted, equalise-accepted,
 
 -- the bytes of a block
 abbrev pub fileOf : Block → List ℕ
-fileOf b = bytes (flatten b)
+fileOf b = bytes (linearise b)
 
 -- what an answer says was written, of a result b in a lent buffer
 file-in : (r : Verdict) (b : Block) (out xs : List ℕ) (t : ℕ) → r ≡ finished xs → 12 * size b ∷ t ∷ [] ≡ xs

@@ -33,11 +33,13 @@ pub mod Twice
 pub mod Laid
 pub mod Values
 pub mod LaidRuns
+pub mod TakenUp
 -- replies
 pub mod Accepted
 pub mod Files
 pub mod Running
 pub mod StoppedOnce
 pub mod Prepared
+pub mod Preparing
 pub mod Ends
 pub mod Reached

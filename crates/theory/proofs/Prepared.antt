@@ -24,7 +24,7 @@ use Rattle.theory.proofs.Accepted.{EqualiseAccepted, equalise-accepted,
 use Rattle.theory.proofs.Files.{fileOf, equalised-form, task-runnable, equalised-file, laid-runnable, laid-file}
 
 -- an answer that is no refusal
-finish : (r : Verdict) → isFinished r ≡ true → (xs : List ℕ) × (r ≡ finished xs)
+pub finish : (r : Verdict) → isFinished r ≡ true → (xs : List ℕ) × (r ≡ finished xs)
 finish (finished xs) e = (xs, refl)
 finish (refused n xs) e = let z : _≡_ {A = ℕ} 0 1 = cc in absurd (omega arith)
 

@@ -1,4 +1,4 @@
--- `lay`, `lines` and `rest` are meant for blocks with no loop, `rest` only past record 0: no reply or listing reaches them with another.
+-- `lay`, `startTicks` and `rest` are meant for blocks with no loop, `rest` only past record 0: no reply or listing reaches them with another.
 use Prim.Native.Nat.{ℕ, _-_, _/_}
 use native.Mathlib.Omega.{arith}
 use mathlib.Core.Path.{_≡_, refl, subst}
@@ -53,9 +53,9 @@ save-there f file j e a = go (eqb j 0) a (ltb (j - 1) (length file / 12)) refl
         absurd (omega arith)
 
 -- what is listed
-pub lines-reached : (s file : List ℕ) (room : ℕ) (xs : List ℕ) → layOutReply s file room ≡ finished xs → LoopFree (laidTree s file)
+pub starts-reached : (s file : List ℕ) (room : ℕ) (xs : List ℕ) → layOutReply s file room ≡ finished xs → LoopFree (laidTree s file)
 unfolding laidTree
-lines-reached s file room xs e =
+starts-reached s file room xs e =
     let a = lay-out-accepted s file room xs e in
     placed-loop-free (settingsOf s) (layout (settingsOf s) (fileTree file)) 0
     (placed-laid (settingsOf s) (fileTree file) (sound-file Equalised file (a .file-sound) .of-form) (a .fits-window))

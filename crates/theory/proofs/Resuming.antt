@@ -61,14 +61,14 @@ orStart v none = start v
 orStart v (saved m) = m
 
 -- m was left after the steps front; a run from there does once more those since then, and then those left
-record Since (v : List ℕ) (done left again : List Step) (m : Image) : Type 0 where
-  front : List Step
-  twice : List Step
-  parts : done ≡ front ++ twice
-  variables-are : m .variables ≡ variablesAfter front v
-  tick-is : m .tick ≡ duration front
-  calm : overran front ≡ false
-  follows : see unindexed again ≡ see unindexed (twice ++ left)
+pub record Since (v : List ℕ) (done left again : List Step) (m : Image) : Type 0 where
+  pub front : List Step
+  pub twice : List Step
+  pub parts : done ≡ front ++ twice
+  pub variables-are : m .variables ≡ variablesAfter front v
+  pub tick-is : m .tick ≡ duration front
+  pub calm : overran front ≡ false
+  pub follows : see unindexed again ≡ see unindexed (twice ++ left)
 
 module _ (σ : Settings) (ins : List ℕ) (b : Block) (v : List ℕ) (c : ℕ) where
   abbrev pub whole : List Step
@@ -87,7 +87,7 @@ module _ (σ : Settings) (ins : List ℕ) (b : Block) (v : List ℕ) (c : ℕ) w
     pub same-end : image .tick + duration (takeUp σ ins b image) ≡ duration whole
 
   -- the image is the start, or that of a SAVE, after which taking up does what is left
-  since : LoopFree b → (z : Saved) → lastImage done 0 v none ≡ z → Since v done (beyond c whole) (takeUp σ ins b (orStart v z)) (orStart v z)
+  pub since : LoopFree b → (z : Saved) → lastImage done 0 v none ≡ z → Since v done (beyond c whole) (takeUp σ ins b (orStart v z)) (orStart v z)
   unfolding takeUp
   since u none e = record {
     front = [];
@@ -116,12 +116,16 @@ module _ (σ : Settings) (ins : List ℕ) (b : Block) (v : List ℕ) (c : ℕ) w
             ∙ (rw z at (every-at (Goes R) (n .front) (n .save) after v g .resumes (n .saves)));
       }
 
+  -- the whole run, parted at the image
+  pub parted : (again : List Step) (m : Image) (s : Since v done (beyond c whole) again m) → whole ≡ s .front ++ (s .twice ++ beyond c whole)
+  parted again m s = upto-beyond c whole ∙ ap (λ (es : List Step). es ++ beyond c whole) (s .parts) ∙ append-assoc (s .front) (s .twice) (beyond c whole)
+
   from-since : Since v done (beyond c whole) (takeUp σ ins b image) image → TakenUp
   from-since s =
       let again = takeUp σ ins b image in
       let left = beyond c whole in
       let onward = s .twice ++ left in
-      let parts : whole ≡ s .front ++ onward = upto-beyond c whole ∙ ap (λ (es : List Step). es ++ left) (s .parts) ∙ append-assoc (s .front) (s .twice) left in
+      let parts = parted again image s in
       record {
         same-variables =
             same-variables unindexed again onward (s .follows) (image .variables) ∙ ap (variablesAfter onward) (s .variables-are)

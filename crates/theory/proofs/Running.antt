@@ -1,20 +1,21 @@
 -- What the calls that run a file answer and leave, once nothing refuses: whole, stopped, and taken up.
 use Prim.Native.Nat.{ℕ, _≤_, _<_}
 use mathlib.Core.Path.{_≡_, refl, ap, _∙_}
-use mathlib.Core.Bool.{true, false}
+use mathlib.Core.Bool.{true, false, not}
 use mathlib.Core.List.{List, [], _∷_}
+use lib.Dec.{eqb}
 use lib.ListN.{length}
-use borrow.Author.Tests.{eq-eqb, lt-leb, le-ltb}
+use borrow.Author.Tests.{not-false, eqb-true, eq-eqb, lt-leb, le-ltb}
 use Rattle.model.specs.declared.Form.{Form}
 use Rattle.model.specs.Settings.{settingsOf}
 use Rattle.model.specs.Trees.{Block, fileTree}
 use Rattle.model.specs.Runs.{Step, duration, Buffers, leave, cleared, run}
 use Rattle.model.specs.Stopping.{upto, Image, Saved, none, lastImage, imageOf, start, takeUp}
 use Rattle.model.specs.Answers.{finished, bit}
-use Rattle.model.specs.Replies.{badBuffers, badImage, ended, stepsOf, runReply, runBuffers, imageAt, isSaved, stopReply, stopBuffers, imageOver, stopImage}
+use Rattle.model.specs.Replies.{badBuffers, badImageLength, ended, stepsOf, runReply, runBuffers, imageAt, isSaved, stopReply, stopBuffers, imageOver, stopImage}
 use Rattle.model.specs.Replies.{takenUp, takenBuffers, afterSave, resumeReply, resumeBuffers, restartReply, restartBuffers}
 use Rattle.model.specs.Chain.{Outputs, lend}
-use Rattle.theory.proofs.Accepted.{Runnable, readied}
+use Rattle.theory.proofs.Accepted.{neither, Runnable, readied}
 
 -- the image of the last SAVE that is finished at the stop
 abbrev pub savedAt : ℕ → List Step → List ℕ → Saved
@@ -34,6 +35,18 @@ pub record LentLengths (ins v : List ℕ) (o : Outputs) : Type 0 where
 pub lengths-good : (s : List ℕ) (f : Form) (file ins v : List ℕ) (o : Outputs) → LentLengths ins v o → badBuffers (lend s f file ins v o) ≡ false
 lengths-good s f file ins v o l =
     rw (eq-eqb (length v) 16 (l .variables), eq-eqb (length ins) 8 (l .inputs), eq-eqb (length (o .levels)) 8 (l .levels), eq-eqb (length (o .marks)) 8 (l .marks))
+
+pub good-lengths : (s : List ℕ) (f : Form) (file ins v : List ℕ) (o : Outputs) → badBuffers (lend s f file ins v o) ≡ false → LentLengths ins v o
+good-lengths s f file ins v o h =
+    let q = neither _ (not (eqb (length (o .marks)) 8)) h in
+    let r = neither _ (not (eqb (length (o .levels)) 8)) (q .0) in
+    let t = neither (not (eqb (length v) 16)) (not (eqb (length ins) 8)) (r .0) in
+    record {
+      inputs = eqb-true (length ins) 8 (not-false (eqb (length ins) 8) (t .1));
+      variables = eqb-true (length v) 16 (not-false (eqb (length v) 16) (t .0));
+      levels = eqb-true (length (o .levels)) 8 (not-false (eqb (length (o .levels)) 8) (r .1));
+      marks = eqb-true (length (o .marks)) 8 (not-false (eqb (length (o .marks)) 8) (q .1));
+    }
 
 -- the steps of a run
 pub steps : (s : List ℕ) (f : Form) (file : List ℕ) (b : Block) → fileTree file ≡ b → (ins v : List ℕ) (o : Outputs)
@@ -69,7 +82,7 @@ module _ (s : List ℕ) (f : Form) (file : List ℕ) (b : Block) (r : Runnable s
     pub stop-answer : stopReply (lend s f file ins v o) image stop ≡ finished (stop ∷ 0 ∷ bit (isSaved (savedAt stop (run (settingsOf s) ins b 0 v) v)) ∷ [])
     unfolding stopReply
     stop-answer =
-        readied s f file b r ins v o h (badImage image) _ (rw (eq-eqb (length image) 72 has-room))
+        readied s f file b r ins v o h (badImageLength image) _ (rw (eq-eqb (length image) 72 has-room))
         ∙ rw (the-steps, lt-leb (duration (run (settingsOf s) ins b 0 v)) stop early, image-at)
 
     pub stop-leaves : stopBuffers (lend s f file ins v o) image stop ≡ leave (upto stop (run (settingsOf s) ins b 0 v)) (cleared v)
@@ -82,7 +95,7 @@ module _ (s : List ℕ) (f : Form) (file : List ℕ) (b : Block) (r : Runnable s
 
   -- TAKEN UP
 
-  taken : (m : Image) → takenUp (lend s f file ins v o) m ≡ takeUp (settingsOf s) ins b m
+  pub taken : (m : Image) → takenUp (lend s f file ins v o) m ≡ takeUp (settingsOf s) ins b m
   unfolding takenUp
   taken m = rw (r .tree)
 
@@ -103,7 +116,7 @@ module _ (s : List ℕ) (f : Form) (file : List ℕ) (b : Block) (r : Runnable s
     pub resume-answer : resumeReply (lend s f file ins v o) image ≡ ended (m .tick) (takeUp (settingsOf s) ins b m)
     unfolding resumeReply
     resume-answer =
-        readied s f file b r ins v o h (badImage image) _ (rw (eq-eqb (length image) 72 whole))
+        readied s f file b r ins v o h (badImageLength image) _ (rw (eq-eqb (length image) 72 whole))
         ∙ rw (reads, after, le-ltb (settingsOf s .period) (m .tick) early, taken m)
 
     pub resume-leaves : resumeBuffers (lend s f file ins v o) image ≡ onward (takeUp (settingsOf s) ins b m) m o

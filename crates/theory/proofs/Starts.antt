@@ -1,17 +1,16 @@
 -- The start ticks of the BEATs and SAVEs among steps in place, as exact lists.
 use Prim.Native.Nat.{ℕ, zero, suc, _+_, _*_, _-_, _%_, _/_, _≤_, _<_}
 use native.Mathlib.Omega.{arith}
-use native.Mathlib.Nat.{add-zero, zero-add, add-assoc, add-comm, zero-mod, mod-le, mod-eq-of-lt, div-add-mod, mul-mod-right, mul-add-mod-self-left}
+use native.Mathlib.Nat.{add-zero, zero-add, add-assoc, add-comm, mod-le, mod-eq-of-lt, div-add-mod, mul-mod-right, mul-add-mod-self-left}
 use mathlib.Core.Path.{_≡_, refl, ap, sym, _∙_}
 use mathlib.Core.Bool.{Bool, true, false, cond}
 use mathlib.Core.List.{List, [], _∷_, _++_, map, append-nil, append-assoc}
-use lib.Dec.{eqb, ltb}
-use borrow.Author.Tests.{ltb-true, ltb-false, eqb-true, eqb-false, eq-eqb, ne-eqb}
+use lib.Dec.{eqb, leb, ltb}
+use borrow.Author.Tests.{ltb-true, ltb-false, leb-true, leb-false, eqb-true, eqb-false, eq-eqb, ne-eqb}
 use Rattle.model.specs.declared.Settings.{Settings}
 use Rattle.model.specs.Runs.{Effect, isBeat, isSave, Step, starts, duration}
 use Rattle.model.specs.Placement.{Fits, InPlace, StepsPlaced}
 use Rattle.model.specs.Timeline.{picks, multiples, EndsInBeat}
-use Rattle.theory.proofs.Sequences.{duration-++}
 use Rattle.theory.proofs.Clock.{mod-within, mod-over}
 use Rattle.theory.proofs.Windows.{round, window-pos, window-round, round-pos, round-small, window-on}
 
@@ -64,15 +63,15 @@ starts-picks σ is at told (e ∷ es) t p =
     (ap (λ (l : List ℕ). cond (at t) (t ∷ []) [] ++ l) (starts-picks σ is at told es (t + e .lasts) (p .1)))
 
 -- a step among steps in place
-step-placed : (σ : Settings) (pre : List Step) (e : Step) (post : List Step) (t : ℕ) → StepsPlaced σ t (pre ++ e ∷ post)
+pub step-placed : (σ : Settings) (pre : List Step) (e : Step) (post : List Step) (t : ℕ) → StepsPlaced σ t (pre ++ e ∷ post)
     → InPlace σ (t + duration pre) (e .lasts) (e .does)
 step-placed σ [] e post t p = rw (add-zero t) (p .0)
 step-placed σ (x ∷ pre) e post t p = rw (← add-assoc t (x .lasts) (duration pre)) (step-placed σ pre e post (t + x .lasts) (p .1))
 
 -- no step goes on past a multiple of H
-pub uncrossed : (σ : Settings) (pre : List Step) (e : Step) (post : List Step) → StepsPlaced σ 0 (pre ++ e ∷ post)
-    → duration pre % σ .window + e .lasts ≤ σ .window
-uncrossed σ pre e post p = rw (zero-add (duration pre)) at (step-placed σ pre e post 0 p .ends)
+pub uncrossed : (σ : Settings) (pre : List Step) (e : Step) (post : List Step) (t : ℕ) → StepsPlaced σ t (pre ++ e ∷ post)
+    → (t + duration pre) % σ .window + e .lasts ≤ σ .window
+uncrossed σ pre e post t p = step-placed σ pre e post t p .ends
 
 -- the ticks where a BEAT, a SAVE and a round start
 abbrev beatDue : Settings → ℕ → Bool
@@ -84,7 +83,29 @@ saveDue σ u = eqb (u % round σ) (σ .beat)
 abbrev roundStarts : Settings → ℕ → Bool
 roundStarts σ u = eqb (u % round σ) 0
 
+-- each BEAT that is due before t ends before t
+pub record Settled (σ : Settings) (t : ℕ) : Type 0 where
+  pub over : (u : ℕ) → u % σ .window ≡ 0 → u < t → u + σ .beat < t
+
 module _ (σ : Settings) (fits : Fits σ) where
+  pub settled-start : Settled σ 0
+  settled-start = record { over = λ u z l. absurd (omega arith) }
+
+  -- so it is where a step ends that is no BEAT
+  pub settled-after : (t d : ℕ) (w : Effect) → InPlace σ t d w → isBeat w ≡ false → 1 ≤ d → Settled σ (t + d)
+  settled-after t d w p b l = record { over = λ u z h. go u z h (leb u (σ .window * (t / σ .window))) refl }
+    where
+      go : (u : ℕ) → u % σ .window ≡ 0 → u < t + d → (o : Bool) → leb u (σ .window * (t / σ .window)) ≡ o → u + σ .beat < t + d
+      go u z h true e = omega (arith, leb-true u (σ .window * (t / σ .window)) e, div-add-mod t (σ .window), p .clear b)
+      go u z h false e =
+          let q = t / σ .window in
+          let r = u - σ .window * q in
+          let k = leb-false u (σ .window * q) e in
+          let x = div-add-mod t (σ .window) in
+          let w : u ≡ σ .window * q + r = omega arith in
+          let y : u % σ .window ≡ r = ap (λ (x : ℕ). x % σ .window) w ∙ mul-add-mod-self-left (σ .window) q r ∙ mod-eq-of-lt (omega (arith, p .ends)) in
+          absurd (omega arith)
+
   -- a tick inside a step in place
   on : (t d j : ℕ) (w : Effect) → InPlace σ t d w → j < d → (t + j) % σ .window ≡ t % σ .window + j
   on t d j w p l = window-on σ fits t j (omega (arith, p .ends))
@@ -140,51 +161,74 @@ module _ (σ : Settings) (fits : Fits σ) where
           eq-eqb ((σ .beat + t) % round σ) (σ .beat) (rw (add-comm (σ .beat) t) (omega arith))
       go false e = ne-eqb ((σ .beat + t) % round σ) (σ .beat) (λ z. eqb-false (t % round σ) 0 e (back z))
 
-  picks-lag : (n : ℕ) → picks (saveDue σ) 0 n ≡ map (λ u. σ .beat + u) (multiples (round σ) (n - σ .beat))
-  picks-lag n = go (n - σ .beat) refl
-    where
-      none : (m : ℕ) → m ≤ σ .beat → picks (saveDue σ) 0 m ≡ []
-      none m l = picks-none (saveDue σ) 0 m
-          (λ j k. ne-eqb ((0 + j) % round σ) (σ .beat) (λ z. omega (arith, sym (mod-eq-of-lt (omega (arith, window-round σ fits))) ∙ z)))
+  -- no SAVE is due in the B ticks from a settled one on
+  no-save : (t j : ℕ) → Settled σ t → j < σ .beat → (t + j) % round σ ≡ σ .beat → ⊥
+  no-save t j s l z =
+      let u = t + j - σ .beat in
+      let e : t + j ≡ σ .beat + u = omega (arith, mod-le (t + j) (round σ)) in
+      let due = eq-eqb ((σ .beat + u) % round σ) (σ .beat) (ap (λ (x : ℕ). x % round σ) (sym e) ∙ z) in
+      let starts-round = eqb-true (u % round σ) 0 (sym (lag u) ∙ due) in
+      omega (arith, s .over u (round-small σ fits u 0 (window-pos σ fits) starts-round) (omega arith))
 
-      go : (m : ℕ) → n - σ .beat ≡ m → picks (saveDue σ) 0 n ≡ map (λ u. σ .beat + u) (multiples (round σ) m)
+  picks-lag : (t n : ℕ) → Settled σ t → picks (saveDue σ) t n ≡ map (λ u. σ .beat + u) (picks (roundStarts σ) t (n - σ .beat))
+  picks-lag t n s = go (n - σ .beat) refl
+    where
+      none : (m : ℕ) → m ≤ σ .beat → picks (saveDue σ) t m ≡ []
+      none m l = picks-none (saveDue σ) t m (λ j k. ne-eqb ((t + j) % round σ) (σ .beat) (no-save t j s (omega arith)))
+
+      go : (m : ℕ) → n - σ .beat ≡ m → picks (saveDue σ) t n ≡ map (λ u. σ .beat + u) (picks (roundStarts σ) t m)
       go zero e = none n (omega arith)
       go (suc m) e =
           let x : n ≡ σ .beat + suc m = omega arith in
-          let y : 0 + σ .beat ≡ σ .beat + 0 = omega arith in
-          ap (picks (saveDue σ) 0) x ∙ picks-++ (saveDue σ) 0 (σ .beat) (suc m)
-          ∙ rw (none (σ .beat) (omega arith), y) (picks-later (saveDue σ) (roundStarts σ) (σ .beat) 0 (suc m) lag)
+          ap (picks (saveDue σ) t) x ∙ picks-++ (saveDue σ) t (σ .beat) (suc m)
+          ∙ rw (none (σ .beat) (omega arith), add-comm t (σ .beat)) (picks-later (saveDue σ) (roundStarts σ) (σ .beat) t (suc m) lag)
 
-  -- from tick 0: B after each multiple of K × H below the end less B
-  pub save-list : (es : List Step) → StepsPlaced σ 0 es
-      → starts isSave 0 es ≡ map (λ u. σ .beat + u) (multiples (σ .spacing * σ .window) (duration es - σ .beat))
-  save-list es p = save-starts es 0 p ∙ picks-lag (duration es)
+  -- from a settled tick on: B after each multiple of K × H below the end less B
+  pub save-list : (es : List Step) (t : ℕ) → StepsPlaced σ t es → Settled σ t
+      → starts isSave t es ≡ map (λ u. σ .beat + u) (multiples (σ .spacing * σ .window) t (t + duration es - σ .beat))
+  save-list es t p s =
+      let e : duration es - σ .beat ≡ t + duration es - σ .beat - t = omega arith in
+      save-starts es t p ∙ picks-lag t (duration es) s ∙ ap (λ (n : ℕ). map (λ u. σ .beat + u) (picks (roundStarts σ) t n)) e
 
-  -- a step that is no BEAT ends at e = s + d: no multiple of K × H stands in the B ticks before e
-  cut : (s d : ℕ) → σ .beat ≤ s % σ .window → s % σ .window + d ≤ σ .window → 1 ≤ d → multiples (round σ) (s + d - σ .beat) ≡ multiples (round σ) (s + d)
-  cut s d b h l =
-      let n = s + d - σ .beat in
-      let e : s + d ≡ n + σ .beat = omega (arith, mod-le s (σ .window)) in
-      let none = picks-none (roundStarts σ) (0 + n) (σ .beat) (λ j k. ne-eqb ((0 + n + j) % round σ) 0 (no-multiple (0 + n + j) (omega arith) (omega arith))) in
-      sym (ap (multiples (round σ)) e ∙ picks-++ (roundStarts σ) 0 n (σ .beat) ∙ rw none (append-nil (multiples (round σ) n)))
+  -- up to a settled tick: no multiple of K × H stands in the last B ticks
+  pub save-list-cut : (es : List Step) (t : ℕ) → StepsPlaced σ t es → Settled σ t → Settled σ (t + duration es)
+      → starts isSave t es ≡ map (λ u. σ .beat + u) (multiples (σ .spacing * σ .window) t (t + duration es))
+  save-list-cut es t p s f =
+      let n = t + duration es - σ .beat - t in
+      let m = t + duration es - t - n in
+      let e : t + duration es - t ≡ n + m = omega arith in
+      let none = picks-none (roundStarts σ) (t + n) m (λ j k. ne-eqb ((t + n + j) % round σ) 0 (no-round (t + n + j) (omega arith) (omega arith))) in
+      let all : picks (roundStarts σ) t n ++ picks (roundStarts σ) (t + n) m ≡ picks (roundStarts σ) t n = rw none (append-nil (picks (roundStarts σ) t n)) in
+      save-list es t p s ∙ ap (map (λ u. σ .beat + u)) (sym (ap (picks (roundStarts σ) t) e ∙ picks-++ (roundStarts σ) t n m ∙ all))
     where
-      no-multiple : (u : ℕ) → s + d ≤ u + σ .beat → u < s + d → u % round σ ≡ 0 → ⊥
-      no-multiple u f g z =
-          let q = s / σ .window in
-          let r = u - σ .window * q in
-          let x = div-add-mod s (σ .window) in
-          let w : u ≡ σ .window * q + r = omega arith in
-          let y : u % σ .window ≡ r = ap (λ (x : ℕ). x % σ .window) w ∙ mul-add-mod-self-left (σ .window) q r ∙ mod-eq-of-lt (omega arith) in
-          omega (arith, round-small σ fits u 0 (window-pos σ fits) z)
+      no-round : (u : ℕ) → t + duration es ≤ u + σ .beat → u < t + duration es → u % round σ ≡ 0 → ⊥
+      no-round u g l z = omega (arith, f .over u (round-small σ fits u 0 (window-pos σ fits) z) l)
 
-  -- steps that end with one that is no BEAT: no multiple of K × H stands in their last B ticks
-  pub save-list-cut : (pre : List Step) (y : Step) → StepsPlaced σ 0 (pre ++ y ∷ []) → isBeat (y .does) ≡ false → 1 ≤ y .lasts
-      → starts isSave 0 (pre ++ y ∷ []) ≡ map (λ u. σ .beat + u) (multiples (σ .spacing * σ .window) (duration (pre ++ y ∷ [])))
-  save-list-cut pre y p b l =
-      let s = duration pre in
-      let i : InPlace σ s (y .lasts) (y .does) = rw (zero-add s) at (step-placed σ pre y [] 0 p) in
-      let e : duration (pre ++ y ∷ []) ≡ s + y .lasts = omega (arith, duration-++ pre (y ∷ [])) in
-      save-list (pre ++ y ∷ []) p ∙ rw e (ap (map (λ u. σ .beat + u)) (cut s (y .lasts) (i .clear b) (i .ends) l))
+  -- up to n, where a BEAT of B ticks starts at the last multiple of H
+  pub beat-list : (es : List Step) (t n : ℕ) → StepsPlaced σ t es → Settled σ t → n % σ .window ≡ 0 → t + duration es ≡ n + σ .beat
+      → starts isBeat t es ≡ multiples (σ .window) t n ++ n ∷ []
+  beat-list es t n p s z l =
+      beat-starts es t p ∙ ap (picks (beatDue σ) t) ends ∙ picks-++ (beatDue σ) t (n - t) (σ .beat)
+      ∙ ap (λ (x : List ℕ). multiples (σ .window) t n ++ x) (ap (λ (u : ℕ). picks (beatDue σ) u (σ .beat)) there ∙ last)
+    where
+      early : t ≤ n
+      early = go (leb t n) refl
+        where
+          go : (o : Bool) → leb t n ≡ o → t ≤ n
+          go true e = leb-true t n e
+          go false e = absurd (omega (arith, s .over n z (leb-false t n e)))
+
+      ends : duration es ≡ n - t + σ .beat
+      ends = omega (arith, early)
+
+      there : t + (n - t) ≡ n
+      there = omega (arith, early)
+
+      inside : (j : ℕ) → 0 < j → j < σ .beat → eqb ((n + j) % σ .window) 0 ≡ false
+      inside j a b = ne-eqb ((n + j) % σ .window) 0 (λ x. omega (arith, window-on σ fits n j (omega arith)))
+
+      last : picks (beatDue σ) n (σ .beat) ≡ n ∷ []
+      last = picks-step (beatDue σ) n (σ .beat) (λ x. omega arith) inside ∙ rw (eq-eqb (n % σ .window) 0 z)
 
   -- the step before a SAVE: one that is no BEAT would end past B in the window, or at its end
   beat-before : (t : ℕ) (x e : Step) → InPlace σ t (x .lasts) (x .does) → InPlace σ (t + x .lasts) (e .lasts) (e .does) → isSave (e .does) ≡ true
@@ -215,7 +259,8 @@ module _ (σ : Settings) (fits : Fits σ) where
       let r = last-beat y ys e post (t + x .lasts) (p .1) s in
       record { before = x ∷ r .before; beat = r .beat; parts = ap (λ (l : List Step). x ∷ l) (r .parts); is = r .is }
 
-  pub after-beat : (pre : List Step) (e : Step) (post : List Step) → StepsPlaced σ 0 (pre ++ e ∷ post) → isSave (e .does) ≡ true → EndsInBeat pre
-  after-beat [] e post p s =
-      absurd (omega (arith, zero-mod (round σ), eqb-true (0 % round σ) (σ .beat) (sym (p .0 .save-at) ∙ s)))
-  after-beat (x ∷ xs) e post p s = last-beat x xs e post 0 p s
+  pub after-beat : (pre : List Step) (e : Step) (post : List Step) (t : ℕ) → StepsPlaced σ t (pre ++ e ∷ post) → Settled σ t → isSave (e .does) ≡ true
+      → EndsInBeat pre
+  after-beat [] e post t p k s =
+      absurd (no-save t 0 k (omega arith) (rw (add-zero t) (eqb-true (t % round σ) (σ .beat) (sym (p .0 .save-at) ∙ s))))
+  after-beat (x ∷ xs) e post t p k s = last-beat x xs e post t p s

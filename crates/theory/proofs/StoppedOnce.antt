@@ -1,7 +1,7 @@
 -- A laid file, run, stopped once and taken up, over replies: it ends as the whole run does.
 use Prim.Native.Nat.{ℕ, _+_, _*_, _≤_, _<_}
 use native.Mathlib.Omega.{arith}
-use mathlib.Core.Path.{_≡_, refl, ap, ap₂, _∙_, subst}
+use mathlib.Core.Path.{_≡_, refl, ap, ap₂, sym, _∙_, subst}
 use mathlib.Core.Bool.{Bool, true, false, cond}
 use mathlib.Core.List.{List, _∷_, _++_}
 use lib.Dec.{eqb}
@@ -12,9 +12,9 @@ use Rattle.model.specs.Trees.{Block}
 use Rattle.model.specs.Runs.{Step, duration, outputsAfter, level, mark, overran, leave, cleared, run}
 use Rattle.model.specs.Stopping.{upto, Image, Saved, none, saved, imageBytes, imageOf, start, takeUp}
 use Rattle.model.specs.Answers.{bit}
-use Rattle.model.specs.Replies.{Loan, badBuffers, ended, isSaved, imageOver, stopBuffers, stopImage, resumeReply, resumeBuffers, restartReply, restartBuffers}
+use Rattle.model.specs.Replies.{Loan, badBuffers, ended, isSaved, imageOver, stopBuffers, stopImage, takenUp, resumeReply, resumeBuffers, restartReply, restartBuffers}
 use Rattle.model.specs.Placement.{Fits, Placed, StepsPlaced}
-use Rattle.model.specs.Chain.{valueAt, isFinished, Outputs, lend, hasImage, takingUp, takenUpBuffers, imageTick, End, endOf, takenUpEnd}
+use Rattle.model.specs.Chain.{valueAt, isFinished, Outputs, lend, hasImage, takingUp, takenUpBuffers, takenUpSteps, imageTick, End, endOf, takenUpEnd}
 use Rattle.model.proofs.Images.{image-length, image-back}
 use Rattle.theory.proofs.Within.{run-within}
 use Rattle.theory.proofs.Placing.{placed-loop-free, placed-run}
@@ -26,7 +26,7 @@ use Rattle.theory.proofs.Checkpoints.{checkpoint}
 use Rattle.theory.proofs.Accepted.{Runnable}
 use Rattle.theory.proofs.Files.{fileOf}
 use Rattle.theory.proofs.Running.{LentLengths, lengths-good, savedAt, onward, stop-answer, stop-leaves, stop-image}
-use Rattle.theory.proofs.Running.{restart-answer, restart-leaves, resume-answer, resume-leaves}
+use Rattle.theory.proofs.Running.{taken, restart-answer, restart-leaves, resume-answer, resume-leaves}
 
 -- the end that steps from the start lead to
 abbrev pub endFrom : List Step → List ℕ → End
@@ -38,6 +38,10 @@ pub record EndsAs (c : Loan) (image spare : List ℕ) (stop : ℕ) (es : List St
   pub end-tick : valueAt 0 (takingUp c image spare stop) ≡ duration es
   pub end : takenUpEnd c image spare stop ≡ endFrom es v
   pub image-tick : imageTick c image stop ≡ savedTick z
+
+start-tick : (v : List ℕ) (y : Saved) → orStart v y .tick ≡ savedTick y
+start-tick v none = refl
+start-tick v (saved m) = refl
 
 bit-back : (x : Bool) → eqb (bit x) 1 ≡ x
 bit-back true = refl
@@ -60,6 +64,9 @@ module _ (s : List ℕ) (b : Block) (r : Runnable s Laid (fileOf b) b) (fits : F
   abbrev c : Loan
   c = lend s Laid (fileOf b) ins v o
 
+  good : badBuffers c ≡ false
+  good = lengths-good s Laid (fileOf b) ins v o l
+
   left-good : (w : List ℕ) → length w ≡ 16 → badBuffers (lend s Laid (fileOf b) ins w left) ≡ false
   left-good w h =
       lengths-good s Laid (fileOf b) ins w left (record {
@@ -70,13 +77,13 @@ module _ (s : List ℕ) (b : Block) (r : Runnable s Laid (fileOf b) b) (fits : F
       })
 
   has : hasImage c image stop ≡ isSaved z
-  has = rw (stop-answer s Laid (fileOf b) b r ins v o (lengths-good s Laid (fileOf b) ins v o l) image image-room stop early) (bit-back (isSaved z))
+  has = rw (stop-answer s Laid (fileOf b) b r ins v o good image image-room stop early) (bit-back (isSaved z))
 
   state : stopBuffers c image stop ≡ leave (upto stop es) (cleared v)
-  state = stop-leaves s Laid (fileOf b) b r ins v o (lengths-good s Laid (fileOf b) ins v o l) image image-room stop early
+  state = stop-leaves s Laid (fileOf b) b r ins v o good image image-room stop early
 
   written : stopImage c image stop ≡ imageOver z image
-  written = stop-image s Laid (fileOf b) b r ins v o (lengths-good s Laid (fileOf b) ins v o l) image image-room stop early
+  written = stop-image s Laid (fileOf b) b r ins v o good image image-room stop early
 
   -- the calls as what the stop left decides them
   taking-up : takingUp c image spare stop
@@ -90,55 +97,61 @@ module _ (s : List ℕ) (b : Block) (r : Runnable s Laid (fileOf b) b) (fits : F
   image-is : imageTick c image stop ≡ cond (isSaved z) (imageOf (imageOver z image) .tick) 0
   image-is = rw (has, written)
 
-  -- from m on, the run ends as the whole one
-  record From (m : Image) : Type 0 where
-    leaves : onward (takeUp (settingsOf s) ins b m) m left ≡ leave es (cleared v)
-    over : overran (takeUp (settingsOf s) ins b m) ≡ overran es
-    ends : m .tick + duration (takeUp (settingsOf s) ins b m) ≡ duration es
+  steps-are : takenUpSteps c image stop ≡ cond (isSaved z) (takenUp c (imageOf (imageOver z image))) (takenUp c (start v))
+  steps-are = rw (has, written)
 
-  from : (m : Image) → orStart v z ≡ m → From m
-  from m e =
-      let t = taken-up (settingsOf s) ins b (placed-loop-free (settingsOf s) b 0 placed) v stop in
-      subst From e (record {
-        leaves = rw (t .same-variables, t .same-outputs level (replicate 8 0), t .same-outputs mark (replicate 8 0));
-        over = t .same-overrun;
-        ends = t .same-end;
-      })
+  -- taking up is not refused and does the steps from m on
+  record Taken (m : Image) : Type 0 where
+    answer : takingUp c image spare stop ≡ ended (m .tick) (takeUp (settingsOf s) ins b m)
+    leaves : takenUpBuffers c image spare stop ≡ onward (takeUp (settingsOf s) ins b m) m left
+    tick : imageTick c image stop ≡ m .tick
+    steps : takenUpSteps c image stop ≡ takeUp (settingsOf s) ins b m
 
-  finish : (m : Image) → orStart v z ≡ m → takingUp c image spare stop ≡ ended (m .tick) (takeUp (settingsOf s) ins b m)
-      → takenUpBuffers c image spare stop ≡ onward (takeUp (settingsOf s) ins b m) m left
-      → imageTick c image stop ≡ savedTick z
-      → EndsAs c image spare stop es v z
-  finish m e a w i =
-      let f = from m e in
-      record {
-        finishes = rw a;
-        end-tick = rw a (f .ends);
-        end = ap₂ endOf a (w ∙ f .leaves) ∙ ap (λ (x : Bool). record { buffers = leave es (cleared v); overran = bit x }) (f .over);
-        image-tick = i;
-      }
-
-  at-end : (y : Saved) → z ≡ y → EndsAs c image spare stop es v z
-  at-end none e =
+  from : (y : Saved) → z ≡ y → Taken (orStart v y)
+  from none e =
       let q = left-good v (l .variables) in
-      finish (start v) (ap (orStart v) e)
-      (taking-up ∙ rw e (restart-answer s Laid (fileOf b) b r ins v left q))
-      (taken-up-leaves ∙ rw e (restart-leaves s Laid (fileOf b) b r ins v left q))
-      (image-is ∙ rw e)
-  at-end (saved m) e =
+      record {
+        answer = taking-up ∙ rw e (restart-answer s Laid (fileOf b) b r ins v left q);
+        leaves = taken-up-leaves ∙ rw e (restart-leaves s Laid (fileOf b) b r ins v left q);
+        tick = image-is ∙ rw e;
+        steps = steps-are ∙ rw e (taken s Laid (fileOf b) b r ins v o good (start v));
+      }
+  from (saved m) e =
       let q = left-good spare spare-room in
       let k = checkpoint (settingsOf s) ins b (placed-loop-free (settingsOf s) b 0 placed) v stop m e in
       let sixteen = k .as-many ∙ l .variables in
       let back = image-back m sixteen in
       let long = image-length m sixteen in
       let in-time : m .tick ≤ settingsOf s .period = omega (arith, k .in-time, run-within (settingsOf s) ins b 0 .in-all v, r .in-time) in
-      finish m (ap (orStart v) e)
-      (taking-up ∙ rw e (resume-answer s Laid (fileOf b) b r ins spare left q (imageBytes m) m back long (k .after-save) in-time))
-      (taken-up-leaves ∙ rw e (resume-leaves s Laid (fileOf b) b r ins spare left q (imageBytes m) m back long (k .after-save) in-time))
-      (image-is ∙ rw (e, back))
+      record {
+        answer = taking-up ∙ rw e (resume-answer s Laid (fileOf b) b r ins spare left q (imageBytes m) m back long (k .after-save) in-time);
+        leaves = taken-up-leaves ∙ rw e (resume-leaves s Laid (fileOf b) b r ins spare left q (imageBytes m) m back long (k .after-save) in-time);
+        tick = image-is ∙ rw (e, back);
+        steps = steps-are ∙ rw (e, back) (taken s Laid (fileOf b) b r ins v o good m);
+      }
 
+  pub tick-taken : imageTick c image stop ≡ orStart v z .tick
+  tick-taken = from z refl .tick
+
+  pub steps-taken : takenUpSteps c image stop ≡ takeUp (settingsOf s) ins b (orStart v z)
+  steps-taken = from z refl .steps
+
+  pub answered : takingUp c image spare stop ≡ ended (imageTick c image stop) (takenUpSteps c image stop)
+  answered = from z refl .answer ∙ sym (ap₂ ended tick-taken steps-taken)
+
+  -- it ends as the whole run
   pub ends-alike : EndsAs c image spare stop es v z
-  ends-alike = at-end z refl
+  ends-alike =
+      let k = from z refl in
+      let t = taken-up (settingsOf s) ins b (placed-loop-free (settingsOf s) b 0 placed) v stop in
+      let leaves : onward (takeUp (settingsOf s) ins b (orStart v z)) (orStart v z) left ≡ leave es (cleared v) =
+      rw (t .same-variables, t .same-outputs level (replicate 8 0), t .same-outputs mark (replicate 8 0)) in
+      record {
+        finishes = rw (k .answer);
+        end-tick = rw (k .answer) (t .same-end);
+        end = ap₂ endOf (k .answer) (k .leaves ∙ leaves) ∙ ap (λ (x : Bool). record { buffers = leave es (cleared v); overran = bit x }) (t .same-overrun);
+        image-tick = k .tick ∙ start-tick v z;
+      }
 
   -- fewer than K × H ticks are run twice
   pub soon : stop < savedTick z + settingsOf s .spacing * settingsOf s .window

@@ -1,41 +1,66 @@
--- The BEATs of a whole run of a laid file, as a list of start and value: 1 each, and the last one the value that its start gives.
-use Prim.Native.Nat.{ℕ, zero, suc, _+_}
+-- The values of the BEATs of a run of a laid file: 1 each, and for the last one, which starts B before the total, what its start gives.
+use Prim.Native.Nat.{ℕ, zero, suc, _+_, _≤_, _<_}
 use native.Mathlib.Omega.{arith}
-use mathlib.Core.Path.{_≡_, refl, ap, sym, _∙_, subst}
-use mathlib.Core.Bool.{Bool, true, false, cond, true≢false}
-use mathlib.Core.List.{List, [], _∷_, _++_, append-nil, map}
+use mathlib.Core.Path.{_≡_, refl, ap, _∙_, subst}
+use mathlib.Core.Bool.{Bool, true, false, cond}
+use mathlib.Core.List.{List, [], _∷_, _++_, map}
 use Rattle.model.specs.declared.Settings.{Settings}
 use Rattle.model.specs.Trees.{Act, set, read, write, check, beat, save, Block, nil, skip, act, branch, while, times, _⧺_, size}
 use Rattle.model.specs.Times.{ticks, time}
-use Rattle.model.specs.Runs.{Effect, nothing, assigns, outputs, beats, saves, overruns, Step, step, isBeat, starts}
+use Rattle.model.specs.Runs.{Effect, nothing, assigns, outputs, beats, saves, overruns, Step, step, isBeat, starts, duration}
 use Rattle.model.specs.Runs.{onVariables, overran, holds, effect, Run, _⊳_, run}
 use Rattle.model.specs.Equalising.{waiting, merge}
 use Rattle.model.specs.Layout.{body, lastValue, closed}
 use Rattle.model.specs.Placement.{Each, command, CommandFree, LoopFree}
-use Rattle.model.specs.Timeline.{beatAt, beatList}
+use Rattle.model.specs.Timeline.{picks, beatAt, beatList}
+use Rattle.theory.proofs.Times.{time-merge}
 use Rattle.theory.proofs.Sequences.{run-⧺}
+use Rattle.theory.proofs.Within.{run-within}
 use Rattle.theory.proofs.Every.{Every, every-nil, every-single, every-choose}
 use Rattle.theory.proofs.Weaving.{woven-body, woven-each}
 
--- a BEAT has value 1
-abbrev One : Effect → Type 0
-One w = (x : ℕ) → w ≡ beats x → x ≡ 1
+-- VALUES BY START
 
-abbrev OneStep : Step → List ℕ → List Step → Type 0
-OneStep e v es = One (e .does)
+-- a BEAT has value n
+abbrev Has : ℕ → Effect → Type 0
+Has n w = (x : ℕ) → w ≡ beats x → x ≡ n
 
-one-list : (es : List Step) (v : List ℕ) (t : ℕ) → Every OneStep es v → beatList t es ≡ map (λ (u : ℕ). (u, 1)) (starts isBeat t es)
-one-list [] v t p = refl
-one-list (e ∷ es) v t p = go (e .does) (p .0) (one-list es (onVariables (e .does) v) (t + e .lasts) (p .1))
+-- each BEAT among steps from tick t on has the value that f gives its start
+abbrev pub StepsValued : (ℕ → ℕ) → ℕ → List Step → Type 0
+StepsValued f t [] = Unit {0}
+StepsValued f t (e ∷ es) = Has (f t) (e .does) × StepsValued f (t + e .lasts) es
+
+pub valued-list : (f : ℕ → ℕ) (es : List Step) (t : ℕ) → StepsValued f t es → beatList t es ≡ map (λ (u : ℕ). (u, f u)) (starts isBeat t es)
+valued-list f [] t p = refl
+valued-list f (e ∷ es) t p = go (e .does) (p .0) (valued-list f es (t + e .lasts) (p .1))
   where
-    go : (w : Effect) → One w → beatList (t + e .lasts) es ≡ map (λ (u : ℕ). (u, 1)) (starts isBeat (t + e .lasts) es)
-        → beatAt t w ++ beatList (t + e .lasts) es ≡ map (λ (u : ℕ). (u, 1)) (cond (isBeat w) (t ∷ []) [] ++ starts isBeat (t + e .lasts) es)
+    go : (w : Effect) → Has (f t) w → beatList (t + e .lasts) es ≡ map (λ (u : ℕ). (u, f u)) (starts isBeat (t + e .lasts) es)
+        → beatAt t w ++ beatList (t + e .lasts) es ≡ map (λ (u : ℕ). (u, f u)) (cond (isBeat w) (t ∷ []) [] ++ starts isBeat (t + e .lasts) es)
     go nothing o ih = ih
     go (assigns a x) o ih = ih
     go (outputs q x) o ih = ih
     go (beats x) o ih = rw (o x refl, ih)
     go (saves m) o ih = ih
     go overruns o ih = ih
+
+-- where f gives 1
+pub one-each : (f : ℕ → ℕ) (p : ℕ → Bool) (t n : ℕ) → ((u : ℕ) → t ≤ u → u < t + n → f u ≡ 1)
+    → map {B = ℕ × ℕ} (λ u. (u, f u)) (picks p t n) ≡ map (λ u. (u, 1)) (picks p t n)
+one-each f p t zero h = refl
+one-each f p t (suc n) h = go (p t) (one-each f p (t + 1) n (λ u a l. h u (omega arith) (omega arith)))
+  where
+    go : (o : Bool) → map {B = ℕ × ℕ} (λ u. (u, f u)) (picks p (t + 1) n) ≡ map (λ u. (u, 1)) (picks p (t + 1) n)
+        → map {B = ℕ × ℕ} (λ u. (u, f u)) (cond o (t ∷ []) [] ++ picks p (t + 1) n) ≡ map (λ u. (u, 1)) (cond o (t ∷ []) [] ++ picks p (t + 1) n)
+    go true e = rw (h t (omega arith) (omega arith), e)
+    go false e = e
+
+-- VALUE 1
+
+abbrev One : Effect → Type 0
+One = Has 1
+
+abbrev pub OneStep : Step → List ℕ → List Step → Type 0
+OneStep e v es = One (e .does)
 
 one-check : (o : Bool) → One (cond o overruns nothing)
 one-check true x e = let z : _≡_ {A = ℕ} 0 1 = cc in absurd (omega arith)
@@ -107,12 +132,13 @@ merge-last (times q m x a) n p = rw (merge-last a 0 p) (waiting-⧺ n (times q m
 
 -- A WHOLE RUN
 
--- a run is steps whose BEATs have value 1, and a last BEAT of value x
-pub record LastBeat (σ : Settings) (x : ℕ) (es : List Step) : Type 0 where
+-- a run is steps of at most n ticks whose BEATs have value 1, and unless they overran a last BEAT of value x
+pub record LastBeat (σ : Settings) (n x : ℕ) (v : List ℕ) (es : List Step) : Type 0 where
   pub front : List Step
   pub index : ℕ
-  pub parts : es ≡ front ++ step (σ .beat) index (beats x) ∷ []
-  pub front-list : (t : ℕ) → beatList t front ≡ map (λ (u : ℕ). (u, 1)) (starts isBeat t front)
+  pub parts : es ≡ front ++ cond (overran front) [] (step (σ .beat) index (beats x) ∷ [])
+  pub ones : Every OneStep front v
+  pub short : duration front ≤ n
 
 loop-free-left : (a b : Block) → LoopFree (a ⧺ b) → LoopFree a
 loop-free-left nil b u = tt
@@ -134,24 +160,18 @@ module _ (σ : Settings) (ins : List ℕ) (b : Block) (u : LoopFree b) (f : Comm
       (woven-each (λ p. One (command p)) (λ x e. cc) (λ x e. let z : _≡_ {A = ℕ} 0 1 = cc in absurd (omega arith)) (woven-body σ b u)
       (each-map (λ p. command p ≡ nothing) (λ p. One (command p)) (λ p c x e. let z : _≡_ {A = ℕ} 0 1 = cc in absurd (omega arith)) b f))
 
-  pub last-beat : LoopFree (merge 0 (closed σ b)) → (v : List ℕ) → overran (run σ ins (merge 0 (closed σ b)) 0 v) ≡ false
-      → LastBeat σ (lastValue σ (time σ (body σ b))) (run σ ins (merge 0 (closed σ b)) 0 v)
+  pub last-beat : LoopFree (merge 0 (closed σ b)) → (v : List ℕ)
+      → LastBeat σ (time σ (body σ b)) (lastValue σ (time σ (body σ b))) v (run σ ins (merge 0 (closed σ b)) 0 v)
   unfolding begun effect
-  last-beat w v =
-      subst (λ (es : List Step). overran es ≡ false → LastBeat σ x es)
-      (sym (ap (λ (c : Block). run σ ins c 0 v) (merge-last (body σ b) 0 (beat x)) ∙ run-⧺ σ ins begun (act (beat x) nil) 0 v))
-      (go (overran (run σ ins begun 0 v)) refl)
+  last-beat w v = record {
+    front = run σ ins begun 0 v;
+    index = 0 + size begun;
+    parts = ap (λ (c : Block). run σ ins c 0 v) (merge-last (body σ b) 0 (beat x)) ∙ run-⧺ σ ins begun (act (beat x) nil) 0 v;
+    ones =
+        every-nil OneStep (run σ ins begun 0) v
+        (one-run σ ins begun 0 (λ w. []) (loop-free-left begun (act (beat x) nil) (subst LoopFree (merge-last (body σ b) 0 (beat x)) w)) begun-ones (λ w. tt) v);
+    short = omega (arith, run-within σ ins begun 0 .in-all v, time-merge σ (body σ b) 0);
+  }
     where
       x : ℕ
       x = lastValue σ (time σ (body σ b))
-
-      front-ones : Every OneStep (run σ ins begun 0 v) v
-      front-ones =
-          every-nil OneStep (run σ ins begun 0) v
-          (one-run σ ins begun 0 (λ w. []) (loop-free-left begun (act (beat x) nil) (subst LoopFree (merge-last (body σ b) 0 (beat x)) w)) begun-ones (λ w. tt) v)
-
-      go : (o : Bool) → overran (run σ ins begun 0 v) ≡ o
-          → overran (run σ ins begun 0 v ++ cond o [] (step (σ .beat) (0 + size begun) (beats x) ∷ [])) ≡ false
-          → LastBeat σ x (run σ ins begun 0 v ++ cond o [] (step (σ .beat) (0 + size begun) (beats x) ∷ []))
-      go true e h = absurd (true≢false (sym e ∙ ap overran (sym (append-nil (run σ ins begun 0 v))) ∙ h))
-      go false e h = record { front = run σ ins begun 0 v; index = 0 + size begun; parts = refl; front-list = λ t. one-list (run σ ins begun 0 v) v t front-ones }

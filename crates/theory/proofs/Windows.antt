@@ -67,7 +67,7 @@ pub data Free (σ : Settings) (ε t : ℕ) : Type 0 where
   past : Past σ ε t → Free σ ε t
 
 -- a step of d ticks may start here, with no command before it
-record Ready (σ : Settings) (d t : ℕ) : Type 0 where
+record MayStart (σ : Settings) (d t : ℕ) : Type 0 where
   clear : Past σ 0 t
   room : t % σ .window + d ≤ σ .window
 
@@ -126,7 +126,7 @@ module _ (σ : Settings) (fits : Fits σ) where
     save-lasts = λ z. absurd (false≢true z);
   }
 
-  in-place : (d t : ℕ) → Ready σ d t → InPlace σ t d nothing
+  in-place : (d t : ℕ) → MayStart σ d t → InPlace σ t d nothing
   in-place d t r = record {
     beat-at = sym (ne-eqb (t % σ .window) 0 (λ z. omega arith));
     save-at = sym (ne-eqb (t % round σ) (σ .beat) (λ z. omega arith));
@@ -147,7 +147,7 @@ module _ (σ : Settings) (fits : Fits σ) where
   later ε t l (bound e) = bound e
   later ε t l (past p) = past (weaken 1 ε t l p)
 
-  after-step : (ε d t : ℕ) → ε ≤ 1 → 1 ≤ d → Ready σ d t → Free σ ε (t + d)
+  after-step : (ε d t : ℕ) → ε ≤ 1 → 1 ≤ d → MayStart σ d t → Free σ ε (t + d)
   after-step ε d t h p r = go (ltb (t % σ .window + d) (σ .window)) refl
     where
       go : (o : Bool) → ltb (t % σ .window + d) (σ .window) ≡ o → Free σ ε (t + d)
@@ -238,17 +238,17 @@ module _ (σ : Settings) (fits : Fits σ) where
 
   -- before a step of d ticks: its commands, and if need be a wait for the next multiple of H and its commands
   module _ (d : ℕ) (fit : σ .beat + σ .save + d ≤ σ .window) where
-    ready-bound : (t : ℕ) → t % σ .window ≡ 0 → Leads σ (Ready σ d) t (commands σ t)
+    ready-bound : (t : ℕ) → t % σ .window ≡ 0 → Leads σ (MayStart σ d) t (commands σ t)
     ready-bound t e = let c = commanded t e in record { placed = c .placed; there = record { clear = c .clear; room = omega arith } }
 
-    ready-wait : (t : ℕ) → Past σ 0 t → Leads σ (Ready σ d) t (cond (ltb (left σ t) d) (skip (left σ t) (commands σ (t + left σ t))) nil)
+    ready-wait : (t : ℕ) → Past σ 0 t → Leads σ (MayStart σ d) t (cond (ltb (left σ t) d) (skip (left σ t) (commands σ (t + left σ t))) nil)
     ready-wait t p = go (ltb (left σ t) d) refl
       where
-        go : (o : Bool) → ltb (left σ t) d ≡ o → Leads σ (Ready σ d) t (cond o (skip (left σ t) (commands σ (t + left σ t))) nil)
+        go : (o : Bool) → ltb (left σ t) d ≡ o → Leads σ (MayStart σ d) t (cond o (skip (left σ t) (commands σ (t + left σ t))) nil)
         go true e = leads-skip (left σ t) t (commands σ (t + left σ t)) (waits t p) (ready-bound (t + left σ t) (window-over t))
         go false e = leads-nil t (record { clear = p; room = omega (arith, mod-lt t window-pos, ltb-false (left σ t) d e) })
 
-    ready : (ε t : ℕ) → Free σ ε t → Leads σ (Ready σ d) t (before σ t d)
+    ready : (ε t : ℕ) → Free σ ε t → Leads σ (MayStart σ d) t (before σ t d)
     unfolding before
     ready ε t (bound e) = let c = commanded t e in leads-⧺ (commands σ t) _ t (c .placed) (ready-wait (t + time σ (commands σ t)) (c .clear))
     ready ε t (past p) = let q = weaken ε 0 t (omega arith) p in rw (no-command t q, add-zero t) (ready-wait t q)
