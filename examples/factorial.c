@@ -79,13 +79,11 @@ static uint32_t stopped(const uint8_t *file, size_t length, uint32_t stop, struc
 }
 
 int main(void) {
-    static uint8_t equalised[RACK_LONGEST], laid[RACK_LONGEST];
+    static uint8_t laid[RACK_LONGEST];
     uint64_t time = finished("rack_time", rack_time(settings, sizeof settings, RACK_TASK, task, sizeof task));
-    uint64_t made = finished("rack_equalise", rack_equalise(settings, sizeof settings, task, sizeof task, equalised, sizeof equalised));
-    uint64_t ready = finished("rack_lay_out",
-                              rack_lay_out(settings, sizeof settings, equalised, rack_first(made), laid, sizeof laid));
-    printf("as written %zu bytes, %u ticks; equalised %u bytes, %u ticks; laid out %u bytes, %u ticks\n", sizeof task, rack_first(time),
-           rack_first(made), rack_second(made), rack_first(ready), rack_second(ready));
+    uint64_t ready = finished("rack_prepare", rack_prepare(settings, sizeof settings, task, sizeof task, laid, sizeof laid));
+    printf("as written %zu bytes, %u ticks; prepared %u bytes, %u ticks\n", sizeof task, rack_first(time), rack_first(ready),
+           rack_second(ready));
 
     struct run written = {0}, prepared = {0};
     whole(RACK_TASK, task, sizeof task, &written);

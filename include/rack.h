@@ -6,11 +6,16 @@
 // A call answers one number.
 // Finished: bit 63 is 0. Bits 0 to 23 hold the first value, bits 24 to 55 the second, and bits 56 to 62 the flags: RACK_OVERRAN and
 // RACK_SAVED. What a call does not name is 0.
-// Refused: bit 63 is 1, bits 56 to 62 hold the refusal's number, and bits 0 to 55 the record index (2 to 5) or the length in bytes (1)
-// that is returned with it, 2^56 - 1 for any length above that, 0 where the number is returned alone. No byte that was lent is changed.
+// Refused: bit 63 is 1, bits 56 to 62 hold the refusal's number, and bits 0 to 55 what is returned with it: the length in bytes (1), 2^56 - 1
+// for any length above that; the record index (2 to 5), or the record count where a block is open at the end of the file (4); else 0. No
+// byte that was lent is changed.
+//
+// Heartbeats, totals and taking up are as promised where a task is prepared, run and taken up under settings of the same numbers. Other
+// settings are not refused: the file is then run as its records stand.
 //
 // Slices are a pointer and a number of elements. A pointer is not null, also where the number is 0, and leads to as many elements. The
-// buffers of one call do not overlap. Measured on files nested 16 deep, a call needs up to 18,128 bytes of stack.
+// buffers of one call do not overlap. Measured on files nested as deep as may be, a call needs up to 18,128 bytes of stack, and rack_prepare
+// 27,504.
 #ifndef RACK_H
 #define RACK_H
 
@@ -21,7 +26,7 @@
 extern "C" {
 #endif
 
-// The form of a file. 3 and up are reserved, and taken as laid.
+// The form of a file. Any other number is taken as laid.
 enum { RACK_TASK = 0, RACK_EQUALISED = 1, RACK_LAID = 2 };
 
 // The flags of a finished run.
@@ -30,28 +35,36 @@ enum { RACK_OVERRAN = 1, RACK_SAVED = 2 };
 // Lengths that the table asks for, and the bytes of the longest file.
 enum { RACK_SETTINGS = 12, RACK_VARIABLES = 16, RACK_PORTS = 8, RACK_IMAGE = 72, RACK_LONGEST = 65532 };
 
-// The parts of an answer.
+// The parts of an answer. Ask rack_refused first: a refused one has a number and a value, a finished one first, second and flags.
 static inline int rack_refused(uint64_t answer) { return (int)(answer >> 63); }
 static inline unsigned rack_number(uint64_t answer) { return (unsigned)(answer >> 56 & 127); }
 static inline uint64_t rack_value(uint64_t answer) { return answer & 0xffffffffffffff; }
 static inline uint32_t rack_first(uint64_t answer) { return (uint32_t)(answer & 0xffffff); }
 static inline uint32_t rack_second(uint64_t answer) { return (uint32_t)(answer >> 24 & 0xffffffff); }
-static inline unsigned rack_flags(uint64_t answer) { return (unsigned)(answer >> 56 & 127); }
+static inline unsigned rack_flags(uint64_t answer) { return rack_refused(answer) ? 0 : (unsigned)(answer >> 56 & 127); }
 
 // The time of a file. First value: the time in ticks. Refusals 6, 1 to 5 and 8.
 uint64_t rack_time(const uint8_t *settings, size_t settings_length, uint8_t form, const uint8_t *file, size_t file_length);
 
-// Writes the equalised task over the front of out; what follows it there stays. First value: the bytes written, second: the time in
-// ticks. Refusals 6, 1 to 5, 8 and 9.
+// Writes the equalised task over the front of out; what follows it there stays. First value: the bytes written, and so many are to be
+// handed on, not out_length; second: the time in ticks. Refusals 6, 1 to 5, 8 and 9.
 uint64_t rack_equalise(const uint8_t *settings, size_t settings_length, const uint8_t *task, size_t task_length, uint8_t *out,
                        size_t out_length);
 
-// Lays out an equalised file over the front of out; what follows it there stays. First value: the bytes written, second: the total in
-// ticks. Refusals 6, 1 to 5, 7, 8 and 9.
+// Lays out an equalised file over the front of out; what follows it there stays. First value: the bytes written, and so many are to be
+// run, not out_length; second: the total in ticks. Refusals 6, 1 to 5, 7, 8 and 9.
 uint64_t rack_lay_out(const uint8_t *settings, size_t settings_length, const uint8_t *equalised, size_t equalised_length, uint8_t *out,
                       size_t out_length);
 
-// Runs a file of any form from its first record, with levels and marks set to 0 first. variables, levels and marks show how it ended.
+// Prepares a task: equalises it into a buffer of the call's own, and lays that out over the front of out; what follows it there stays.
+// First value: the bytes written, and so many are to be run, not out_length; second: the total in ticks. Refusals 6, 1 to 5, 7, 8 and 9, those
+// of equalising before those of laying out: a task whose own time is above the period is refused 8 also where the window is too short. 9 is
+// the laid file's alone.
+uint64_t rack_prepare(const uint8_t *settings, size_t settings_length, const uint8_t *task, size_t task_length, uint8_t *out,
+                      size_t out_length);
+
+// Runs a file of any form from its first record, with levels and marks set to 0 first. variables, levels and marks show how it ended: a
+// port's level is the last that was written there, and its mark 1; where the mark is 0, the port has none.
 // First value: the end tick; flag RACK_OVERRAN. Refusals 6, 1 to 5, 8 and 10.
 uint64_t rack_run(const uint8_t *settings, size_t settings_length, uint8_t form, const uint8_t *file, size_t file_length,
                   uint32_t *variables, size_t variables_length, const uint32_t *inputs, size_t inputs_length, uint32_t *levels,
@@ -65,15 +78,15 @@ uint64_t rack_run_until(const uint8_t *settings, size_t settings_length, uint8_t
                         uint32_t *variables, size_t variables_length, const uint32_t *inputs, size_t inputs_length, uint32_t *levels,
                         size_t levels_length, uint8_t *marks, size_t marks_length, uint8_t *image, size_t image_length, uint32_t stop);
 
-// Takes a stopped run up from its image, with the same file and inputs and with levels and marks as the stop left them. Whatever
+// Takes a stopped run up from its image, with the same settings, file and inputs and with levels and marks as the stop left them. Whatever
 // variables held before, they begin as the image has them. First value: the end tick, counted on from the image's; flag RACK_OVERRAN.
 // Refusals 6, 1 to 5, 8, 10 and 11.
 uint64_t rack_resume(const uint8_t *settings, size_t settings_length, uint8_t form, const uint8_t *file, size_t file_length,
                      const uint8_t *image, size_t image_length, uint32_t *variables, size_t variables_length, const uint32_t *inputs,
                      size_t inputs_length, uint32_t *levels, size_t levels_length, uint8_t *marks, size_t marks_length);
 
-// Takes a stopped run up where no checkpoint was finished: from the first record and the first variables, with levels and marks as the
-// stop left them. First value: the end tick; flag RACK_OVERRAN. Refusals 6, 1 to 5, 8 and 10.
+// Takes a stopped run up where no checkpoint was finished: from the first record and the first variables, with the same settings, file and
+// inputs and with levels and marks as the stop left them. First value: the end tick; flag RACK_OVERRAN. Refusals 6, 1 to 5, 8 and 10.
 uint64_t rack_restart(const uint8_t *settings, size_t settings_length, uint8_t form, const uint8_t *file, size_t file_length,
                       uint32_t *variables, size_t variables_length, const uint32_t *inputs, size_t inputs_length, uint32_t *levels,
                       size_t levels_length, uint8_t *marks, size_t marks_length);

@@ -7,18 +7,18 @@ use mathlib.Core.List.{List, [], _∷_}
 use Rattle.model.specs.declared.Refusal.{Refusal}
 use Rattle.model.specs.Answers.{Verdict, finished, refused, refusal}
 use Rattle.model.specs.Chain.{isFinished}
-use Rattle.model.specs.Rehearsal.{andThen}
+use Rattle.model.specs.Replies.{andThen}
 
 -- a refusal is no finished result
-record IsRefused (v : Verdict) : Type 0 where
-  number : ℕ
-  values : List ℕ
-  is : v ≡ refused number values
+pub record IsRefused (v : Verdict) : Type 0 where
+  pub number : ℕ
+  pub values : List ℕ
+  pub is : v ≡ refused number values
 
 numbered : (n : ℕ) (ys : List ℕ) → IsRefused (refused n ys)
 numbered n ys = record { number = n; values = ys; is = refl }
 
-is-refused : (x : Refusal) → IsRefused (refusal x)
+pub is-refused : (x : Refusal) → IsRefused (refusal x)
 is-refused (Refusal.BadLength n) = numbered 1 (n ∷ [])
 is-refused (Refusal.BadKind i) = numbered 2 (i ∷ [])
 is-refused (Refusal.BadField i) = numbered 3 (i ∷ [])

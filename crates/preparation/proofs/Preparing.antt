@@ -1,53 +1,78 @@
--- From the calls that prepare a task to what preparing it answers.
+-- From the two calls that prepare a task to what preparing it answers.
 use Prim.Native.Nat.{ℕ, _*_, _≤_}
 use native.Mathlib.Omega.{arith}
-use mathlib.Core.Path.{_≡_, ap, sym, _∙_}
+use mathlib.Core.Path.{_≡_, refl, ap, sym, _∙_}
+use mathlib.Core.Bool.{Bool, true, false}
 use mathlib.Core.List.{List, [], _∷_}
 use lib.ListN.{length, getD, take}
+use borrow.Author.Tests.{le-ltb}
 use Rattle.model.specs.declared.Refusal.{Refusal}
-use Rattle.model.specs.declared.LaidOut.{LaidOut}
-use Rattle.model.specs.Trees.{size}
-use Rattle.model.specs.Answers.{Verdict, finished, refusal, laidOut}
-use Rattle.model.specs.Replies.{equaliseReply, equaliseOut, equalisedTree, layOutReply, layOutOut, laidTree}
+use Rattle.model.specs.declared.Form.the-variants.{Task}
+use Rattle.model.specs.Settings.{settingsOf, badSettings}
+use Rattle.model.specs.Trees.{size, fileTree}
+use Rattle.model.specs.Refusals.{Fault, sound, faulty, fault}
+use Rattle.model.specs.Answers.{Verdict, finished, refusal}
+use Rattle.model.specs.Replies.{reading, equalisedTree, equaliseReply, equaliseOut, layOutReply, layOutOut, fullRoom, equalisedOf, prepareReply, prepareOut}
 use Rattle.model.specs.Chain.{valueAt}
-use Rattle.theory.proofs.Accepted.{equalise-accepted, lay-out-accepted}
-use Rattle.model.specs.Rehearsal.{andThen}
-use Rattle.preparation.specs.Contracts.{equalisedBy, Prepares}
-use Rattle.preparation.proofs.Chaining.{never-finished, refused-first}
+use Rattle.model.proofs.Sound.{sound-file}
+use Rattle.theory.proofs.Accepted.{equalise-accepted}
+use Rattle.theory.proofs.Files.{equalised-file}
+use Rattle.equaliser.proofs.Merged.{equalise-padded, padded-small}
+use Rattle.preparation.proofs.Chaining.{is-refused, refused-first}
 
--- the first value of an answer
-pub value-is : {xs : List ℕ} {v : Verdict} → finished xs ≡ v → valueAt 0 v ≡ getD xs 0 0
-value-is e = ap (valueAt 0) (sym e)
+-- ROOM
 
--- what is written fits its buffer
-equalised-fits : (s task : List ℕ) (m : ℕ) {n t : ℕ} → finished (n ∷ t ∷ []) ≡ equaliseReply s task m → n ≤ m
-equalised-fits s task m {n} {t} e =
+-- a task becomes at most 1,025 records
+few-records : (s task : List ℕ) → fault Task task ≡ sound → size (equalisedTree s task) ≤ 1025
+unfolding equalisedTree
+few-records s task e =
+    let σ = settingsOf s in
+    omega (arith, ap size (equalise-padded σ (fileTree task)), padded-small σ (fileTree task) 0 0, sound-file Task task e .few)
+
+-- so equalising answers alike in all rooms for that many
+pub room-enough : (s task : List ℕ) (m : ℕ) → 12300 ≤ m → equaliseReply s task m ≡ equaliseReply s task fullRoom
+unfolding equaliseReply reading
+room-enough s task m h = go (badSettings s) refl (fault Task task) refl
+  where
+    go : (x : Bool) → badSettings s ≡ x → (y : Fault) → fault Task task ≡ y → equaliseReply s task m ≡ equaliseReply s task fullRoom
+    go true e y f = rw e
+    go false e (faulty n x) f = rw (e, f)
+    go false e sound f =
+        let n = size (equalisedTree s task) in
+        let few = few-records s task f in
+        rw (e, f, le-ltb m (12 * n) (omega arith), le-ltb fullRoom (12 * n) (omega arith))
+
+-- what was written fits its buffer
+pub prepare-fits : (s task : List ℕ) (m : ℕ) {n t k : ℕ} → finished (n ∷ t ∷ []) ≡ equaliseReply s task m → k ≡ m → n ≤ k
+prepare-fits s task m {n} {t} e h =
     let A = equalise-accepted s task m (n ∷ t ∷ []) (sym e) in
-    let q : 12 * size (equalisedTree s task) ≡ n = ap (λ (xs : List ℕ). getD xs 0 0) (A .answers) in
-    omega (arith, A .has-room .fits-buffer)
+    omega (arith, h, ap (λ (xs : List ℕ). getD xs 0 0) (A .answers), A .has-room .fits-buffer)
 
-pub laid-fits : (s file : List ℕ) (m : ℕ) {n t : ℕ} → finished (n ∷ t ∷ []) ≡ layOutReply s file m → n ≤ m
-laid-fits s file m {n} {t} e =
-    let A = lay-out-accepted s file m (n ∷ t ∷ []) (sym e) in
-    let q : 12 * size (laidTree s file) ≡ n = ap (λ (xs : List ℕ). getD xs 0 0) (A .answers) in
-    omega (arith, A .has-room .fits-buffer)
+-- THE CALL
 
-module _ (s task eq laid : List ℕ) where
-  pub prepare-refused : (x : Refusal) → refusal x ≡ equaliseReply s task (length eq) → Prepares s task eq laid laid (LaidOut.Refused x)
-  prepare-refused x e = record {
-    reply = refused-first x (layOutReply s (equalisedBy s task eq) (length laid)) e;
-    leaves = λ xs f. never-finished x xs f;
-  }
+-- what preparing a task answers and leaves
+abbrev pub Prepares : List ℕ → List ℕ → List ℕ → List ℕ → Verdict → Type 0
+Prepares s task out out′ v = (v ≡ prepareReply s task (length out)) × (out′ ≡ prepareOut s task out)
 
-  module _ {n t : ℕ} (e : finished (n ∷ t ∷ []) ≡ equaliseReply s task (length eq)) {eq′ : List ℕ} (w : eq′ ≡ equaliseOut s task eq) where
-    pub prepare-fits : length eq′ ≡ length eq → n ≤ length eq′
-    prepare-fits h = omega (arith, equalised-fits s task (length eq) e)
+module _ (s task own out : List ℕ) (h : length own ≡ 12300) where
+  answered : equaliseReply s task (length own) ≡ equaliseReply s task fullRoom
+  answered = room-enough s task (length own) (omega (arith, h))
 
-    written : take n eq′ ≡ equalisedBy s task eq
-    written = ap (take n) w ∙ ap (λ (m : ℕ). take m (equaliseOut s task eq)) (sym (value-is e))
+  pub prepare-refused : (x : Refusal) → refusal x ≡ equaliseReply s task (length own) → Prepares s task out out (refusal x)
+  unfolding prepareReply prepareOut
+  prepare-refused x e =
+      let k = refused-first x (layOutReply s (equalisedOf s task) (length out)) (e ∙ answered) in
+      (k, rw (← k, is-refused x .is))
 
-    pub prepare-laid : {r : LaidOut} {laid′ : List ℕ} → laidOut r ≡ layOutReply s (take n eq′) (length laid) → laid′ ≡ layOutOut s (take n eq′) laid → Prepares s task eq laid laid′ r
-    prepare-laid p q = record {
-      reply = p ∙ ap (λ (f : List ℕ). layOutReply s f (length laid)) written ∙ ap (λ (v : Verdict). andThen v (layOutReply s (equalisedBy s task eq) (length laid))) e;
-      leaves = λ xs f. q ∙ ap (λ (g : List ℕ). layOutOut s g laid) written;
-    }
+  module _ {n t : ℕ} (e : finished (n ∷ t ∷ []) ≡ equaliseReply s task (length own)) {own′ : List ℕ} (w : own′ ≡ equaliseOut s task own) where
+    written : take n own′ ≡ equalisedOf s task
+    written =
+        ap (take n) w ∙ ap (λ (v : Verdict). take (valueAt 0 v) (equaliseOut s task own)) e
+        ∙ equalised-file s task own (n ∷ t ∷ []) (sym e)
+
+    pub prepare-laid : {v : Verdict} {out′ : List ℕ} → v ≡ layOutReply s (take n own′) (length out) → out′ ≡ layOutOut s (take n own′) out
+        → Prepares s task out out′ v
+    unfolding prepareReply prepareOut layOutOut
+    prepare-laid p q =
+        let k = sym (e ∙ answered) in
+        (p ∙ rw (written, k), q ∙ rw (written, k))

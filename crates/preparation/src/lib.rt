@@ -1,17 +1,22 @@
 // A task made ready to run: equalised, then laid out.
-ghost use Rattle.preparation.specs.Contracts.{Prepares};
+ghost use mathlib.Core.Path.{_≡_};
+ghost use lib.ListN.{length};
+ghost use Rattle.model.specs.Answers.{laidOut};
+ghost use Rattle.model.specs.Replies.{prepareReply, prepareOut};
 use equaliser::equalise;
 use layout::lay_out;
 use model::Equalised;
 use model::LaidOut;
 
-// The task equalised into one lent buffer and laid out into another.
-pub fn prepare(settings: &[u8], task: &[u8], equalised: &mut [u8], laid: &mut [u8]) -> LaidOut
-    ensures { λ r. ⌜ Prepares (now (settings .entry)) (now (task .entry)) (now (equalised .entry)) (now (laid .entry)) (now (laid .exit)) r ⌝ }
+// The equalised file is the call's own: a task of 256 records becomes at most 1,025.
+pub fn prepare(settings: &[u8], task: &[u8], out: &mut [u8]) -> LaidOut
+    ensures { λ r. ⌜ (laidOut r ≡ prepareReply (now (settings .entry)) (now (task .entry)) (length (now (out .entry))))
+        × (now (out .exit) ≡ prepareOut (now (settings .entry)) (now (task .entry)) (now (out .entry))) ⌝ }
 {
-    let r = equalise(settings, task, equalised);
+    let mut equalised: [u8; 12300] = [0; 12300];
+    let r = equalise(settings, task, &mut equalised);
     match r {
         Equalised::Refused(x) => LaidOut::Refused(x),
-        Equalised::Written { bytes, time: _ } => lay_out(settings, &equalised[..bytes], laid),
+        Equalised::Written { bytes, time: _ } => lay_out(settings, &equalised[..bytes], out),
     }
 }

@@ -1,7 +1,7 @@
 -- How large the values of a finished result can be, and that C reads them back from the bits of the number that it gets.
 use Prim.Native.Nat.{ℕ, _+_, _*_, _/_, _%_, _^_, _≤_}
 use native.Mathlib.Omega.{arith}
-use mathlib.Core.Path.{_≡_, ap}
+use mathlib.Core.Path.{_≡_, ap, sym}
 use mathlib.Core.Bool.{Bool, true, false, not, _||_}
 use mathlib.Core.List.{List, [], _∷_}
 use lib.Dec.{leb}
@@ -15,12 +15,13 @@ use Rattle.model.specs.Runs.{Step, duration, overran}
 use Rattle.model.specs.Stopping.{Image, imageOf, start, rest, takeUp}
 use Rattle.model.specs.Refusals.{sound, fault}
 use Rattle.model.specs.Answers.{Verdict, finished, bit}
-use Rattle.model.specs.Replies.{turnDown, above, fileTime, timeReply, equaliseReply, layOutReply}
-use Rattle.model.specs.Replies.{Loan, badBuffers, badImage, ready, ended, stepsOf, runReply, stopReply, imageAt, isSaved, takenUp, afterSave, strayImage, resumeReply, restartReply}
+use Rattle.model.specs.Replies.{turnDown, above, fileTime, timeReply, equaliseReply, layOutReply, fullRoom, equalisedOf, prepareReply}
+use Rattle.model.specs.Replies.{Loan, badBuffers, badImageLength, ready, ended, stepsOf, runReply, stopReply, imageAt, isSaved, takenUp, afterSave, strayImage, resumeReply, restartReply}
 use Rattle.theory.proofs.Within.{run-within}
 use Rattle.theory.proofs.Left.{rest-0}
 use Rattle.theory.proofs.Reached.{rest-reached}
 use Rattle.theory.proofs.Accepted.{neither, passed, read, in-range, equalise-accepted, lay-out-accepted}
+use Rattle.preparation.proofs.Chaining.{second-done}
 use Rattle.machine.proofs.Positions.{rest-shorter}
 use Rattle.preparer.specs.Words.{fileWord, runWord}
 
@@ -67,6 +68,10 @@ lay-out-bound s file room xs e =
       two = omega (arith, ap second (a .answers), a .in-time, a .in-range .short);
     }
 
+pub prepare-bound : (s task : List ℕ) (room : ℕ) (xs : List ℕ) → prepareReply s task room ≡ finished xs → FileBound xs
+unfolding prepareReply
+prepare-bound s task room xs e = lay-out-bound s (equalisedOf s task) room xs (sym (second-done (equaliseReply s task fullRoom) _ (sym e)))
+
 -- RUNS
 
 -- the tick at which one ends or is stopped, whether it overran, and whether there is an image
@@ -75,13 +80,13 @@ pub record RunBound (xs : List ℕ) : Type 0 where
   pub overran-bit : second xs ≤ 1
   pub saved-bit : third xs ≤ 1
 
-record Ready (c : Loan) (next : Verdict) (xs : List ℕ) : Type 0 where
+record GoesOn (c : Loan) (next : Verdict) (xs : List ℕ) : Type 0 where
   file-sound : fault (c .form) (c .file) ≡ sound
   in-time : fileTime (c .settings) (c .file) ≤ settingsOf (c .settings) .period
   short : settingsOf (c .settings) .period ≤ 1000000
   goes-on : next ≡ finished xs
 
-readied : (c : Loan) (cause : Bool) (next : Verdict) (xs : List ℕ) → ready c cause next ≡ finished xs → Ready c next xs
+readied : (c : Loan) (cause : Bool) (next : Verdict) (xs : List ℕ) → ready c cause next ≡ finished xs → GoesOn c next xs
 unfolding ready
 readied c cause next xs e =
     let s = c .settings in
@@ -122,7 +127,7 @@ run-bound c xs e =
 pub stop-bound : (c : Loan) (image : List ℕ) (stop : ℕ) (xs : List ℕ) → stopReply c image stop ≡ finished xs → RunBound xs
 unfolding stopReply
 stop-bound c image stop xs e =
-    let r = readied c (badImage image) _ xs e in
+    let r = readied c (badImageLength image) _ xs e in
     let p = passed 12 (leb (duration (stepsOf c)) stop) (finished (stop ∷ 0 ∷ bit (isSaved (imageAt c stop)) ∷ [])) xs (r .goes-on) in
     let is : stop ∷ 0 ∷ bit (isSaved (imageAt c stop)) ∷ [] ≡ xs = (let q = p .1 in cc) in
     record {
@@ -143,7 +148,7 @@ unfolding resumeReply
 resume-bound c image xs e =
     let m = imageOf image in
     let σ = settingsOf (c .settings) in
-    let r = readied c (badImage image) _ xs e in
+    let r = readied c (badImageLength image) _ xs e in
     let p = passed 11 (strayImage c m) (ended (m .tick) (takenUp c m)) xs (r .goes-on) in
     let q = neither (not (afterSave (c .file) (m .index))) (above (c .settings) (m .tick)) (p .0) in
     let early = ltb-false (σ .period) (m .tick) (q .1) in

@@ -2,13 +2,14 @@
 use Prim.Native.Nat.{ℕ, _*_, _≤_}
 use native.Mathlib.Omega.{arith}
 use mathlib.Core.Path.{_≡_, refl, ap, sym, _∙_}
-use mathlib.Core.List.{List, [], _∷_}
+use mathlib.Core.List.{List}
 use Rattle.model.specs.declared.Refusal.{Refusal}
 use Rattle.model.specs.declared.Form.{Form}
 use Rattle.model.specs.Trees.{size}
 use Rattle.model.specs.Runs.{Buffers}
 use Rattle.model.specs.Answers.{Verdict, finished, refused, refusal}
-use Rattle.model.specs.Replies.{equalisedTree, equaliseReply, laidTree, layOutReply}
+use Rattle.model.specs.Replies.{equalisedTree, equaliseReply, laidTree, layOutReply, fullRoom, equalisedOf, prepareReply}
+use Rattle.preparation.proofs.Chaining.{second-done}
 use Rattle.theory.proofs.Accepted.{equalise-accepted, lay-out-accepted}
 use Rattle.refusals.specs.Numbers.{numberIn, valueIn}
 use Rattle.preparer.specs.Words.{firstIn, refusedWord, runWord, packed}
@@ -42,6 +43,11 @@ laid-few s file room (finished xs) e =
     let bytes : 12 * size (laidTree s file) ≡ firstIn (finished xs) = ap (λ (ys : List ℕ). firstIn (finished ys)) (a .answers) in
     omega (arith, a .has-room .few)
 laid-few s file room (refused n xs) e = omega arith
+
+pub prepared-few : (s task : List ℕ) (room : ℕ) (v : Verdict) → v ≡ prepareReply s task room → firstIn v ≤ 65532
+unfolding prepareReply
+prepared-few s task room (finished xs) e = laid-few s (equalisedOf s task) room (finished xs) (second-done (equaliseReply s task fullRoom) _ e)
+prepared-few s task room (refused n xs) e = omega arith
 
 -- A call on a file whose form came as a number.
 pub by-form : (reply : Form → Verdict) (left : Form → Buffers) {f g : Form} {v : Verdict} {b : Buffers} {r : ℕ}

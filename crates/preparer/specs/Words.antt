@@ -8,7 +8,7 @@ use Rattle.model.specs.declared.Form.{Form}
 use Rattle.model.specs.declared.Form.the-variants.{Task, Equalised, Laid}
 use Rattle.model.specs.Answers.{Verdict, finished, refused}
 
--- 0 a task, 1 an equalised file, 2 a laid one; 3 and up are reserved, and taken as laid
+-- 0 a task, 1 an equalised file, any other number a laid one
 abbrev pub formOf : ℕ → Form
 formOf x = cond (eqb x 0) Task (cond (eqb x 1) Equalised Laid)
 
@@ -17,7 +17,7 @@ abbrev pub firstIn : Verdict → ℕ
 firstIn (finished xs) = getD xs 0 0
 firstIn (refused n xs) = 0
 
--- A refusal: bit 63, its number in bits 56 to 62, and in bits 0 to 55 the value, or the largest number that has room there.
+-- A refusal: bit 63, its number in bits 56 to 62, and in bits 0 to 55 the value, or the largest number that has room there; 0 where the number is returned alone.
 abbrev pub refusedWord : ℕ → ℕ → ℕ
 refusedWord n x = 2 ^ 63 + 2 ^ 56 * n + min x (2 ^ 56 - 1)
 

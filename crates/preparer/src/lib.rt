@@ -4,7 +4,7 @@ mod words;
 
 ghost use mathlib.Core.Path.{_≡_};
 ghost use lib.ListN.{length};
-ghost use Rattle.model.specs.Replies.{timeReply, equaliseReply, equaliseOut, layOutReply, layOutOut, loan, buffersOf};
+ghost use Rattle.model.specs.Replies.{timeReply, equaliseReply, equaliseOut, layOutReply, layOutOut, prepareReply, prepareOut, loan, buffersOf};
 ghost use Rattle.model.specs.Replies.{runReply, runBuffers, stopReply, stopBuffers, stopImage, resumeReply, resumeBuffers, restartReply, restartBuffers};
 ghost use Rattle.preparer.specs.Words.{formOf, fileWord, runWord, packed};
 use answers::equalised_word;
@@ -19,6 +19,7 @@ use machine::restart;
 use machine::resume;
 use machine::run;
 use machine::run_until;
+use preparation::prepare;
 use timing::time_file;
 use words::form_of;
 
@@ -48,6 +49,16 @@ pub extern "C" fn rack_lay_out(settings: &[u8], equalised: &[u8], out: &mut [u8]
         × (now (out .exit) ≡ layOutOut (now (settings .entry)) (now (equalised .entry)) (now (out .entry))) ⌝ }
 {
     let laid = lay_out(settings, equalised, out);
+    laid_word(laid)
+}
+
+// preparation::prepare
+#[no_mangle]
+pub extern "C" fn rack_prepare(settings: &[u8], task: &[u8], out: &mut [u8]) -> u64
+    ensures { λ r. ⌜ (r ≡ packed fileWord (prepareReply (now (settings .entry)) (now (task .entry)) (length (now (out .entry)))))
+        × (now (out .exit) ≡ prepareOut (now (settings .entry)) (now (task .entry)) (now (out .entry))) ⌝ }
+{
+    let laid = prepare(settings, task, out);
     laid_word(laid)
 }
 
@@ -152,7 +163,7 @@ pub extern "C" fn rack_restart(
     ensures { λ r. ⌜ (let c = loan (now (settings .entry)) (formOf form) (now (file .entry)) (now (variables .entry)) (now (inputs .entry)) (now (levels .entry)) (now (marks .entry)) in
         ((r ≡ packed runWord (restartReply c)) × (buffersOf (now (variables .exit)) (now (levels .exit)) (now (marks .exit)) ≡ restartBuffers c))) ⌝ }
 {
-    let end = restart(
+    let restarted = restart(
         settings,
         form_of(form),
         file,
@@ -161,5 +172,5 @@ pub extern "C" fn rack_restart(
         levels,
         marks,
     );
-    resumed_word(end)
+    resumed_word(restarted)
 }

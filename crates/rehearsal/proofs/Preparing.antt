@@ -6,20 +6,20 @@ use mathlib.Core.Bool.{Bool, true, false, not, _||_}
 use mathlib.Core.List.{List, [], _∷_}
 use lib.Dec.{eqb}
 use borrow.Author.Tests.{eqb-true}
-use lib.ListN.{length, take, replicate}
+use lib.ListN.{length, getD, take, replicate}
 use Rattle.model.specs.declared.Refusal.{Refusal}
-use Rattle.model.specs.declared.LaidOut.{LaidOut}
-use Rattle.model.specs.Answers.{Verdict, finished, rehearsed}
-use Rattle.model.specs.Replies.{turnDown, layOutOut, runReply}
+use Rattle.model.specs.Answers.{Verdict, finished, refusal, rehearsed}
+use Rattle.model.specs.Replies.{andThen, prepareReply, prepareOut, turnDown, layOutOut, runReply}
 use Rattle.model.specs.Chain.{valueAt, Set, Chain, equalising, equalisedFile, layingOut, laidFile, plainLoan, plainEndOne}
 use Rattle.model.specs.declared.Stop.{Stop}
 use Rattle.model.specs.declared.Rehearsed.{Rehearsed}
-use Rattle.model.specs.Rehearsal.{andThen, room, zeroOutputs, chain, second, badSets, rehearsal, Unseen, Rehearses}
-use Rattle.preparation.specs.Contracts.{Prepares}
-use Rattle.preparation.proofs.Chaining.{refused-second, both-done, second-done}
-use Rattle.preparation.proofs.Preparing.{value-is, laid-fits}
+use Rattle.model.specs.Rehearsal.{room, zeroOutputs, chain, second, badSets, rehearsal, Confirms, Rehearses}
+use Rattle.theory.proofs.Accepted.{lay-out-accepted}
+use Rattle.theory.proofs.Prepared.{finish}
+use Rattle.theory.proofs.Preparing.{prepares-out, prepares-both}
+use Rattle.preparation.proofs.Chaining.{refused-second, first-done, both-done, second-done}
 use Rattle.rehearsal.specs.Contracts.{laidLoan, secondOf}
-use Rattle.rehearsal.proofs.Theorem.{unseen}
+use Rattle.rehearsal.proofs.Theorem.{confirms}
 
 -- both sets have 16 variables
 pub good-sets : {x y : ℕ} {o : Bool} → o ≡ badSets x y → o ≡ false → (x ≡ 16) × (y ≡ 16)
@@ -38,27 +38,33 @@ module _ (s task : List ℕ) (x y : Set) (stop : Stop) where
 
   -- what the reply says holds of the answer
   rehearses : {r : Rehearsed} → rehearsed r ≡ rehearsal stop k → Rehearses s task x y stop r
-  rehearses e = record { reply = e; unseen = λ P. subst (Unseen stop k) (sym e) (unseen s task x y stop P) }
+  rehearses e = record { reply = e; confirms = λ P. subst (Confirms stop k) (sym e) (confirms s task x y stop P) }
 
-  abbrev Local : List ℕ → LaidOut → Type 0
-  Local laid′ r = Prepares s task (replicate 65532 0) (replicate 65532 0) laid′ r
+  -- what preparing the task answers, as the two calls
+  both : {v : Verdict} → v ≡ prepareReply s task (length (replicate {A = ℕ} 65532 0)) → v ≡ andThen (equalising k) (layingOut k)
+  unfolding room
+  both e = e ∙ prepares-both k refl
 
-  pub rehearse-refused : {laid′ : List ℕ} {z : Refusal} → Local laid′ (LaidOut.Refused z) → Rehearses s task x y stop (Rehearsed.Refused z)
-  unfolding rehearsal room
-  rehearse-refused {laid′} {z} P = rehearses (refused-second z (equalising k) (layingOut k) _ (P .reply))
+  pub rehearse-refused : (z : Refusal) → refusal z ≡ prepareReply s task (length (replicate {A = ℕ} 65532 0)) → Rehearses s task x y stop (Rehearsed.Refused z)
+  unfolding rehearsal
+  rehearse-refused z e = rehearses (refused-second z (equalising k) (layingOut k) _ (both e))
 
-  module _ {n t : ℕ} {laid′ : List ℕ} (P : Local laid′ (LaidOut.Written n t)) where
+  module _ {n t : ℕ} (e : finished (n ∷ t ∷ []) ≡ prepareReply s task (length (replicate {A = ℕ} 65532 0))) {laid′ : List ℕ}
+      (q : laid′ ≡ prepareOut s task (replicate 65532 0)) where
     laid-reply : finished (n ∷ t ∷ []) ≡ layingOut k
-    unfolding room
-    laid-reply = second-done (equalising k) (layingOut k) (P .reply)
+    laid-reply = second-done (equalising k) (layingOut k) (both e)
 
     pub file-fits : length laid′ ≡ length (replicate {A = ℕ} 65532 0) → n ≤ length laid′
     unfolding room
-    file-fits h = omega (arith, h, laid-fits s (equalisedFile k) (length (k .laidRoom)) laid-reply)
+    file-fits h =
+        let A = lay-out-accepted s (equalisedFile k) (length (k .laidRoom)) (n ∷ t ∷ []) (sym laid-reply) in
+        omega (arith, h, ap (λ (xs : List ℕ). getD xs 0 0) (A .answers), A .has-room .fits-buffer)
 
     file-is : take n laid′ ≡ laidFile k
     unfolding room
-    file-is = ap (take n) (P .leaves (n ∷ t ∷ []) refl) ∙ ap (λ (m : ℕ). take m (layOutOut s (equalisedFile k) (k .laidRoom))) (sym (value-is laid-reply))
+    file-is =
+        let done = finish (equalising k) (first-done (equalising k) (layingOut k) (both e)) in
+        ap (take n) (q ∙ prepares-out k (done .0) (done .1)) ∙ ap (λ (v : Verdict). take (valueAt 0 v) (layOutOut s (equalisedFile k) (k .laidRoom))) laid-reply
 
     total-is : t ≡ valueAt 1 (layingOut k)
     total-is = ap (valueAt 1) laid-reply
@@ -68,7 +74,7 @@ module _ (s task : List ℕ) (x y : Set) (stop : Stop) where
 
     prepared : rehearsal stop k ≡ runs
     unfolding rehearsal room
-    prepared = both-done (equalising k) (layingOut k) (andThen (layingOut k) runs) (P .reply) ∙ ap (λ (v : Verdict). andThen v runs) (sym laid-reply)
+    prepared = both-done (equalising k) (layingOut k) (andThen (layingOut k) runs) (both e) ∙ ap (λ (v : Verdict). andThen v runs) (sym laid-reply)
 
     second-same : secondOf stop (plainEndOne k) t (laidLoan s (take n laid′) (y .variables) (y .inputs)) ≡ second stop k
     second-same =
@@ -81,9 +87,9 @@ module _ (s task : List ℕ) (x y : Set) (stop : Stop) where
         go (Stop.At c) = refl
 
     pub rehearse-bad : {o : Bool} → o ≡ badSets (length (x .variables)) (length (y .variables)) → o ≡ true → Rehearses s task x y stop (Rehearsed.Refused Refusal.BadBuffers)
-    rehearse-bad e h = rehearses (sym (prepared ∙ rw (sym e ∙ h)))
+    rehearse-bad p h = rehearses (sym (prepared ∙ rw (sym p ∙ h)))
 
     pub rehearse-done : {o : Bool} → o ≡ badSets (length (x .variables)) (length (y .variables)) → o ≡ false → {r : Rehearsed}
         → rehearsed r ≡ andThen (runReply (plainLoan k x zeroOutputs)) (secondOf stop (plainEndOne k) t (laidLoan s (take n laid′) (y .variables) (y .inputs)))
         → Rehearses s task x y stop r
-    rehearse-done e h q = rehearses (q ∙ ap (andThen (runReply (plainLoan k x zeroOutputs))) second-same ∙ sym (prepared ∙ rw (sym e ∙ h)))
+    rehearse-done p h a = rehearses (a ∙ ap (andThen (runReply (plainLoan k x zeroOutputs))) second-same ∙ sym (prepared ∙ rw (sym p ∙ h)))

@@ -8,12 +8,12 @@ use mathlib.Core.List.{List}
 use lib.ListN.{length}
 use borrow.Author.Tests.{eq-eqb}
 use Rattle.model.specs.Answers.{Verdict, finished, refused, bit}
-use Rattle.model.specs.Replies.{runReply, stopReply}
+use Rattle.model.specs.Replies.{andThen, runReply, stopReply}
 use Rattle.model.specs.Chain.{isFinished, Set, Chain, LentOutputs, Lent, equalising, layingOut, plainLoan, wholeLoan, stoppedLoan, takingUp, End, plainEndOne, wholeEnd, stoppedEnd}
 use Rattle.theory.proofs.Demand3.{demand3}
-use Rattle.theory.proofs.Demand3.{Unseen as Chained}
+use Rattle.theory.proofs.Demand3.{Unseen}
 use Rattle.model.specs.declared.Stop.{Stop}
-use Rattle.model.specs.Rehearsal.{andThen, sameEnd, zeroOutputs, chain, second, rehearsal, Prepared, Unseen}
+use Rattle.model.specs.Rehearsal.{sameEnd, zeroOutputs, chain, second, rehearsal, Admitted, Confirms}
 use Rattle.rehearsal.proofs.Alike.{same-end, bit-one}
 
 -- a call that is not refused is followed by the next
@@ -28,7 +28,7 @@ told-alike a b = (λ e. same-end a b .0 (bit-one (sameEnd a b) .0 e), λ e. bit-
 both : {A B C : Type 0} → A ↔ B → B ↔ C → A ↔ C
 both p q = (λ a. q .0 (p .0 a), λ c. p .1 (q .1 c))
 
-module _ (s task : List ℕ) (x y : Set) (stop : Stop) (P : Prepared stop (chain s task x y stop)) where
+module _ (s task : List ℕ) (x y : Set) (stop : Stop) (P : Admitted stop (chain s task x y stop)) where
   abbrev k : Chain
   k = chain s task x y stop
 
@@ -47,7 +47,7 @@ module _ (s task : List ℕ) (x y : Set) (stop : Stop) (P : Prepared stop (chain
     spare-lent = refl;
   }
 
-  chained : Chained k
+  chained : Unseen k
   chained = demand3 k lent (P .equalised) (P .laid)
 
   -- nothing refuses before the second set
@@ -61,29 +61,29 @@ module _ (s task : List ℕ) (x y : Set) (stop : Stop) (P : Prepared stop (chain
 
 -- WHOLE
 
-whole-unseen : (s task : List ℕ) (x y : Set) → Prepared Stop.Never (chain s task x y Stop.Never)
-    → Unseen Stop.Never (chain s task x y Stop.Never) (rehearsal Stop.Never (chain s task x y Stop.Never))
-whole-unseen s task x y P =
+whole-confirms : (s task : List ℕ) (x y : Set) → Admitted Stop.Never (chain s task x y Stop.Never)
+    → Confirms Stop.Never (chain s task x y Stop.Never) (rehearsal Stop.Never (chain s task x y Stop.Never))
+whole-confirms s task x y P =
     let k = chain s task x y Stop.Never in
     let D = chained s task x y Stop.Never P in
     let e = reaches s task x y Stop.Never P ∙ goes-on (runReply (wholeLoan k)) _ (D .whole-runs) in
-    subst (Unseen Stop.Never k) (sym e)
+    subst (Confirms Stop.Never k) (sym e)
     (record { finishes = refl; alike = both (told-alike (plainEndOne k) (wholeEnd k)) (D .alike); twice = tt })
 
 -- STOPPED AND TAKEN UP
 
-stopped-unseen : (s task : List ℕ) (x y : Set) (c : ℕ) → Prepared (Stop.At c) (chain s task x y (Stop.At c))
-    → Unseen (Stop.At c) (chain s task x y (Stop.At c)) (rehearsal (Stop.At c) (chain s task x y (Stop.At c)))
-stopped-unseen s task x y c P =
+stopped-confirms : (s task : List ℕ) (x y : Set) (c : ℕ) → Admitted (Stop.At c) (chain s task x y (Stop.At c))
+    → Confirms (Stop.At c) (chain s task x y (Stop.At c)) (rehearsal (Stop.At c) (chain s task x y (Stop.At c)))
+stopped-confirms s task x y c P =
     let k = chain s task x y (Stop.At c) in
     let D = chained s task x y (Stop.At c) P .stopped (P .early) in
     let e =
     reaches s task x y (Stop.At c) P
     ∙ goes-on (stopReply (stoppedLoan k) (k .image) c) _ (D .stop-runs)
     ∙ goes-on (takingUp (stoppedLoan k) (k .image) (k .spare) c) _ (D .take-up-runs) in
-    subst (Unseen (Stop.At c) k) (sym e)
+    subst (Confirms (Stop.At c) k) (sym e)
     (record { finishes = refl; alike = both (told-alike (plainEndOne k) (stoppedEnd k)) (D .alike); twice = (D .twice, D .few) })
 
-pub unseen : (s task : List ℕ) (x y : Set) (stop : Stop) → Prepared stop (chain s task x y stop) → Unseen stop (chain s task x y stop) (rehearsal stop (chain s task x y stop))
-unseen s task x y Stop.Never P = whole-unseen s task x y P
-unseen s task x y (Stop.At c) P = stopped-unseen s task x y c P
+pub confirms : (s task : List ℕ) (x y : Set) (stop : Stop) → Admitted stop (chain s task x y stop) → Confirms stop (chain s task x y stop) (rehearsal stop (chain s task x y stop))
+confirms s task x y Stop.Never P = whole-confirms s task x y P
+confirms s task x y (Stop.At c) P = stopped-confirms s task x y c P

@@ -6,10 +6,10 @@ mod second;
 ghost use mathlib.Core.Path.{_≡_};
 ghost use lib.ListN.{length};
 ghost use Rattle.model.specs.declared.Form.the-variants.{Task};
-ghost use Rattle.model.specs.Replies.{runReply};
+ghost use Rattle.model.specs.Replies.{andThen, runReply};
 ghost use Rattle.model.specs.Chain.{lend, runEnd};
 ghost use Rattle.model.specs.Answers.{rehearsed};
-ghost use Rattle.model.specs.Rehearsal.{andThen, zeroOutputs, set, badSets, Rehearses};
+ghost use Rattle.model.specs.Rehearsal.{zeroOutputs, setOf, badSets, Rehearses};
 ghost use Rattle.rehearsal.specs.Contracts.{laidLoan, secondOf};
 use ends::Final;
 use machine::run;
@@ -86,11 +86,10 @@ pub fn rehearse(
     two_inputs: &[u32],
     stop: Stop,
 ) -> Rehearsed
-    ensures { λ r. ⌜ Rehearses (now (settings .entry)) (now (task .entry)) (set (now (one .entry)) (now («one_inputs» .entry))) (set (now (two .entry)) (now («two_inputs» .entry))) stop r ⌝ }
+    ensures { λ r. ⌜ Rehearses (now (settings .entry)) (now (task .entry)) (setOf (now (one .entry)) (now («one_inputs» .entry))) (setOf (now (two .entry)) (now («two_inputs» .entry))) stop r ⌝ }
 {
-    let mut equalised: [u8; 65532] = [0; 65532];
     let mut laid: [u8; 65532] = [0; 65532];
-    let r = prepare(settings, task, &mut equalised, &mut laid);
+    let r = prepare(settings, task, &mut laid);
     match r {
         LaidOut::Refused(x) => Rehearsed::Refused(x),
         LaidOut::Written { bytes, total } => {

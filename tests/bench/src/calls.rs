@@ -110,6 +110,15 @@ pub fn lay_out(x: &Input) -> Measured {
     )
 }
 
+pub fn prepare(x: &Input) -> Measured {
+    measured(
+        x,
+        first_value,
+        |out| rack::prepare(x.settings, x.file, out).map(|w| (w.bytes as u32, w.time)).map_err(|r| r.number),
+        |out| second::prepare(x.settings, x.file, out).map(|w| (w.bytes as u32, w.time)).map_err(|r| r.number),
+    )
+}
+
 pub fn room() -> Vec<u8> {
     vec![0; RECORD * LONGEST]
 }

@@ -44,15 +44,11 @@ fn wanted(call: &str, input: &str) -> bool {
     std::env::args().skip(1).all(|word| call.contains(&word) || input.contains(&word))
 }
 
-/// Equalised and laid out; a task comes first where the form says so.
+/// Laid out; a task is equalised first.
 fn laid(settings: &[u8; RECORD], form: Form, file: &[u8]) -> Option<Vec<u8>> {
     let mut room = vec![0; RECORD * LONGEST];
-    let mut file = file.to_vec();
-    if let Form::Task = form {
-        let n = rack::equalise(settings, &file, &mut room).ok()?.bytes;
-        file = room[..n].to_vec();
-    }
-    let n = rack::lay_out(settings, &file, &mut room).ok()?.bytes;
+    let make = if form == Form::Task { rack::prepare } else { rack::lay_out };
+    let n = make(settings, file, &mut room).ok()?.bytes;
     Some(room[..n].to_vec())
 }
 
@@ -134,6 +130,20 @@ fn small_lay_out() {
     let n = rack::equalise(&case.settings, &task, &mut room).map_or(0, |w| w.bytes);
     let records = laid(&case.settings, Form::Task, &task).map_or(0, |l| l.len() / RECORD);
     case.measure_bytes("the factorial", &room[..n], records as f64, "laid records");
+}
+
+fn preparing() {
+    let case = Case { call: "prepare", make: calls::prepare, settings: file::usual(), form: Form::Task };
+    let prepared = |shape, n| laid(&case.settings, Form::Task, &made(shape, n).0);
+    let measure = |input, shape, n| {
+        let records = prepared(shape, n).map_or(0, |l| l.len() / RECORD);
+        case.measure(input, shape, n, records as f64, "laid records");
+    };
+    measure("the factorial", file::factorial, 10);
+    measure("n steps", file::row, 256);
+    measure("8 nested IFs around n steps", file::eight_nested, 232);
+    let n = largest(MOST_ROUNDS, |n| n == 0 || prepared(file::while_rounds, n).is_some());
+    measure("WHILE n of 9 steps", file::while_rounds, n);
 }
 
 /// The inputs that cost most. Their numbers are those of the notes under the table.
@@ -230,6 +240,7 @@ fn main() {
     timing();
     equalising();
     laying_out();
+    preparing();
     running();
     stopping();
     worst_lay_out();

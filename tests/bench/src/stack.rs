@@ -73,6 +73,11 @@ fn lay_out(x: &Input) -> usize {
     used(|| rack::lay_out(x.settings, x.file, &mut out))
 }
 
+fn prepare(x: &Input) -> usize {
+    let mut out = room();
+    used(|| rack::prepare(x.settings, x.file, &mut out))
+}
+
 fn run(x: &Input) -> usize {
     let mut l = Lent::new();
     used(|| rack::run(x.settings, x.form.of_rack(), x.file, &mut l.variables, &INPUTS, &mut l.levels, &mut l.marks))
@@ -162,6 +167,7 @@ pub fn table() {
     line("time", time, &samples, &all);
     line("equalise", equalise, &samples, &[Form::Task]);
     line("lay out", lay_out, &samples, &[Form::Equalised]);
+    line("prepare", prepare, &samples, &[Form::Task]);
     line("run", run, &samples, &all);
     line("run until", run_until, &samples, &all);
     line("resume", resume, &samples, &[Form::Laid]);

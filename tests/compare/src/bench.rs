@@ -152,19 +152,22 @@ impl Bench<'_> {
     }
 
     fn refusals(&mut self) {
-        let refused = |number, value| Answer::Refused { number, value };
         let e = BENCH.with_period(142);
         let d = self.prepared(&BENCH.with_period(143), &factorial());
         let laid = self.make(Kind::LayOut, &e, EQUALISED, &d.equalised);
-        self.expect("E", laid.answer, refused(8, None));
-        let g = self.make(Kind::LayOut, &BENCH.with_window(15), TASK, &[]);
-        self.expect("G", g.answer, refused(7, None));
+        self.expect("E", laid.answer, Answer::refused(8));
+        let prepared = self.make(Kind::Prepare, &e, TASK, &factorial());
+        self.expect("E, prepared", prepared.answer, Answer::refused(8));
+        for kind in [Kind::LayOut, Kind::Prepare] {
+            let g = self.make(kind, &BENCH.with_window(15), TASK, &[]);
+            self.expect("G", g.answer, Answer::refused(7));
+        }
         let eight = self.make(Kind::Time, &BENCH, TASK, &nested(8));
         self.expect("nesting 8", eight.answer, Answer::Time(8));
         let nine = self.make(Kind::Time, &BENCH, TASK, &nested(9));
-        self.expect("nesting 9", nine.answer, refused(5, Some(16)));
+        self.expect("nesting 9", nine.answer, Answer::refused_at(5, 16));
         let eleven = self.make(Kind::Time, &BENCH, TASK, &case_b()[..11]);
-        self.expect("11 bytes", eleven.answer, refused(1, Some(11)));
+        self.expect("11 bytes", eleven.answer, Answer::refused_at(1, 11));
     }
 
     fn overrun(&mut self) {

@@ -29,16 +29,14 @@ fn output_lengths(comparer: &mut Comparer, random: &mut Random, prepared: &Prepa
     let steps = [
         (Kind::Equalise, &prepared.task, prepared.equalised.len()),
         (Kind::LayOut, &prepared.equalised, prepared.laid.len()),
+        (Kind::Prepare, &prepared.task, prepared.laid.len()),
     ];
     for (kind, file, needed) in steps {
         let short = [0, needed.saturating_sub(12), needed.saturating_sub(1)];
         for length in short.into_iter().chain([needed, needed + 1, needed + 12]) {
             let call = Call::new(kind, settings, TASK, file, random).with_out(length, random);
             let outcome = comparer.call(&call);
-            let refused = Answer::Refused {
-                number: 9,
-                value: None,
-            };
+            let refused = Answer::refused(9);
             let sound = (outcome.answer == refused) == (length < needed);
             comparer.hold(sound, "refused 9 just if too short", &call, &outcome);
         }
@@ -55,6 +53,8 @@ fn short_and_late(
     let steps = [
         (Kind::Equalise, &prepared.task, prepared.time),
         (Kind::LayOut, &prepared.equalised, prepared.total),
+        (Kind::Prepare, &prepared.task, prepared.time),
+        (Kind::Prepare, &prepared.task, prepared.total),
     ];
     for (kind, file, needed) in steps {
         for period in [needed.max(2) - 1, needed.max(1)] {
@@ -81,10 +81,7 @@ fn run_lengths(comparer: &mut Comparer, random: &mut Random, prepared: &Prepared
             };
             let right = wrong_lengths(random, &mut call, chosen);
             let outcome = comparer.call(&call);
-            let refused = Answer::Refused {
-                number: 10,
-                value: None,
-            };
+            let refused = Answer::refused(10);
             let sound = (outcome.answer == refused) != right;
             comparer.hold(
                 sound,

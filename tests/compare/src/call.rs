@@ -9,6 +9,7 @@ pub enum Kind {
     Time,
     Equalise,
     LayOut,
+    Prepare,
     Run,
     RunUntil,
     Resume,
@@ -16,15 +17,21 @@ pub enum Kind {
 }
 
 impl Kind {
-    pub const ALL: [Kind; 7] = [
+    pub const ALL: [Kind; 8] = [
         Kind::Time,
         Kind::Equalise,
         Kind::LayOut,
+        Kind::Prepare,
         Kind::Run,
         Kind::RunUntil,
         Kind::Resume,
         Kind::Restart,
     ];
+
+    /// The calls that write a file.
+    pub fn writes(self) -> bool {
+        matches!(self, Kind::Equalise | Kind::LayOut | Kind::Prepare)
+    }
 }
 
 /// The buffers lent besides the settings and the file. A call leaves those it
@@ -57,6 +64,20 @@ pub enum Answer {
     Stopped { tick: u32, saved: bool },
     Refused { number: u8, value: Option<u64> },
     Panicked,
+}
+
+impl Answer {
+    /// A refusal that returns its number alone.
+    pub fn refused(number: u8) -> Answer {
+        let value = None;
+        Answer::Refused { number, value }
+    }
+
+    /// A refusal that returns a record index or a length.
+    pub fn refused_at(number: u8, value: usize) -> Answer {
+        let value = Some(value as u64);
+        Answer::Refused { number, value }
+    }
 }
 
 /// What a call answered, the lent buffers afterwards, and whether anything
@@ -237,6 +258,7 @@ macro_rules! implementation {
                 Kind::Time => $library::time_file(settings, form, file).map(Answer::Time),
                 Kind::Equalise => $library::equalise(settings, file, out).map(Answer::from),
                 Kind::LayOut => $library::lay_out(settings, file, out).map(Answer::from),
+                Kind::Prepare => $library::prepare(settings, file, out).map(Answer::from),
                 Kind::Run => $library::run(settings, form, file, variables, inputs, levels, marks)
                     .map(Answer::from),
                 Kind::RunUntil => $library::run_until(

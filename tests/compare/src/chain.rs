@@ -85,7 +85,16 @@ pub fn time(
     }
 }
 
-/// Equalises or lays out into a buffer that any result fits in.
+/// The calls that make a file from one of this form.
+pub fn writing(form: u8) -> &'static [Kind] {
+    match form {
+        TASK => &[Kind::Equalise, Kind::Prepare],
+        EQUALISED => &[Kind::LayOut],
+        _ => &[],
+    }
+}
+
+/// Equalises, lays out or prepares into a buffer that any result fits in.
 pub fn transform(
     comparer: &mut Comparer,
     random: &mut Random,
@@ -101,7 +110,8 @@ pub fn transform(
     }
 }
 
-/// Equalises and lays out, and checks the times and the laid file.
+/// Equalises and lays out, and checks the times and the laid file. The same
+/// is done by one call.
 pub fn prepare(
     comparer: &mut Comparer,
     random: &mut Random,
@@ -109,6 +119,7 @@ pub fn prepare(
     task: &[u8],
 ) -> Option<Prepared> {
     let settings = numbers.bytes();
+    transform(comparer, random, Kind::Prepare, &settings, task);
     let time_written = time(comparer, random, &settings, TASK, task);
     let (equalised, time_equal) = transform(comparer, random, Kind::Equalise, &settings, task)?;
     let time_of_equal = time(comparer, random, &settings, EQUALISED, &equalised);
@@ -189,11 +200,7 @@ pub fn stop(comparer: &mut Comparer, random: &mut Random, job: &Job, whole: &End
         .stopping_at(tick);
     let outcome = comparer.call(&call);
     let Answer::Stopped { saved, .. } = outcome.answer else {
-        let late = Answer::Refused {
-            number: 12,
-            value: None,
-        };
-        let sound = tick >= whole.tick && outcome.answer == late;
+        let sound = tick >= whole.tick && outcome.answer == Answer::refused(12);
         comparer.hold(
             sound,
             "a stop is refused at or past the end",

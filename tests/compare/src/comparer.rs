@@ -3,6 +3,7 @@
 
 use crate::call::{make_first, make_second, Answer, Call, Kind, Outcome};
 use crate::paper::broken;
+use crate::preparing;
 use crate::report;
 use crate::shrink::shrink;
 use crate::tally::Tally;
@@ -68,6 +69,13 @@ impl Comparer {
         first
     }
 
+    /// Makes the call through both, which must give the paper's answer.
+    pub fn expect(&mut self, call: &Call, expected: Answer) {
+        let outcome = self.call(call);
+        let sound = outcome.answer == expected;
+        self.hold(sound, &format!("by the paper {expected:?}"), call, &outcome);
+    }
+
     fn found(&mut self, what: &str, call: &Call, first: &Outcome, second: &Outcome) {
         self.differences += 1;
         if self.quiet || self.differences > PRINTED {
@@ -119,8 +127,8 @@ fn outcomes(call: &Call, flip: Option<Flip>) -> (Outcome, Outcome) {
     (first, second)
 }
 
-/// What is wrong with a pair of outcomes: that they differ, or a statement of
-/// the paper that one of them breaks.
+/// What is wrong with a pair of outcomes: that they differ, a statement of the
+/// paper that one of them breaks, or that preparing is not the two calls.
 fn disagreement(call: &Call, first: &Outcome, second: &Outcome) -> Option<String> {
     if first.answer != second.answer {
         return Some("the answers differ".to_string());
@@ -128,7 +136,9 @@ fn disagreement(call: &Call, first: &Outcome, second: &Outcome) -> Option<String
     if first.lent != second.lent {
         return Some("the lent buffers differ".to_string());
     }
-    broken(call, first).or_else(|| broken(call, second))
+    broken(call, first)
+        .or_else(|| broken(call, second))
+        .or_else(|| preparing::apart(call, first))
 }
 
 fn flip_bit(outcome: &mut Outcome, place: Place) {

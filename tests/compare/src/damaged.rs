@@ -1,9 +1,10 @@
 //! Part 4: files with something wrong, and settings likewise.
 
 use crate::call::{Call, Kind};
-use crate::chain::{prepare, transform};
+use crate::chain::{prepare, transform, writing};
 use crate::comparer::Comparer;
 use crate::generate::{self, set_of_values};
+use crate::listing;
 use crate::random::Random;
 use crate::records::*;
 
@@ -15,9 +16,11 @@ pub fn part(comparer: &mut Comparer, seed: u64, rounds: u64) {
         for _ in 0..4 {
             let damaged = damage(&mut random, &file);
             all_calls(comparer, &mut random, &settings.bytes(), form, &damaged);
+            listing::compare_refused(comparer, &mut random, &settings.bytes(), &damaged);
         }
         let wrong = wrong_settings(&mut random, &settings);
         all_calls(comparer, &mut random, &wrong, form, &file);
+        listing::compare_refused(comparer, &mut random, &wrong, &file);
         other_forms(comparer, &mut random, &settings, form, &file);
         if round % 4 == 0 {
             noise(comparer, &mut random, &settings);
@@ -116,10 +119,8 @@ pub fn wrong_settings(random: &mut Random, settings: &Settings) -> Vec<u8> {
 fn all_calls(comparer: &mut Comparer, random: &mut Random, settings: &[u8], form: u8, file: &[u8]) {
     let call = Call::new(Kind::Time, settings, form, file, random);
     comparer.call(&call);
-    match form {
-        TASK => drop(transform(comparer, random, Kind::Equalise, settings, file)),
-        EQUALISED => drop(transform(comparer, random, Kind::LayOut, settings, file)),
-        _ => {}
+    for &kind in writing(form) {
+        transform(comparer, random, kind, settings, file);
     }
     let set = set_of_values(random);
     let stop = random.between(0, 60);

@@ -207,6 +207,7 @@ fn zeros() -> Set {
 
 fn short_task(comparer: &mut Comparer, random: &mut Random, settings: &[u8], task: &[u8]) {
     time(comparer, random, settings, TASK, task);
+    transform(comparer, random, Kind::Prepare, settings, task);
     let equalised = transform(comparer, random, Kind::Equalise, settings, task);
     run_and_stop(comparer, random, settings, TASK, task);
     let Some((equalised, _)) = equalised else {

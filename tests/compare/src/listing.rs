@@ -1,15 +1,29 @@
-//! The list program's text, written from a laid file of the first
-//! implementation and held against the second's.
+//! The list program's text, written from what the first implementation
+//! answers and held against the second's.
 
+use crate::call::{Answer, Call, Kind};
 use crate::chain::Prepared;
 use crate::comparer::Comparer;
+use crate::random::Random;
 use crate::records::*;
 
 pub fn compare(comparer: &mut Comparer, prepared: &Prepared) {
-    let found = second::list(&prepared.settings, &prepared.task);
     let expected = text(prepared);
-    if found.trim_end() != expected.trim_end() {
-        let (settings, task) = (&prepared.settings, &prepared.task);
+    hold(comparer, &prepared.settings, &prepared.task, &expected);
+}
+
+/// A task that is not laid out prints the refusal's number alone.
+pub fn compare_refused(comparer: &mut Comparer, random: &mut Random, settings: &[u8], task: &[u8]) {
+    let call = Call::new(Kind::Prepare, settings, TASK, task, random);
+    let outcome = comparer.call(&call.with_out(MOST_BYTES, random));
+    if let Answer::Refused { number, .. } = outcome.answer {
+        hold(comparer, settings, task, &format!("refused {number}\n"));
+    }
+}
+
+fn hold(comparer: &mut Comparer, settings: &[u8], task: &[u8], expected: &str) {
+    let found = second::list(settings, task);
+    if found != expected {
         comparer.fault(&format!(
             "listing of {task:02x?} under {settings:02x?}:\n{found}by the paper:\n{expected}"
         ));

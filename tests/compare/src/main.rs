@@ -13,9 +13,12 @@ mod damaged;
 mod exhaustive;
 mod generate;
 mod guard;
+mod limits;
+mod limits_of_files;
 mod listing;
 mod order;
 mod paper;
+mod preparing;
 mod program;
 mod random;
 mod records;
@@ -94,7 +97,11 @@ fn default_run() -> bool {
     let control = self_check();
     let mut comparer = Comparer::new();
     let parts: [(&str, Part); 7] = [
-        ("bench", bench::part),
+        ("bench", |comparer, seed| {
+            bench::part(comparer, seed);
+            limits_of_files::part(comparer, seed);
+            limits::part(comparer, seed);
+        }),
         ("exhaustive", exhaustive::part),
         ("valid", |comparer, seed| {
             valid::limits(comparer, seed);

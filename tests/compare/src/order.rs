@@ -24,7 +24,7 @@ pub fn part(comparer: &mut Comparer, seed: u64, rounds: u64) {
 
 fn form_of(random: &mut Random, kind: Kind) -> u8 {
     match kind {
-        Kind::Equalise => TASK,
+        Kind::Equalise | Kind::Prepare => TASK,
         Kind::LayOut => EQUALISED,
         _ => random.pick(&[TASK, EQUALISED, LAID]),
     }
@@ -35,23 +35,12 @@ fn known_faults(comparer: &mut Comparer, random: &mut Random, kind: Kind) {
     // The fewer kinds of fault, the later in the table the first one is.
     let parts = random.pick(&[0, 1, 1, 2, 4]);
     let mut fault: Fault = None;
-    let numbers = generate::settings(random).with_period(200_000);
-    let mut settings = numbers.bytes().to_vec();
     if random.chance(parts, 12) {
         fault = Some((6, None));
     }
     let file = faulty_file(random, form, parts, &mut fault);
-    if kind == Kind::LayOut && random.chance(parts, 8) {
-        fault = fault.or(Some((7, None)));
-        settings = numbers
-            .with_window(numbers.least_window() - 1)
-            .bytes()
-            .to_vec();
-    }
-    if random.chance(parts, 8) {
-        fault = fault.or(Some((8, None)));
-        settings[8..].copy_from_slice(&1u32.to_le_bytes());
-    }
+    let numbers = tight_settings(random, kind, parts, &mut fault);
+    let mut settings = numbers.bytes().to_vec();
     if fault == Some((6, None)) {
         break_settings(random, &mut settings);
     }
@@ -68,6 +57,27 @@ fn known_faults(comparer: &mut Comparer, random: &mut Random, kind: Kind) {
         &call,
         &outcome,
     );
+}
+
+/// Settings in range, perhaps with too short a window where the call lays out,
+/// and perhaps with a period below the file's time. Preparing equalises first,
+/// so that there the time decides before the window.
+fn tight_settings(random: &mut Random, kind: Kind, parts: u64, fault: &mut Fault) -> Settings {
+    let mut numbers = generate::settings(random).with_period(200_000);
+    let lays_out = matches!(kind, Kind::LayOut | Kind::Prepare);
+    let (narrow, late) = (lays_out && random.chance(parts, 8), random.chance(parts, 8));
+    if late && kind == Kind::Prepare {
+        *fault = fault.or(Some((8, None)));
+    }
+    if narrow {
+        *fault = fault.or(Some((7, None)));
+        numbers = numbers.with_window(numbers.least_window() - 1);
+    }
+    if late {
+        *fault = fault.or(Some((8, None)));
+        numbers = numbers.with_period(1);
+    }
+    numbers
 }
 
 /// Settings that are wrong for certain.
@@ -150,12 +160,6 @@ fn faulty_records(random: &mut Random, form: u8) -> (Vec<Record>, u8, usize) {
     }
 }
 
-/// A byte that has to be 0 and is not, in a record that has other faults.
-fn with_byte(mut record: Record, at: usize) -> Record {
-    record[at] = 1;
-    record
-}
-
 /// One IF more than may be nested.
 fn deep(form: u8) -> Vec<Record> {
     let deepest = if form == TASK { 8 } else { 16 };
@@ -164,7 +168,7 @@ fn deep(form: u8) -> Vec<Record> {
 
 /// Lends what the call needs, in the order of the table's last rows.
 fn lend(random: &mut Random, call: &mut Call, parts: u64, fault: &mut Fault) {
-    let writes = matches!(call.kind, Kind::Equalise | Kind::LayOut);
+    let writes = call.kind.writes();
     let runs = !writes && call.kind != Kind::Time;
     call.lent.out = random.bytes(MOST_BYTES);
     if writes && random.chance(parts, 6) {

@@ -31,7 +31,7 @@ pub fn possible(kind: Kind) -> &'static [u8] {
     match kind {
         Kind::Time => &[1, 2, 3, 4, 5, 6, 8],
         Kind::Equalise => &[1, 2, 3, 4, 5, 6, 8, 9],
-        Kind::LayOut => &[1, 2, 3, 4, 5, 6, 7, 8, 9],
+        Kind::LayOut | Kind::Prepare => &[1, 2, 3, 4, 5, 6, 7, 8, 9],
         Kind::Run | Kind::Restart => &[1, 2, 3, 4, 5, 6, 8, 10],
         Kind::RunUntil => &[1, 2, 3, 4, 5, 6, 8, 10, 12],
         Kind::Resume => &[1, 2, 3, 4, 5, 6, 8, 10, 11],
@@ -64,7 +64,7 @@ fn finished(call: &Call, outcome: &Outcome) -> Result<(), String> {
             hold(before == after, "timing writes nothing")?;
             hold(*time <= period, "a time answered is within the period")
         }
-        (Kind::Equalise | Kind::LayOut, &Answer::Written { bytes, time }) => {
+        (kind, &Answer::Written { bytes, time }) if kind.writes() => {
             hold(time <= period, "a time answered is within the period")?;
             written(before, after, bytes)
         }

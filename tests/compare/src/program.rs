@@ -7,11 +7,37 @@ use crate::damaged::{damage, wrong_settings};
 use crate::generate;
 use crate::random::Random;
 use crate::records::*;
+use std::collections::BTreeSet;
 use std::env;
 use std::fs;
 use std::io::Write;
 use std::path::{Path, PathBuf};
 use std::process::{Command, Stdio};
+
+/// The names of a laid file's records, the last line's word, and every refusal
+/// that there is for a task. Each must have been printed.
+const WORDS: [&str; 20] = [
+    "SKIP",
+    "SET",
+    "READ",
+    "WRITE",
+    "IF",
+    "ELSE",
+    "END",
+    "CHECK",
+    "BEAT",
+    "SAVE",
+    "end",
+    "refused 1",
+    "refused 2",
+    "refused 3",
+    "refused 4",
+    "refused 5",
+    "refused 6",
+    "refused 7",
+    "refused 8",
+    "refused 9",
+];
 
 /// `RACK_LIST` names the program. Without it the part makes no run.
 pub fn part(comparer: &mut Comparer, seed: u64) {
@@ -25,13 +51,19 @@ pub fn part(comparer: &mut Comparer, seed: u64) {
         program,
         folder,
         made: 0,
+        seen: BTreeSet::new(),
     };
     edges(comparer, &mut runs);
+    every_kind(comparer, &mut runs);
+    every_refusal(comparer, &mut runs);
     let mut random = Random::new(seed);
     for _ in 0..400 {
         round(comparer, &mut runs, &mut random);
     }
     fs::remove_dir_all(&runs.folder).expect("the folder is removed");
+    for word in WORDS.iter().filter(|word| !runs.seen.contains(**word)) {
+        comparer.fault(&format!("no run of the list program prints {word}"));
+    }
     println!("program: {} runs", runs.made);
 }
 
@@ -39,6 +71,8 @@ struct Runs {
     program: PathBuf,
     folder: PathBuf,
     made: u64,
+    /// What the lines said, by `word`.
+    seen: BTreeSet<String>,
 }
 
 /// A missing, empty, short or long `rack.set`, and input that is empty or too long.
@@ -59,36 +93,88 @@ fn edges(comparer: &mut Comparer, runs: &mut Runs) {
     }
 }
 
-fn round(comparer: &mut Comparer, runs: &mut Runs, random: &mut Random) {
-    let settings = generate::settings(random);
-    let size = generate::size(random, TASK);
-    let task = bytes(&generate::file(random, &settings, TASK, size));
-    match random.below(8) {
-        0 => runs.compare(comparer, Some(&wrong_settings(random, &settings)), &task),
-        1 => runs.compare(comparer, Some(&settings.bytes()), &damage(random, &task)),
-        _ => {
-            let long = settings.with_period(random.pick(&[3000, 100_000, 1_000_000]));
-            runs.compare(comparer, Some(&long.bytes()), &task);
+/// A line of every kind, with the largest numbers.
+fn every_kind(comparer: &mut Comparer, runs: &mut Runs) {
+    let task = bytes(&[
+        skip(900_000),
+        set(MULTIPLY + VARIABLE, 15, 15, 15),
+        set(COPY, 15, 0, u32::MAX),
+        read(15, 7),
+        write(15, 7),
+        test(IF, AT_LEAST, 15, u32::MAX),
+        otherwise(),
+        end(),
+        repeat(WHILE, BELOW + VARIABLE, 15, 15, 2),
+        skip(1),
+        end(),
+    ]);
+    let settings = BENCH.with_window(65_535).with_period(MOST_PERIOD);
+    runs.compare(comparer, Some(&settings.bytes()), &task);
+    runs.compare(
+        comparer,
+        Some(&settings.with_period(999_999).bytes()),
+        &task,
+    );
+}
+
+/// Each refusal that a task can meet, by its number.
+fn every_refusal(comparer: &mut Comparer, runs: &mut Runs) {
+    let long = BENCH.with_period(MOST_PERIOD);
+    let rounds = [repeat(WHILE, EQUAL, 0, 0, 65_535), skip(1), end()];
+    let cases: [(u8, Settings, Vec<u8>); 11] = [
+        (1, BENCH, vec![1; 13]),
+        (1, BENCH, bytes(&[skip(1); 257])),
+        (2, BENCH, bytes(&[beat(1)])),
+        (3, BENCH, bytes(&[skip(0)])),
+        (4, BENCH, bytes(&[end()])),
+        (5, BENCH, bytes(&[test(IF, EQUAL, 0, 0); 9])),
+        (6, BENCH.with_window(0), vec![]),
+        (7, BENCH.with_window(15), vec![]),
+        (8, BENCH, bytes(&[skip(101)])),
+        (8, BENCH.with_window(15), bytes(&[skip(101)])),
+        (9, long, bytes(&rounds)),
+    ];
+    for (number, settings, task) in cases {
+        let printed = runs.compare(comparer, Some(&settings.bytes()), &task);
+        if printed != format!("refused {number}\n") {
+            comparer.fault(&format!("refused {number} is printed as {printed}"));
         }
     }
 }
 
+fn round(comparer: &mut Comparer, runs: &mut Runs, random: &mut Random) {
+    let settings = generate::settings(random);
+    let size = generate::size(random, TASK);
+    let task = bytes(&generate::file(random, &settings, TASK, size));
+    let (settings, task) = match random.below(8) {
+        0 => (wrong_settings(random, &settings), task),
+        1 => (settings.bytes().to_vec(), damage(random, &task)),
+        _ => {
+            let long = settings.with_period(random.pick(&[3000, 100_000, 1_000_000]));
+            (long.bytes().to_vec(), task)
+        }
+    };
+    runs.compare(comparer, Some(&settings), &task);
+}
+
 impl Runs {
-    fn compare(&mut self, comparer: &mut Comparer, settings: Option<&[u8]>, task: &[u8]) {
+    /// Answers what the program printed.
+    fn compare(&mut self, comparer: &mut Comparer, settings: Option<&[u8]>, task: &[u8]) -> String {
         self.made += 1;
         let path = self.folder.join("rack.set");
         match settings {
             Some(bytes) => fs::write(&path, bytes).expect("rack.set is written"),
             None => remove(&path),
         }
-        let found = self.printed(task);
+        let found = String::from_utf8_lossy(&self.printed(task)).into_owned();
         let expected = second::list(settings.unwrap_or(&[]), task);
-        if found != expected.as_bytes() {
-            let found = String::from_utf8_lossy(&found).into_owned();
+        if found != expected {
             comparer.fault(&format!(
                 "the list program on {task:02x?} under {settings:02x?}:\n{found}expected:\n{expected}"
             ));
         }
+        self.seen.extend(found.lines().map(word));
+        found
     }
 
     fn printed(&self, task: &[u8]) -> Vec<u8> {
@@ -105,6 +191,15 @@ impl Runs {
             .wait_with_output()
             .expect("the list program ends")
             .stdout
+    }
+}
+
+/// The name in a line, or a refusal with its number.
+fn word(line: &str) -> String {
+    let name = line.split(' ').nth(1).unwrap_or("");
+    match line.starts_with("refused") {
+        true => line.to_string(),
+        false => name.to_string(),
     }
 }
 

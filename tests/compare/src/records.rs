@@ -97,6 +97,12 @@ pub fn repeat(kind: u8, relation: u8, left: u8, right: u32, count: u32) -> Recor
     put(test(kind, relation, left, right), 8, count)
 }
 
+/// A byte that has to be 0 and is not.
+pub fn with_byte(mut record: Record, at: usize) -> Record {
+    record[at] = 1;
+    record
+}
+
 pub fn bytes(records: &[Record]) -> Vec<u8> {
     records.concat()
 }

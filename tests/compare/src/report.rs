@@ -48,13 +48,12 @@ fn print_out(title: &str, out: &[u8]) {
 }
 
 fn print_lent(title: &str, kind: Kind, lent: &Lent) {
-    match kind {
-        Kind::Time => return,
-        Kind::Equalise | Kind::LayOut => {
-            print_out(title, &lent.out);
-            return;
-        }
-        _ => {}
+    if kind == Kind::Time {
+        return;
+    }
+    if kind.writes() {
+        print_out(title, &lent.out);
+        return;
     }
     println!("  {title}: variables {}", words(&lent.variables));
     println!("  {title}: inputs {}", words(&lent.inputs));

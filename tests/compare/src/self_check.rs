@@ -73,6 +73,7 @@ impl Control {
         for place in [Place::Answer, Place::Out, Place::Result] {
             try_place(Kind::Equalise, place, TASK);
             try_place(Kind::LayOut, place, EQUALISED);
+            try_place(Kind::Prepare, place, TASK);
         }
         for kind in RUNS {
             for place in [Place::Answer, Place::Inputs, Place::Image] {
@@ -99,15 +100,17 @@ impl Control {
         }
         try_place(Kind::Equalise, Place::Out, EQUALISED);
         try_place(Kind::LayOut, Place::Out, LAID);
+        try_place(Kind::Prepare, Place::Out, EQUALISED);
         for kind in Kind::ALL {
             try_place(kind, Place::Outside, LAID);
         }
     }
 
     /// The bit is flipped on both sides, in a file that is used further: only
-    /// the times and the walk over the laid file can tell.
+    /// the times and the walk over the laid file can tell, and, of preparing,
+    /// the two calls that it stands for.
     fn files(&mut self, settings: &Settings) {
-        for kind in [Kind::Equalise, Kind::LayOut] {
+        for kind in [Kind::Equalise, Kind::LayOut, Kind::Prepare] {
             let (place, both) = (Place::Result, true);
             self.try_flip(Flip { kind, place, both }, |comparer, random| {
                 prepare(comparer, random, settings, &factorial());

@@ -23,6 +23,14 @@ pub fn part(comparer: &mut Comparer, seed: u64, rounds: u64) {
         let period = random.pick(&periods);
         let settings = settings.with_period(period.max(1));
         time(comparer, &mut random, &settings.bytes(), form, &file);
+        // Some are tasks as well, and some would be but for one record.
+        transform(
+            comparer,
+            &mut random,
+            Kind::Prepare,
+            &settings.bytes(),
+            &file,
+        );
         if form == EQUALISED {
             lay_out(comparer, &mut random, &settings, &file);
         }

@@ -8,12 +8,12 @@ const FINISHED: usize = 0;
 const OVERRAN_OR_SAVED: usize = 13;
 
 pub struct Tally {
-    counts: [[u64; 14]; 7],
+    counts: [[u64; 14]; 8],
 }
 
 impl Tally {
     pub fn new() -> Tally {
-        let counts = [[0; 14]; 7];
+        let counts = [[0; 14]; 8];
         Tally { counts }
     }
 
@@ -42,7 +42,7 @@ impl Tally {
     fn row(&self, kind: Kind) -> Vec<u64> {
         let mut columns: Vec<usize> = possible(kind).iter().map(|&n| usize::from(n)).collect();
         columns.push(FINISHED);
-        if !matches!(kind, Kind::Time | Kind::Equalise | Kind::LayOut) {
+        if kind != Kind::Time && !kind.writes() {
             columns.push(OVERRAN_OR_SAVED);
         }
         let row = self.counts[kind as usize];

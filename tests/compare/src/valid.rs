@@ -2,7 +2,7 @@
 //! the edges, with stops near the ends of SAVEs and of the run.
 
 use crate::call::{Answer, Call, Kind};
-use crate::chain::{self, prepare, time, transform, Job, Prepared};
+use crate::chain::{self, prepare, time, transform, writing, Job, Prepared};
 use crate::comparer::Comparer;
 use crate::generate::{self, set_of_values};
 use crate::listing;
@@ -103,8 +103,10 @@ fn unseen_total(comparer: &mut Comparer, random: &mut Random, settings: &Setting
     while from - below > 1 {
         let middle = below + (from - below) / 2;
         let settings = settings.with_period(middle).bytes();
+        let call = Call::new(Kind::Prepare, &settings, TASK, task, random);
+        comparer.call(&call);
         let call = Call::new(Kind::LayOut, &settings, EQUALISED, &equalised, random);
-        match comparer.call(&call).answer == refused(8) {
+        match comparer.call(&call).answer == Answer::refused(8) {
             true => below = middle,
             false => from = middle,
         }
@@ -124,6 +126,7 @@ fn whole_chain(comparer: &mut Comparer, random: &mut Random, settings: &Settings
 
 /// What is not laid out is still run as far as it was prepared.
 fn not_laid(comparer: &mut Comparer, random: &mut Random, settings: &[u8], task: &[u8]) {
+    listing::compare_refused(comparer, random, settings, task);
     let set = set_of_values(random);
     let equalised = transform(comparer, random, Kind::Equalise, settings, task);
     let files = equalised.map(|(file, _)| (EQUALISED, file));
@@ -276,26 +279,18 @@ fn one_time(comparer: &mut Comparer, random: &mut Random, wanted: u128) {
         // A step first, so that the loops are not all there is.
         let steps = [vec![set(ADD, 0, 0, 1)], generate::of_time(form, wanted - 1)].concat();
         let file = bytes(&steps);
-        let kind = if form == TASK {
-            Kind::Equalise
-        } else {
-            Kind::LayOut
-        };
         for period in [nearest, nearest.max(2) - 1] {
             let settings = QUICK.with_period(period).bytes();
             let call = Call::new(Kind::Time, &settings, form, &file, random);
             let outcome = comparer.call(&call);
             let sound = match u32::try_from(wanted) {
                 Ok(time) if time <= period => outcome.answer == Answer::Time(time),
-                _ => outcome.answer == refused(8),
+                _ => outcome.answer == Answer::refused(8),
             };
             comparer.hold(sound, "a time made to measure", &call, &outcome);
-            transform(comparer, random, kind, &settings, &file);
+            for &kind in writing(form) {
+                transform(comparer, random, kind, &settings, &file);
+            }
         }
     }
-}
-
-fn refused(number: u8) -> Answer {
-    let value = None;
-    Answer::Refused { number, value }
 }

@@ -8,6 +8,7 @@ mod answer;
 mod library;
 
 use answer::{one_value, two_values, IMAGE, NONE, OVERRAN};
+use library::Writes;
 
 /// Which of the three kinds of file a call is given.
 #[derive(Clone, Copy, Debug, PartialEq, Eq)]
@@ -69,15 +70,20 @@ pub fn time_file(settings: &[u8], form: impl Into<u8>, file: &[u8]) -> Result<u3
     Ok(one_value(word, NONE)?.first)
 }
 
-/// Writes the equalised file of a task into `out`.
-pub fn equalise(settings: &[u8], task: &[u8], out: &mut [u8]) -> Result<Written, Refused> {
+/// A call that writes a file into `out`.
+fn write_by(
+    call: Writes,
+    settings: &[u8],
+    file: &[u8],
+    out: &mut [u8],
+) -> Result<Written, Refused> {
     // SAFETY: as in `time_file`; `out` is borrowed for writing.
     let word = unsafe {
-        library::rack_equalise(
+        call(
             settings.as_ptr(),
             settings.len(),
-            task.as_ptr(),
-            task.len(),
+            file.as_ptr(),
+            file.len(),
             out.as_mut_ptr(),
             out.len(),
         )
@@ -85,20 +91,19 @@ pub fn equalise(settings: &[u8], task: &[u8], out: &mut [u8]) -> Result<Written,
     written(word)
 }
 
+/// Writes the equalised file of a task into `out`.
+pub fn equalise(settings: &[u8], task: &[u8], out: &mut [u8]) -> Result<Written, Refused> {
+    write_by(library::rack_equalise, settings, task, out)
+}
+
 /// Writes the laid file of an equalised file into `out`.
 pub fn lay_out(settings: &[u8], equalised: &[u8], out: &mut [u8]) -> Result<Written, Refused> {
-    // SAFETY: as in `equalise`.
-    let word = unsafe {
-        library::rack_lay_out(
-            settings.as_ptr(),
-            settings.len(),
-            equalised.as_ptr(),
-            equalised.len(),
-            out.as_mut_ptr(),
-            out.len(),
-        )
-    };
-    written(word)
+    write_by(library::rack_lay_out, settings, equalised, out)
+}
+
+/// Writes the laid file of a task, equalised first, into `out`.
+pub fn prepare(settings: &[u8], task: &[u8], out: &mut [u8]) -> Result<Written, Refused> {
+    write_by(library::rack_prepare, settings, task, out)
 }
 
 /// Runs a file from its beginning to its end.
@@ -111,7 +116,7 @@ pub fn run(
     levels: &mut [u32],
     marks: &mut [u8],
 ) -> Result<Ended, Refused> {
-    // SAFETY: as in `equalise`.
+    // SAFETY: as in `write_by`.
     let word = unsafe {
         library::rack_run(
             settings.as_ptr(),
@@ -145,7 +150,7 @@ pub fn run_until(
     image: &mut [u8],
     stop: u32,
 ) -> Result<Stopped, Refused> {
-    // SAFETY: as in `equalise`.
+    // SAFETY: as in `write_by`.
     let word = unsafe {
         library::rack_run_until(
             settings.as_ptr(),
@@ -181,7 +186,7 @@ pub fn resume(
     levels: &mut [u32],
     marks: &mut [u8],
 ) -> Result<Ended, Refused> {
-    // SAFETY: as in `equalise`.
+    // SAFETY: as in `write_by`.
     let word = unsafe {
         library::rack_resume(
             settings.as_ptr(),
@@ -214,7 +219,7 @@ pub fn restart(
     levels: &mut [u32],
     marks: &mut [u8],
 ) -> Result<Ended, Refused> {
-    // SAFETY: as in `equalise`.
+    // SAFETY: as in `write_by`.
     let word = unsafe {
         library::rack_restart(
             settings.as_ptr(),

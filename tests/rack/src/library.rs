@@ -3,6 +3,9 @@
 //! A slice is a pointer, never null, and a length in elements. The answer is
 //! one word, taken apart in `answer.rs`.
 
+/// The type of the three calls that write a file.
+pub type Writes = unsafe extern "C" fn(*const u8, usize, *const u8, usize, *mut u8, usize) -> u64;
+
 unsafe extern "C" {
     pub fn rack_time(
         settings: *const u8,
@@ -26,6 +29,15 @@ unsafe extern "C" {
         settings_length: usize,
         equalised: *const u8,
         equalised_length: usize,
+        out: *mut u8,
+        out_length: usize,
+    ) -> u64;
+
+    pub fn rack_prepare(
+        settings: *const u8,
+        settings_length: usize,
+        task: *const u8,
+        task_length: usize,
         out: *mut u8,
         out_length: usize,
     ) -> u64;

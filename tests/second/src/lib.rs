@@ -105,6 +105,14 @@ pub fn lay_out(settings: &[u8], equalised: &[u8], out: &mut [u8]) -> Result<Writ
     Ok(Written { bytes, time })
 }
 
+/// Equalises a task and lays out what that wrote into `out`.
+pub fn prepare(settings: &[u8], task: &[u8], out: &mut [u8]) -> Result<Written, Refused> {
+    // A WHILE and its END become six records; nothing else grows as much.
+    let mut equalised = vec![0; 3 * task.len()];
+    let bytes = equalise(settings, task, &mut equalised)?.bytes;
+    lay_out(settings, &equalised[..bytes], out)
+}
+
 /// The buffers lent to a run, each of its right length.
 struct Lent<'a> {
     variables: &'a mut [u32; 16],

@@ -9,10 +9,8 @@ use crate::{Form, Refused};
 
 /// The lines for a task, or the refusal that stood in the way.
 pub(crate) fn list(settings: &[u8], task: &[u8]) -> Result<String, Refused> {
-    let mut equalised = vec![0; MOST_RECORDS * SIZE];
     let mut laid = vec![0; MOST_RECORDS * SIZE];
-    let bytes = crate::equalise(settings, task, &mut equalised)?.bytes;
-    let written = crate::lay_out(settings, &equalised[..bytes], &mut laid)?;
+    let written = crate::prepare(settings, task, &mut laid)?;
     let settings = Settings::read(settings)?;
     let program = Program::read(Form::Laid, &laid[..written.bytes])?;
     Ok(lines(&settings, &program, written.time))

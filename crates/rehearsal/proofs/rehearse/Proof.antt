@@ -1,22 +1,19 @@
-use mathlib.Core.Path.{sym, subst}
+use mathlib.Core.Path.{ap, sym, _∙_}
 use lib.Seq.{length-take-le}
 use borrow.Author.Needs.{needs}
-use Rattle.model.specs.Rehearsal.{set}
-use Rattle.preparation.specs.Contracts.{Prepares}
+use Rattle.model.specs.Answers.{laidOut}
+use Rattle.model.specs.Rehearsal.{setOf}
 use Rattle.rehearsal.proofs.Preparing.{good-sets, rehearse-refused, file-fits, rehearse-bad, rehearse-done}
 use Rattle.rehearsal.proofs.rehearse.Statement.{statement}
 use Rattle.rehearsal.proofs.rehearse.Tie as tie
 use Rattle.rehearsal.proofs.rehearse.Reads as reads
 use Rattle.rehearsal.proofs.rehearse.Lts as lts
-use Rattle.rehearsal.proofs.bad_sets.Reads as bad-sets-reads
 use Rattle.preparation.proofs.prepare.Reads as prepare-reads
+use Rattle.rehearsal.proofs.bad_sets.Reads as bad-sets-reads
 use Rattle.rehearsal.proofs.rehearse_laid.Reads as rehearse-laid-reads
 
 slice-aggregate-prepare : tie.Need-slice-aggregate-prepare
 slice-aggregate-prepare c = search needs
-
-slice-aggregate-prepare-2 : tie.Need-slice-aggregate-prepare-2
-slice-aggregate-prepare-2 c = search needs
 
 prepare-requires : tie.Need-prepare-requires
 prepare-requires c κs = search needs
@@ -32,50 +29,47 @@ bad-sets-requires c κs = search needs
 
 returns : tie.Need-returns
 returns c =
-    let w = c .before .before .before .before .before .before .before in
-    let v = w .before .before .before .before .before .before .before .before .before in
-    rehearse-bad (v .args .settings .now) (v .args .task .now) (set (v .args .one .now) (v .args .one-inputs .now)) (set (v .args .two .now) (v .args .two-inputs .now)) (v .args .stop)
-    (subst (Prepares _ _ _ _ _) (c .before .before .before .r2 .given .1) (w .prepare .ensures)) (c .before .bad-sets .ensures) (c .if1 .taken)
+    let w = c .before .before .before .before .before .before .prepare in
+    let a = c .before .before .before .before .before .before .before .before .before .before .before .before .before .before .args in
+    rehearse-bad (a .settings .now) (a .task .now) (setOf (a .one .now) (a .one-inputs .now)) (setOf (a .two .now) (a .two-inputs .now)) (a .stop)
+    (sym (ap laidOut (c .before .before .before .r2 .given .1)) ∙ w .ensures .0) (w .ensures .1) (c .before .bad-sets .ensures) (c .if1 .taken)
 
 array-share-prefix-laid : tie.Need-array-share-prefix-laid
 array-share-prefix-laid c =
-    let w = c .before .before .before .before .before .before .before in
-    let v = w .before .before .before .before .before .before .before .before .before in
-    file-fits (v .args .settings .now) (v .args .task .now) (set (v .args .one .now) (v .args .one-inputs .now)) (set (v .args .two .now) (v .args .two-inputs .now)) (v .args .stop)
-    (subst (Prepares _ _ _ _ _) (c .before .before .before .r2 .given .1) (w .prepare .ensures)) (w .prepare .kept .1 .1 .1 .0)
+    let w = c .before .before .before .before .before .before .prepare in
+    let a = c .before .before .before .before .before .before .before .before .before .before .before .before .before .before .args in
+    file-fits (a .settings .now) (a .task .now) (setOf (a .one .now) (a .one-inputs .now)) (setOf (a .two .now) (a .two-inputs .now)) (a .stop)
+    (sym (ap laidOut (c .before .before .before .r2 .given .1)) ∙ w .ensures .0) (w .ensures .1) (w .kept .1 .1 .0)
 
 slice-aggregate-rehearse-laid : tie.Need-slice-aggregate-rehearse-laid
 slice-aggregate-rehearse-laid c =
-    let w = c .before .before .before .before in
-    let v = w .before .before .before .before in
-    let u = v .before .before .before .before .before .before .before .before .before in
-    sym (length-take-le _ _ (file-fits (u .args .settings .now) (u .args .task .now) (set (u .args .one .now) (u .args .one-inputs .now)) (set (u .args .two .now) (u .args .two-inputs .now))
-    (u .args .stop) (subst (Prepares _ _ _ _ _) (w .r2 .given .1) (v .prepare .ensures)) (v .prepare .kept .1 .1 .1 .0)))
+    let w = c .before .before .before .before .before .before .before .prepare in
+    let a = c .before .before .before .before .before .before .before .before .before .before .before .before .before .before .before .args in
+    sym (length-take-le _ _ (file-fits (a .settings .now) (a .task .now) (setOf (a .one .now) (a .one-inputs .now)) (setOf (a .two .now) (a .two-inputs .now)) (a .stop)
+    (sym (ap laidOut (c .before .before .before .before .r2 .given .1)) ∙ w .ensures .0) (w .ensures .1) (w .kept .1 .1 .0)))
 
 rehearse-laid-requires : tie.Need-rehearse-laid-requires
-rehearse-laid-requires c κs = good-sets (c .before .before .bad-sets .ensures) (c .before .if1 .left)
+rehearse-laid-requires c κs =
+    good-sets (c .before .before .bad-sets .ensures) (c .before .if1 .left)
 
 returns-2 : tie.Need-returns-2
 returns-2 c =
-    let w = c .before .before .before .before .before in
-    let v = w .before .before .before .before .before .before .before .before .before in
-    rehearse-refused (v .args .settings .now) (v .args .task .now) (set (v .args .one .now) (v .args .one-inputs .now)) (set (v .args .two .now) (v .args .two-inputs .now)) (v .args .stop)
-    (subst (Prepares _ _ _ _ _) (c .before .r .given .1) (w .prepare .ensures))
+    let a = c .before .before .before .before .before .before .before .before .before .before .before .before .args in
+    rehearse-refused (a .settings .now) (a .task .now) (setOf (a .one .now) (a .one-inputs .now)) (setOf (a .two .now) (a .two-inputs .now)) (a .stop)
+    (c .before .r .given .0 .0) (sym (ap laidOut (c .before .r .given .1)) ∙ c .before .before .before .before .prepare .ensures .0)
 
 returns-3 : tie.Need-returns-3
 returns-3 c =
-    let w = c .before .before .before .before .before in
-    let v = w .before .before .before .before in
-    let u = v .before .before .before .before .before .before .before .before .before in
-    rehearse-done (u .args .settings .now) (u .args .task .now) (set (u .args .one .now) (u .args .one-inputs .now)) (set (u .args .two .now) (u .args .two-inputs .now)) (u .args .stop)
-    (subst (Prepares _ _ _ _ _) (w .r2 .given .1) (v .prepare .ensures)) (c .before .before .before .bad-sets .ensures) (c .before .before .if1 .left) (c .rehearse-laid .ensures)
+    let w = c .before .before .before .before .before .before .before .before .prepare in
+    let a = c .before .before .before .before .before .before .before .before .before .before .before .before .before .before .before .before .args in
+    rehearse-done (a .settings .now) (a .task .now) (setOf (a .one .now) (a .one-inputs .now)) (setOf (a .two .now) (a .two-inputs .now)) (a .stop)
+    (sym (ap laidOut (c .before .before .before .before .before .r2 .given .1)) ∙ w .ensures .0) (w .ensures .1) (c .before .before .before .bad-sets .ensures) (c .before .before .if1 .left) (c .rehearse-laid .ensures)
 
 pub rehearse-spec : {M : Type 1} → statement M
 rehearse-spec =
     tie.close
     (tie.spec
     slice-aggregate-prepare
-    slice-aggregate-prepare-2
     prepare-requires
     enum-known-r
     enum-known-r-2

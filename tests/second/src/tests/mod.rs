@@ -3,6 +3,7 @@
 mod bench;
 mod laying;
 mod naive;
+mod preparing;
 mod random;
 mod refusals;
 mod running;
@@ -96,8 +97,13 @@ fn cut(out: Vec<u8>, written: Result<Written, Refused>) -> Result<Vec<Raw>, Refu
     written.map(|_| out[..bytes].as_chunks::<12>().0.to_vec())
 }
 
+/// By one call, which must do what the two do.
 pub(crate) fn prepared(settings: &Raw, task: &[Raw]) -> Result<Vec<Raw>, Refused> {
-    laid(settings, &equalised(settings, task)?)
+    let mut out = vec![0xA5; ROOM];
+    let written = prepare(settings, task.as_flattened(), &mut out);
+    let ready = cut(out, written);
+    assert_eq!(ready, equalised(settings, task).and_then(|even| laid(settings, &even)));
+    ready
 }
 
 /// What is lent to a run.

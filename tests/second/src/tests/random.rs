@@ -207,6 +207,7 @@ fn tasks_by_chance() {
         let Some(ready) = check_laying(&settings, &even) else {
             continue;
         };
+        assert_eq!(prepared(&settings, &task).as_ref(), Ok(&ready));
         let bench = chance.bench();
         let overran = check_run(&settings, Form::Task, &task, &bench);
         check_run(&settings, Form::Equalised, &flattened(&even), &bench);
@@ -280,7 +281,7 @@ fn broken_files_by_chance() {
                 assert!(taken || after == bench);
             }
         }
-        let _ = equalised(&settings, &file);
+        let _ = prepared(&settings, &file);
         let _ = laid(&settings, &file);
         let _ = list(&settings, file.as_flattened());
     }

@@ -1,2 +1,0 @@
--- What preparing a task answers.
-pub mod Contracts
