@@ -3,5 +3,5 @@ pub mod Starting
 pub mod StartingBlocks
 pub mod StartingBranches
 pub mod LineLaws
-pub mod ReadBack
 pub mod Listings
+pub mod Printed

@@ -1,20 +1,19 @@
--- The numbers after a record's name, by its kind.
-use Prim.Native.Nat.{ℕ, _≤_, _<_}
+-- The line of a record, by its kind, and the line of an index.
+use Prim.Native.Nat.{ℕ, _/_, _≤_, _<_}
 use native.Mathlib.Omega.{arith}
 use mathlib.Core.Path.{_≡_, refl, ap, sym}
-use mathlib.Core.Bool.{Bool, true, false}
+use mathlib.Core.Bool.{Bool, true, false, cond, _||_}
 use mathlib.Core.Logic.{_⊎_, inl, inr}
 use mathlib.Core.List.{List, [], _∷_}
-use lib.ListN.{length, take}
+use lib.ListN.{length, getD, take}
 use lib.Dec.{eqb}
-use borrow.Author.Tests.{ne-eqb, eqb-true, eqb-false}
-use Rattle.model.specs.Records.{Rec, SKIP, SET, READ, WRITE, IF, CHECK, BEAT}
-use Rattle.model.specs.Listing.{line}
-use Rattle.listing.specs.declared.lines.Line.{Line as Told}
-use Rattle.listing.specs.Lines.{numbersOf, lineOf, Shows}
+use borrow.Author.Tests.{ne-eqb, eqb-true, eqb-false, lt-ltb, le-ltb}
+use Rattle.model.specs.declared.Line.{Line}
+use Rattle.model.specs.declared.Shown.{Shown}
+use Rattle.model.specs.Records.{Rec, recordAt, SKIP, SET, READ, WRITE, IF, CHECK, BEAT}
+use Rattle.model.specs.Listing.{numbersOf, lineOf, lineAt, counted}
 
-abbrev pub told : ℕ → ℕ → ℕ → List ℕ → Told
-told t k n ns = record { tick = t; kind = k; count = n; numbers = ns }
+-- NUMBERS
 
 -- READ and WRITE are left where no other kind with numbers is
 record Others (k : ℕ) : Type 0 where
@@ -51,32 +50,72 @@ none r O x y =
       ne-eqb (r .kind) CHECK (λ e. O .no-four (inr (inr e))),
     )
 
+-- A RECORD'S LINE
+
+-- these numbers, and 0 up to four
+abbrev pub told : ℕ → ℕ → List ℕ → Line
+told t k ns = record { tick = t; kind = k; count = length ns; first = getD ns 0 0; second = getD ns 1 0; third = getD ns 2 0; fourth = getD ns 3 0 }
+
 module _ (t : ℕ) (r : Rec) where
-  abbrev Listed : ℕ → List ℕ → Type 0
-  Listed n ns = Shows (told t (r .kind) n ns) (lineOf t r)
+  numbered : (ns : List ℕ) → ns ≡ numbersOf r → told t (r .kind) ns ≡ lineOf t r
+  numbered ns e = ap (told t (r .kind)) e
 
-  shows : (n : ℕ) (ns : List ℕ) → take n ns ≡ numbersOf r → n ≤ 4 → length ns ≡ 4 → Listed n ns
-  shows n ns e h l = record { same = ap (line t (r .kind)) e; few = h; four = l }
+  pub line-skip : r .kind ≡ SKIP → told t (r .kind) (r .count ∷ []) ≡ lineOf t r
+  line-skip e = numbered (r .count ∷ []) (rw e)
 
-  pub shows-skip : r .kind ≡ SKIP → Listed 1 (r .count ∷ 0 ∷ 0 ∷ 0 ∷ [])
-  shows-skip e = shows 1 _ (rw e) (omega arith) refl
+  pub line-beat : r .kind ≡ BEAT → told t (r .kind) (r .value ∷ []) ≡ lineOf t r
+  line-beat e = numbered (r .value ∷ []) (rw e)
 
-  pub shows-beat : r .kind ≡ BEAT → Listed 1 (r .value ∷ 0 ∷ 0 ∷ 0 ∷ [])
-  shows-beat e = shows 1 _ (rw e) (omega arith) refl
-
-  pub shows-four : {a b c : ℕ} → a ≡ r .op → b ≡ r .target → c ≡ r .left → (r .kind ≡ SET) ⊎ (r .kind ≡ IF) ⊎ (r .kind ≡ CHECK)
-      → Listed 4 (a ∷ b ∷ c ∷ r .value ∷ [])
-  shows-four {a} {b} {c} x y z k = shows 4 _ (cc (four r k)) (omega arith) refl
+  pub line-four : {a b c : ℕ} → a ≡ r .op → b ≡ r .target → c ≡ r .left → (r .kind ≡ SET) ⊎ (r .kind ≡ IF) ⊎ (r .kind ≡ CHECK)
+      → told t (r .kind) (a ∷ b ∷ c ∷ r .value ∷ []) ≡ lineOf t r
+  line-four {a} {b} {c} x y z k = numbered (a ∷ b ∷ c ∷ r .value ∷ []) (cc (four r k))
 
   module _ (s : r .kind ≡ SKIP → ⊥) (u : r .kind ≡ BEAT → ⊥) (f : (r .kind ≡ SET) ⊎ (r .kind ≡ IF) ⊎ (r .kind ≡ CHECK) → ⊥) where
     others : Others (r .kind)
     others = record { no-skip = s; no-beat = u; no-four = f }
 
-    pub shows-two : {a b : ℕ} → a ≡ r .target → b ≡ r .left → 1 ≤ r .kind → r .kind < 5 → Listed 2 (a ∷ b ∷ 0 ∷ 0 ∷ [])
-    shows-two {a} {b} x y l h = shows 2 _ (cc (two r others l h)) (omega arith) refl
+    pub line-two : {a b : ℕ} → a ≡ r .target → b ≡ r .left → 1 ≤ r .kind → r .kind < 5 → told t (r .kind) (a ∷ b ∷ []) ≡ lineOf t r
+    line-two {a} {b} x y l h = numbered (a ∷ b ∷ []) (cc (two r others l h))
 
-    pub shows-below : r .kind < 1 → Listed 0 (0 ∷ 0 ∷ 0 ∷ 0 ∷ [])
-    shows-below h = shows 0 _ (sym (none r others (λ e. omega arith) (λ e. omega arith))) (omega arith) refl
+    pub line-below : r .kind < 1 → told t (r .kind) [] ≡ lineOf t r
+    line-below h = numbered [] (sym (none r others (λ e. omega arith) (λ e. omega arith)))
 
-    pub shows-above : 5 ≤ r .kind → Listed 0 (0 ∷ 0 ∷ 0 ∷ 0 ∷ [])
-    shows-above h = shows 0 _ (sym (none r others (λ e. omega arith) (λ e. omega arith))) (omega arith) refl
+    pub line-above : 5 ≤ r .kind → told t (r .kind) [] ≡ lineOf t r
+    line-above h = numbered [] (sym (none r others (λ e. omega arith) (λ e. omega arith)))
+
+-- A LINE HAS ROOM FOR ALL NUMBERS
+
+-- a list that counts at most four, taken from a line's four numbers, is whole
+record Fits (ns : List ℕ) : Type 0 where
+  few : length ns ≤ 4
+  whole : take (length ns) (getD ns 0 0 ∷ getD ns 1 0 ∷ getD ns 2 0 ∷ getD ns 3 0 ∷ []) ≡ ns
+
+either : (o : Bool) (xs ys : List ℕ) → Fits xs → Fits ys → Fits (cond o xs ys)
+either true xs ys h k = h
+either false xs ys h k = k
+
+fits : (r : Rec) → Fits (numbersOf r)
+fits r =
+    either (eqb (r .kind) SKIP) (r .count ∷ []) _ (record { few = omega arith; whole = refl })
+    (either (eqb (r .kind) BEAT) (r .value ∷ []) _ (record { few = omega arith; whole = refl })
+    (either (eqb (r .kind) READ || eqb (r .kind) WRITE) (r .target ∷ r .left ∷ []) _ (record { few = omega arith; whole = refl })
+    (either (eqb (r .kind) SET || (eqb (r .kind) IF || eqb (r .kind) CHECK)) (r .op ∷ r .target ∷ r .left ∷ r .value ∷ []) []
+    (record { few = omega arith; whole = refl }) (record { few = omega arith; whole = refl }))))
+
+pub at-most-four : (t : ℕ) (r : Rec) → lineOf t r .count ≤ 4
+at-most-four t r = fits r .few
+
+pub counted-numbers : (t : ℕ) (r : Rec) → counted (lineOf t r) ≡ numbersOf r
+counted-numbers t r = fits r .whole
+
+-- THE LINE OF AN INDEX
+
+module _ (laid table : List ℕ) (i : ℕ) where
+  pub line-there : i < length laid / 12 → i < length table → Shown.Line (lineOf (getD table i 0) (recordAt laid i)) ≡ lineAt laid table i
+  line-there h k = rw (lt-ltb i (length laid / 12) h, lt-ltb i (length table) k)
+
+  pub line-past-file : length laid / 12 ≤ i → Shown.Absent ≡ lineAt laid table i
+  line-past-file h = rw (le-ltb i (length laid / 12) h)
+
+  pub line-past-table : i < length laid / 12 → length table ≤ i → Shown.Absent ≡ lineAt laid table i
+  line-past-table h k = rw (lt-ltb i (length laid / 12) h, le-ltb i (length table) k)

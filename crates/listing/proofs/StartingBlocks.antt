@@ -11,6 +11,7 @@ use Rattle.model.specs.declared.Settings.{Settings}
 use Rattle.model.specs.Records.{Rec, kindAt, recordAt, IF}
 use Rattle.model.specs.Trees.{Block, nil, skip, act, branch, while, times, size}
 use Rattle.model.specs.Times.{time}
+use Rattle.model.specs.Listing.{startTicks}
 use Rattle.reading.specs.Closing.{closesBlock}
 use Rattle.reading.specs.Ranges.{Stands, firstSize, afterFirst}
 use Rattle.reading.proofs.Filled.{size-first}
@@ -19,8 +20,9 @@ use Rattle.timing.specs.Times.{stepTicks}
 use Rattle.timing.specs.Blocks.{firstTime}
 use Rattle.timing.proofs.Firsts.{time-first, act-ticks}
 use Rattle.listing.specs.declared.starts.Place.{Place}
-use Rattle.listing.specs.Starts.{starts, firstStarts, Stored, Entered, Statement, BlockStarted, StatementStarted}
-use Rattle.listing.proofs.Starting.{stored-on, first-length, starts-first}
+use Rattle.listing.specs.Starts.{firstStarts, Stored, Entered, Statement, BlockStarted, StatementStarted}
+use Rattle.records.proofs.Stores.{stored-on}
+use Rattle.listing.proofs.Starting.{first-length, starts-first}
 
 abbrev pub place : ℕ → ℕ → Place
 place t j = record { tick = t; next = j }
@@ -85,7 +87,7 @@ pub record Starting (s : List ℕ) (from to : ℕ) (σ : Settings) (t₀ : ℕ) 
   pub kept : length w ≡ length old
   pub counts : next + size (rest .file .block) ≡ from + size (all .file .block)
   pub lasts : t + time σ (rest .file .block) ≡ t₀ + time σ (all .file .block)
-  pub same : sets w next (starts σ (rest .file .block) t) ≡ sets old from (starts σ (all .file .block) t₀)
+  pub same : sets w next (startTicks σ (rest .file .block) t) ≡ sets old from (startTicks σ (all .file .block) t₀)
 
 pub starting-start : {s : List ℕ} {from to : ℕ} {σ : Settings} {t : ℕ} {out : List ℕ} → Entered s from to σ t out → Starting s from to σ t out out t from
 starting-start E = record { all = E; rest = E; on = omega arith; kept = refl; counts = refl; lasts = refl; same = refl }
@@ -98,19 +100,19 @@ module _ {s : List ℕ} {from to : ℕ} {σ : Settings} {t₀ : ℕ} {old w : Li
   left = P .rest .file .block
 
   -- nothing is left
-  done : left ≡ nil → w ≡ sets old from (starts σ whole t₀)
-  unfolding starts
-  done e = ap (λ (b : Block). sets w next (starts σ b t)) (sym e) ∙ P .same
+  done : left ≡ nil → w ≡ sets old from (startTicks σ whole t₀)
+  done e = ap (λ (b : Block). sets w next (startTicks σ b t)) (sym e) ∙ P .same
 
   ended : left ≡ nil → BlockStarted s from to σ t₀ old w (place t next)
   ended e =
-      let A : Stored (starts σ whole t₀) (time σ whole) (size whole) from t₀ old w (place t next) = record {
+      let A : Stored (startTicks σ whole t₀) (time σ whole) (size whole) from t₀ old w (place t next) = record {
         table = done e;
         tick = omega (arith, P .lasts, ap (time σ) e);
         next = omega (arith, P .counts, ap size e);
       } in
       record {
-        right = λ b B. subst (λ (x : Block). Stored (starts σ x t₀) (time σ x) (size x) from t₀ old w (place t next)) (stands-once whole b (P .all .file .stands) B) A;
+        right = λ b B.
+            subst (λ (x : Block). Stored (startTicks σ x t₀) (time σ x) (size x) from t₀ old w (place t next)) (stands-once whole b (P .all .file .stands) B) A;
       }
 
   pub starting-closed : closesBlock (kindAt s next) ≡ true → BlockStarted s from to σ t₀ old w (place t next)
@@ -131,11 +133,12 @@ module _ {s : List ℕ} {from to : ℕ} {σ : Settings} {t₀ : ℕ} {old w : Li
       pub starting-on : next < r .next
       starting-on = omega (arith, step .next, stands-some left (P .rest .file .stands) l k)
 
-      follows : sets new (r .next) (starts σ (afterFirst left) (r .tick)) ≡ sets w next (starts σ left t)
+      follows : sets new (r .next) (startTicks σ (afterFirst left) (r .tick)) ≡ sets w next (startTicks σ left t)
       follows =
           let f = P .rest .file .stands .fills .of-form in
-          ap (λ (u : ℕ). sets new (r .next) (starts σ (afterFirst left) u)) (step .tick)
-          ∙ stored-on w next (firstStarts σ left t) (starts σ (afterFirst left) (t + firstTime σ left)) (step .table) (omega (arith, first-length σ left t f, step .next)) refl
+          let after = startTicks σ (afterFirst left) (t + firstTime σ left) in
+          ap (λ (u : ℕ). sets new (r .next) (startTicks σ (afterFirst left) u)) (step .tick)
+          ∙ stored-on w next (firstStarts σ left t) after (step .table) (omega (arith, first-length σ left t f, step .next)) refl
           ∙ ap (sets w next) (sym (starts-first σ left t f))
 
       same-room : length new ≡ length w

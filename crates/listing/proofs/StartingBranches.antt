@@ -10,12 +10,14 @@ use Rattle.model.specs.declared.Settings.{Settings}
 use Rattle.model.specs.Records.{kindAt, recordAt, IF}
 use Rattle.model.specs.Trees.{Block, branch, size}
 use Rattle.model.specs.Times.{time}
+use Rattle.model.specs.Listing.{startTicks}
 use Rattle.reading.specs.Ranges.{Stands, firstSize, firstPart, secondPart, afterFirst, testOf}
 use Rattle.reading.proofs.Standing.{if-at, first-side, second-side, sides-end}
 use Rattle.timing.specs.Blocks.{firstTime}
 use Rattle.listing.specs.declared.starts.Place.{Place}
-use Rattle.listing.specs.Starts.{starts, firstStarts, Stored, Entered, Statement, BlockStarted, StatementStarted}
-use Rattle.listing.proofs.Starting.{stored-on, starts-length}
+use Rattle.listing.specs.Starts.{firstStarts, Stored, Entered, Statement, BlockStarted, StatementStarted}
+use Rattle.records.proofs.Stores.{stored-on}
+use Rattle.listing.proofs.Starting.{starts-length}
 use Rattle.listing.proofs.StartingBlocks.{place, block, stands, told}
 
 module _ {s : List ℕ} {i to : ℕ} {σ : Settings} {t : ℕ} {out : List ℕ} (S : Statement s i to σ t out) (k : kindAt s i ≡ IF) where
@@ -50,11 +52,11 @@ module _ {s : List ℕ} {i to : ℕ} {σ : Settings} {t : ℕ} {out : List ℕ} 
   }
 
   module _ {w : List ℕ} {e : Place} (O : BlockStarted s (i + 1) to σ (t + 1) (setAt out i t) w e) where
-    first : Stored (starts σ one (t + 1)) (time σ one) (size one) (i + 1) (t + 1) (setAt out i t) w e
+    first : Stored (startTicks σ one (t + 1)) (time σ one) (size one) (i + 1) (t + 1) (setAt out i t) w e
     first = O .right one one-there
 
     same-room : length w ≡ length out
-    same-room = ap length (first .table) ∙ length-sets (setAt out i t) (i + 1) (starts σ one (t + 1)) ∙ length-set out i t
+    same-room = ap length (first .table) ∙ length-sets (setAt out i t) (i + 1) (startTicks σ one (t + 1)) ∙ length-set out i t
 
     pub middle-after : i < e .next
     middle-after = omega (arith, first .next)
@@ -78,14 +80,14 @@ module _ {s : List ℕ} {i to : ℕ} {σ : Settings} {t : ℕ} {out : List ℕ} 
       }
 
       module _ {v : List ℕ} {f : Place} (T : BlockStarted s (e .next + 1) to σ (t + 1) u v f) where
-        second : Stored (starts σ two (t + 1)) (time σ two) (size two) (e .next + 1) (t + 1) u v f
+        second : Stored (startTicks σ two (t + 1)) (time σ two) (size two) (e .next + 1) (t + 1) u v f
         second = T .right two two-stands
 
         pub last-inside : f .next < to
         last-inside = omega (arith, first .next, second .next, inside)
 
         pub last-kept : length v ≡ length out
-        last-kept = ap length (second .table) ∙ length-sets u (e .next + 1) (starts σ two (t + 1)) ∙ kept ∙ same-room
+        last-kept = ap length (second .table) ∙ length-sets u (e .next + 1) (startTicks σ two (t + 1)) ∙ kept ∙ same-room
 
         pub last-room : f .next < length v
         last-room = omega (arith, last-inside, last-kept, S .entered .room)
@@ -98,18 +100,19 @@ module _ {s : List ℕ} {i to : ℕ} {σ : Settings} {t : ℕ} {out : List ℕ} 
           all-stored =
               let a = starts-length σ one (t + 1) (one-there .fills .of-form) in
               let d = starts-length σ two (t + 1) (two-there .fills .of-form) in
-              let A = t ∷ starts σ one (t + 1) in
+              let A = t ∷ startTicks σ one (t + 1) in
               let B = A ++ (t + 1) ∷ [] in
-              let D = starts σ two (t + 1) in
-              let p1 = stored-on out i (t ∷ []) (starts σ one (t + 1)) refl refl (first .table) in
+              let D = startTicks σ two (t + 1) in
+              let p1 = stored-on out i (t ∷ []) (startTicks σ one (t + 1)) refl refl (first .table) in
               let p2 = stored-on out i A ((t + 1) ∷ []) {j = e .next} p1 (omega (arith, a, first .next)) stored in
               let p3 = stored-on out i B D p2 (simp length-append (omega (arith, a, first .next))) (second .table) in
               let p4 = stored-on out i (B ++ D) (end ∷ []) {j = f .next} p3 (simp length-append (omega (arith, a, d, first .next, second .next))) refl in
-              let ends : B ++ D ++ end ∷ [] ≡ t ∷ (starts σ one (t + 1) ++ (t + 1) ∷ (D ++ (t + 1 + max (time σ one) (time σ two)) ∷ [])) =
-              simp append-assoc (ap (λ (x : ℕ). t ∷ (starts σ one (t + 1) ++ (t + 1) ∷ (D ++ x ∷ []))) meets) in
+              let ends : B ++ D ++ end ∷ [] ≡ t ∷ (startTicks σ one (t + 1) ++ (t + 1) ∷ (D ++ (t + 1 + max (time σ one) (time σ two)) ∷ [])) =
+              simp append-assoc (ap (λ (x : ℕ). t ∷ (startTicks σ one (t + 1) ++ (t + 1) ∷ (D ++ x ∷ []))) meets) in
               p4 ∙ ap (sets out i) ends
 
           pub branch-started : StatementStarted s i to σ t out (setAt v (f .next) end) (place end (f .next + 1))
           branch-started =
-              told S (subst (λ (b : Block). Stored (firstStarts σ b t) (firstTime σ b) (firstSize b) i t out (setAt v (f .next) end) (place end (f .next + 1))) (sym is-if)
+              let new = setAt v (f .next) end in
+              told S (subst (λ (b : Block). Stored (firstStarts σ b t) (firstTime σ b) (firstSize b) i t out new (place end (f .next + 1))) (sym is-if)
               (record { table = all-stored; tick = omega (arith, meets); next = omega (arith, first .next, second .next) }))

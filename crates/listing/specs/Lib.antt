@@ -1,4 +1,3 @@
 -- What the contracts of listing cite beside the model's definitions.
 pub mod Starts
 pub mod Lines
-pub mod Listing

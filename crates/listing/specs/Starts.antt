@@ -2,7 +2,7 @@
 use Prim.Native.Nat.{ℕ, _+_, _≤_, _<_, max}
 use mathlib.Core.Path.{_≡_}
 use mathlib.Core.Bool.{false}
-use mathlib.Core.List.{List, [], _∷_, _++_, map}
+use mathlib.Core.List.{List, [], _∷_, _++_}
 use lib.ListN.{length}
 use lib.Seq.{sets}
 use Rattle.model.specs.declared.Form.the-variants.{Laid}
@@ -10,22 +10,18 @@ use Rattle.model.specs.declared.Settings.{Settings}
 use Rattle.model.specs.Records.{kindAt}
 use Rattle.model.specs.Trees.{Block, nil, skip, act, branch, while, times, size}
 use Rattle.model.specs.Times.{time}
-use Rattle.model.specs.Listing.{Line, lines}
+use Rattle.model.specs.Listing.{startTicks}
 use Rattle.reading.specs.Closing.{closesBlock}
 use Rattle.reading.specs.Ranges.{Stands, InFile, firstSize}
 use Rattle.timing.specs.Blocks.{firstTime}
 use Rattle.listing.specs.declared.starts.Place.{Place}
 
--- the ticks of a block's lines
-unfoldable pub starts : Settings → Block → ℕ → List ℕ
-starts σ b t = map (λ (l : Line). l .tick) (lines σ b t)
-
--- those of its first statement
+-- the starts of a block's first statement
 abbrev pub firstStarts : Settings → Block → ℕ → List ℕ
 firstStarts σ nil t = []
 firstStarts σ (skip n b) t = t ∷ []
 firstStarts σ (act p b) t = t ∷ []
-firstStarts σ (branch q a d b) t = t ∷ (starts σ a (t + 1) ++ (t + 1) ∷ (starts σ d (t + 1) ++ (t + 1 + max (time σ a) (time σ d)) ∷ []))
+firstStarts σ (branch q a d b) t = t ∷ (startTicks σ a (t + 1) ++ (t + 1) ∷ (startTicks σ d (t + 1) ++ (t + 1 + max (time σ a) (time σ d)) ∷ []))
 firstStarts σ (while q n a b) t = []
 firstStarts σ (times q n a b) t = []
 
@@ -48,7 +44,7 @@ pub record Statement (s : List ℕ) (i to : ℕ) (σ : Settings) (t : ℕ) (out 
   pub goes-on : closesBlock (kindAt s i) ≡ false
 
 pub record BlockStarted (s : List ℕ) (i to : ℕ) (σ : Settings) (t : ℕ) (old new : List ℕ) (r : Place) : Type 0 where
-  pub right : (b : Block) → Stands Laid s i to b → Stored (starts σ b t) (time σ b) (size b) i t old new r
+  pub right : (b : Block) → Stands Laid s i to b → Stored (startTicks σ b t) (time σ b) (size b) i t old new r
 
 pub record StatementStarted (s : List ℕ) (i to : ℕ) (σ : Settings) (t : ℕ) (old new : List ℕ) (r : Place) : Type 0 where
   pub right : (b : Block) → Stands Laid s i to b → Stored (firstStarts σ b t) (firstTime σ b) (firstSize b) i t old new r

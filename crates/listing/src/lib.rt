@@ -1,8 +1,11 @@
-// The listing of a task: the line of each record of its laid file, or why it is turned down.
+// The listing of a task: its laid file, the tick at which each record starts, and the line of a record.
 pub mod lines;
 mod starts;
 
-ghost use Rattle.listing.specs.Listing.{Lists};
+ghost use mathlib.Core.Path.{_≡_};
+ghost use Rattle.model.specs.Answers.{laidOut};
+ghost use Rattle.model.specs.Replies.{fullRoom, prepareReply, prepareOut};
+ghost use Rattle.model.specs.Listing.{listStarts};
 use model::LaidOut;
 use preparation::prepare;
 use records::settings::Decoded;
@@ -15,10 +18,11 @@ pub fn list_task(
     laid: &mut [u8; 65532],
     starts: &mut [u32; 5461],
 ) -> LaidOut
-    ensures { λ r. ⌜ Lists (now (settings .entry)) (now (task .entry)) (now (laid .exit)) (now (starts .exit)) r ⌝ }
+    ensures { λ r. ⌜ (laidOut r ≡ prepareReply (now (settings .entry)) (now (task .entry)) fullRoom)
+        × (now (laid .exit) ≡ prepareOut (now (settings .entry)) (now (task .entry)) (now (laid .entry)))
+        × (now (starts .exit) ≡ listStarts (now (settings .entry)) (now (task .entry)) (now (starts .entry))) ⌝ }
 {
-    let mut equalised: [u8; 65532] = [0; 65532];
-    let r = prepare(settings, task, &mut equalised, laid);
+    let r = prepare(settings, task, laid);
     let LaidOut::Written { bytes, total: _ } = r else {
         return r;
     };

@@ -1,2 +1,3 @@
--- What the proofs on text cite.
-pub mod Digits
+-- What the proofs on printing cite.
+pub mod Reading
+pub mod Rendering

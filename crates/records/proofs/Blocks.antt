@@ -5,7 +5,7 @@ use mathlib.Core.Path.{_≡_, refl, sym}
 use mathlib.Core.List.{List, [], _∷_, _++_, append-assoc, append-nil}
 use lib.ListN.{length}
 use Rattle.model.specs.Records.{Rec, recordBytes, bytes, IF}
-use Rattle.model.specs.Trees.{Test, Act, Block, nil, skip, act, branch, while, times, _⧺_, testRec, actRec, elseRec, endRec, size, flatten}
+use Rattle.model.specs.Trees.{Test, Act, Block, nil, skip, act, branch, while, times, _⧺_, testRec, actRec, elseRec, endRec, size, linearise}
 use Rattle.model.specs.Equalising.{waiting}
 use Rattle.model.proofs.Passes.{length-file}
 use Rattle.records.specs.Blocks.{blockBytes, skipRecords, skipBytes}
@@ -43,33 +43,33 @@ unfolding bytes
 bytes-++ [] ts = refl
 bytes-++ (r ∷ rs) ts = rw (bytes-++ rs ts) (sym (append-assoc (recordBytes r) (bytes rs) (bytes ts)))
 
-pub flatten-⧺ : (a b : Block) → flatten (a ⧺ b) ≡ flatten a ++ flatten b
-unfolding flatten
-flatten-⧺ nil b = refl
-flatten-⧺ (skip n a) b = rw (flatten-⧺ a b)
-flatten-⧺ (act p a) b = rw (flatten-⧺ a b)
-flatten-⧺ (branch q x y a) b = rw (flatten-⧺ a b) (simp append-assoc)
-flatten-⧺ (while q n x a) b = rw (flatten-⧺ a b) (simp append-assoc)
-flatten-⧺ (times q n x a) b = rw (flatten-⧺ a b) (simp append-assoc)
+pub linearise-⧺ : (a b : Block) → linearise (a ⧺ b) ≡ linearise a ++ linearise b
+unfolding linearise
+linearise-⧺ nil b = refl
+linearise-⧺ (skip n a) b = rw (linearise-⧺ a b)
+linearise-⧺ (act p a) b = rw (linearise-⧺ a b)
+linearise-⧺ (branch q x y a) b = rw (linearise-⧺ a b) (simp append-assoc)
+linearise-⧺ (while q n x a) b = rw (linearise-⧺ a b) (simp append-assoc)
+linearise-⧺ (times q n x a) b = rw (linearise-⧺ a b) (simp append-assoc)
 
 pub bytes-⧺ : (a b : Block) → blockBytes (a ⧺ b) ≡ blockBytes a ++ blockBytes b
 unfolding blockBytes
-bytes-⧺ a b = rw (flatten-⧺ a b) (bytes-++ (flatten a) (flatten b))
+bytes-⧺ a b = rw (linearise-⧺ a b) (bytes-++ (linearise a) (linearise b))
 
 pub length-block : (b : Block) → length (blockBytes b) ≡ 12 * size b
 unfolding blockBytes
 length-block b = length-file b
 
 pub waiting-bytes : (n : ℕ) (b : Block) → blockBytes (waiting n b) ≡ skipBytes n ++ blockBytes b
-unfolding blockBytes flatten bytes
+unfolding blockBytes linearise bytes
 waiting-bytes zero b = refl
 waiting-bytes (suc n) b = refl
 
 pub act-bytes : (p : Act) → blockBytes (act p nil) ≡ recordBytes (actRec p)
-unfolding blockBytes flatten bytes
+unfolding blockBytes linearise bytes
 act-bytes p = append-nil (recordBytes (actRec p))
 
 pub branch-bytes : (q : Test) (a d : Block)
     → blockBytes (branch q a d nil) ≡ recordBytes (testRec IF q 0) ++ (blockBytes a ++ (recordBytes elseRec ++ (blockBytes d ++ recordBytes endRec)))
-unfolding blockBytes flatten bytes
+unfolding blockBytes linearise bytes
 branch-bytes q a d = simp (bytes-++, append-nil)

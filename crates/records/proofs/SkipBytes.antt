@@ -5,18 +5,18 @@ use mathlib.Core.Path.{_≡_, refl, ap, sym, _∙_}
 use mathlib.Core.List.{List, []}
 use lib.ListN.{length}
 use Rattle.model.specs.Records.{recordBytes, bytes}
-use Rattle.model.specs.Trees.{skipRec, flatten}
+use Rattle.model.specs.Trees.{skipRec, linearise}
 use Rattle.model.specs.Replies.{over}
 use Rattle.records.specs.Blocks.{blockBytes, skipBytes, Wrote}
 
 -- no ticks are no record
 skip-none : (n : ℕ) → n ≡ 0 → skipBytes n ≡ []
-unfolding blockBytes flatten bytes
+unfolding blockBytes linearise bytes
 skip-none zero e = refl
 skip-none (suc n) e = absurd (omega arith)
 
 skip-one : (n : ℕ) → (n ≡ 0 → ⊥) → skipBytes n ≡ recordBytes (skipRec n)
-unfolding blockBytes flatten bytes
+unfolding blockBytes linearise bytes
 skip-one zero h = absurd (h refl)
 skip-one (suc n) h = refl
 

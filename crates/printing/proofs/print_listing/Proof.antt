@@ -1,15 +1,15 @@
 use native.Mathlib.Omega.{arith}
 use mathlib.Core.Path.{sym}
+use lib.ListN.{take, replicate}
+use lib.Seq.{length-take-le}
 use borrow.Author.Needs.{needs}
+use Rattle.model.specs.Listing.{printed, printedText}
+use Rattle.printing.proofs.Reading.{read-zeros}
+use Rattle.printing.proofs.Rendering.{over-fits}
 use Rattle.printing.proofs.print_listing.Statement.{statement}
 use Rattle.printing.proofs.print_listing.Tie as tie
 use Rattle.printing.proofs.print_listing.Reads as reads
 use Rattle.printing.proofs.print_listing.Lts as lts
-use Rattle.io.proofs.read_full.Reads as read-full-reads
-use Rattle.listing.proofs.list_task.Reads as list-task-reads
-use Rattle.printing.proofs.print_lines.Reads as print-lines-reads
-use Rattle.printing.proofs.print_refusal.Reads as print-refusal-reads
-use Rattle.printing.proofs.read_settings.Reads as read-settings-reads
 
 slice-aggregate-read-settings : tie.Need-slice-aggregate-read-settings
 slice-aggregate-read-settings c = search needs
@@ -17,52 +17,94 @@ slice-aggregate-read-settings c = search needs
 read-settings-requires : tie.Need-read-settings-requires
 read-settings-requires c κs = search needs
 
-slice-aggregate-read-full : tie.Need-slice-aggregate-read-full
-slice-aggregate-read-full c = search needs
+enum-known-given : tie.Need-enum-known-given
+enum-known-given c = search needs
 
-read-full-requires : tie.Need-read-full-requires
-read-full-requires c κs = search needs
-
-array-share-prefix-settings : tie.Need-array-share-prefix-settings
-array-share-prefix-settings c = search needs
-
-slice-aggregate-list-task : tie.Need-slice-aggregate-list-task
-slice-aggregate-list-task c = search needs
-
-array-share-prefix-task : tie.Need-array-share-prefix-task
-array-share-prefix-task c = search needs
-
-slice-aggregate-list-task-2 : tie.Need-slice-aggregate-list-task-2
-slice-aggregate-list-task-2 c = search needs
-
-list-task-requires : tie.Need-list-task-requires
-list-task-requires c κs = search needs
-
-enum-known-r : tie.Need-enum-known-r
-enum-known-r c = search needs
-
-print-refusal-requires : tie.Need-print-refusal-requires
-print-refusal-requires c κs = search needs
-
-enum-known-r-2 : tie.Need-enum-known-r-2
-enum-known-r-2 c = search needs
-
-slice-aggregate-print-lines : tie.Need-slice-aggregate-print-lines
-slice-aggregate-print-lines c = sym ((c .before .before .before .before .list-task .ensures .held _ _ (c .before .before .r2 .given .1)) .laid-room)
-
-slice-aggregate-print-lines-2 : tie.Need-slice-aggregate-print-lines-2
-slice-aggregate-print-lines-2 c = sym ((c .before .before .before .before .before .list-task .ensures .held _ _ (c .before .before .before .r2 .given .1)) .starts-room)
-
-print-lines-requires : tie.Need-print-lines-requires
-print-lines-requires c κs =
-    let h = c .before .before .before .before .before .list-task .ensures .held _ _ (c .before .before .before .r2 .given .1) in
-    omega (arith, h .few, h .inside, h .laid-room, h .starts-room)
+enum-told : tie.Need-enum-told
+enum-told c = search needs
 
 returns : tie.Need-returns
 returns c = search needs
 
+slice-aggregate-read-all : tie.Need-slice-aggregate-read-all
+slice-aggregate-read-all c = search needs
+
+slice-aggregate-read-all-2 : tie.Need-slice-aggregate-read-all-2
+slice-aggregate-read-all-2 c = search needs
+
+read-all-requires : tie.Need-read-all-requires
+read-all-requires c κs = search needs
+
+enum-known-read : tie.Need-enum-known-read
+enum-known-read c = search needs
+
+enum-told-2 : tie.Need-enum-told-2
+enum-told-2 c = search needs
+
 returns-2 : tie.Need-returns-2
 returns-2 c = search needs
+
+array-share-prefix-settings : tie.Need-array-share-prefix-settings
+array-share-prefix-settings c =
+    let at-given = c .before .before .before .before .before .before .before .before in
+    let at-read-settings = at-given .before .before .before in
+    omega (arith, read-zeros 32 (at-given .given .given .1) (at-read-settings .read-settings .ensures))
+
+slice-aggregate-render : tie.Need-slice-aggregate-render
+slice-aggregate-render c =
+    let at-given = c .before .before .before .before .before .before .before .before .before in
+    let at-read-settings = at-given .before .before .before in
+    sym (length-take-le _ _ (omega (arith, read-zeros 32 (at-given .given .given .1) (at-read-settings .read-settings .ensures))))
+
+array-share-prefix-task : tie.Need-array-share-prefix-task
+array-share-prefix-task c =
+    let at-read = c .before .before in
+    let at-read-all = at-read .before .before .before in
+    omega (arith, read-zeros 3073 (at-read .read .given .1) (at-read-all .read-all .ensures))
+
+slice-aggregate-render-2 : tie.Need-slice-aggregate-render-2
+slice-aggregate-render-2 c =
+    let at-read = c .before .before .before in
+    let at-read-all = at-read .before .before .before in
+    sym (length-take-le _ _ (omega (arith, read-zeros 3073 (at-read .read .given .1) (at-read-all .read-all .ensures))))
+
+render-requires : tie.Need-render-requires
+render-requires c κs = search needs
+
+array-share-prefix-page : tie.Need-array-share-prefix-page
+array-share-prefix-page c =
+    let at-read = c .before .before .before .before .before in
+    let at-read-all = at-read .before .before .before in
+    let at-given = at-read-all .before .before .before .before in
+    let at-read-settings = at-given .before .before .before in
+    let s = take (at-given .given .given .0 .0) (at-read-settings .read-settings .last .0) in
+    let task = take (at-read .read .given .0 .0) (at-read-all .read-all .last .1 .1 .0) in
+    omega (arith, over-fits (printedText (printed s task)) (replicate 349568 0) (c .render .ensures .0) (c .render .ensures .1))
+
+slice-aggregate-write-all : tie.Need-slice-aggregate-write-all
+slice-aggregate-write-all c =
+    let at-read = c .before .before .before .before .before .before in
+    let at-read-all = at-read .before .before .before in
+    let at-given = at-read-all .before .before .before .before in
+    let at-read-settings = at-given .before .before .before in
+    let s = take (at-given .given .given .0 .0) (at-read-settings .read-settings .last .0) in
+    let task = take (at-read .read .given .0 .0) (at-read-all .read-all .last .1 .1 .0) in
+    sym (length-take-le _ _ (over-fits (printedText (printed s task)) (replicate 349568 0) (c .before .render .ensures .0) (c .before .render .ensures .1)))
+
+write-all-requires : tie.Need-write-all-requires
+write-all-requires c κs = search needs
+
+slice-aggregate-fail : tie.Need-slice-aggregate-fail
+slice-aggregate-fail c = search needs
+
+fail-requires : tie.Need-fail-requires
+fail-requires c κs = search needs
+
+returns-3 : tie.Need-returns-3
+returns-3 c = search needs
+
+returns-4 : tie.Need-returns-4
+returns-4 c = search needs
 
 pub print-listing-spec : {M : Type 1} → statement M
 print-listing-spec =
@@ -70,18 +112,24 @@ print-listing-spec =
     (tie.spec
     slice-aggregate-read-settings
     read-settings-requires
-    slice-aggregate-read-full
-    read-full-requires
-    array-share-prefix-settings
-    slice-aggregate-list-task
-    array-share-prefix-task
-    slice-aggregate-list-task-2
-    list-task-requires
-    enum-known-r
-    print-refusal-requires
-    enum-known-r-2
-    slice-aggregate-print-lines
-    slice-aggregate-print-lines-2
-    print-lines-requires
+    enum-known-given
+    enum-told
     returns
-    returns-2)
+    slice-aggregate-read-all
+    slice-aggregate-read-all-2
+    read-all-requires
+    enum-known-read
+    enum-told-2
+    returns-2
+    array-share-prefix-settings
+    slice-aggregate-render
+    array-share-prefix-task
+    slice-aggregate-render-2
+    render-requires
+    array-share-prefix-page
+    slice-aggregate-write-all
+    write-all-requires
+    slice-aggregate-fail
+    fail-requires
+    returns-3
+    returns-4)

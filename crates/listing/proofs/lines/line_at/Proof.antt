@@ -1,10 +1,23 @@
-use mathlib.Core.Path.{subst}
+use native.Mathlib.Omega.{arith}
+use mathlib.Core.Path.{ap, _∙_}
 use lib.ListN.{getD}
 use borrow.Author.Needs.{needs}
-use Rattle.model.specs.Records.{Rec}
-use Rattle.listing.specs.Lines.{lineOf, Shows}
+use Rattle.model.specs.declared.Line.{Line}
+use Rattle.model.specs.declared.Shown.{Shown}
+use Rattle.model.specs.Listing.{lineOf}
+use Rattle.listing.proofs.LineLaws.{line-there, line-past-file, line-past-table}
 use Rattle.listing.proofs.lines.line_at.Statement.{statement}
 use Rattle.listing.proofs.lines.line_at.Tie as tie
+
+returns : tie.Need-returns
+returns c =
+    let a = c .before .before .before .args in
+    line-past-file (a .laid .now) (a .starts .now) (a .i) (omega (arith, c .if1 .taken))
+
+returns-2 : tie.Need-returns-2
+returns-2 c =
+    let a = c .before .before .before .before .args in
+    line-past-table (a .laid .now) (a .starts .now) (a .i) (omega (arith, c .before .if1 .left)) (omega (arith, c .if2 .taken))
 
 mul-tick : tie.Need-mul-tick
 mul-tick c = search needs
@@ -18,12 +31,21 @@ record-at-requires c κs = search needs
 line-of-requires : tie.Need-line-of-requires
 line-of-requires c κs = search needs
 
-returns : tie.Need-returns
-returns c =
-    let w = c .before .before .before .before .before in
-    subst (λ (r : Rec). Shows (c .line-of .result) (lineOf (getD (w .args .starts .now) (w .args .i) 0) r)) (c .before .record-at .ensures) (c .line-of .ensures)
+returns-3 : tie.Need-returns-3
+returns-3 c =
+    let w = c .before .before .before in
+    let a = w .before .before .before .before .args in
+    ap (λ (l : Line). Shown.Line l) (c .line-of .ensures ∙ ap (lineOf (getD (a .starts .now) (a .i) 0)) (c .before .record-at .ensures))
+    ∙ line-there (a .laid .now) (a .starts .now) (a .i) (omega (arith, w .before .if1 .left)) (omega (arith, w .if2 .left))
 
 pub line-at-spec : {M : Type 1} → statement M
 line-at-spec =
     tie.close
-    (tie.spec mul-tick shared-slice-read-tick record-at-requires line-of-requires returns)
+    (tie.spec
+    returns
+    returns-2
+    mul-tick
+    shared-slice-read-tick
+    record-at-requires
+    line-of-requires
+    returns-3)

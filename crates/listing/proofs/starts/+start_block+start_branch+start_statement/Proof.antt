@@ -6,8 +6,10 @@ use lib.ListN.{length-set}
 use borrow.Author.Needs.{needs}
 use Rattle.model.specs.Records.{Rec}
 use Rattle.reading.proofs.Standing.{closing-told}
-use Rattle.listing.proofs.StartingBlocks.{step-early, step-started, Starting, starting-start, starting-closed, starting-ended, statement-next, starting-on, starting-next}
-use Rattle.listing.proofs.StartingBranches.{sides-early, one-entered, middle-after, middle-inside, middle-room, two-entered, last-inside, last-kept, last-room, branch-started}
+use Rattle.listing.proofs.StartingBlocks.{step-early, step-started, Starting, starting-start, starting-closed}
+use Rattle.listing.proofs.StartingBlocks.{starting-ended, statement-next, starting-on, starting-next}
+use Rattle.listing.proofs.StartingBranches.{sides-early, one-entered, middle-after, middle-inside, middle-room, two-entered}
+use Rattle.listing.proofs.StartingBranches.{last-inside, last-kept, last-room, branch-started}
 use borrow.Fn.Kinds.{In}
 use borrow.Fn.PlainCycle.{Measures, is, falls, and}
 use Rattle.listing.proofs.starts.start_block.Reads as start-block
@@ -90,10 +92,12 @@ start-statement-claims t = (record-at-reads.Asked, record-at-reads.Learnt, start
 start-block-loop-holds : (t : ℕ) → start-block-lts.Need-loop-holds (start-block-claims t) (start-block-at t) start-block.Post start-block-Inv-loop start-block-μ-loop
 start-block-loop-holds t c = starting-start (c .before .before .pre .1)
 
-start-block-kind-at-requires : (t : ℕ) → start-block-lts.Need-kind-at-requires (start-block-claims t) (start-block-at t) start-block.Post start-block-Inv-loop start-block-μ-loop
+start-block-kind-at-requires : (t : ℕ)
+    → start-block-lts.Need-kind-at-requires (start-block-claims t) (start-block-at t) start-block.Post start-block-Inv-loop start-block-μ-loop
 start-block-kind-at-requires t c κs = omega (arith, c .before .loop .inv .rest .file .inside)
 
-start-block-closes-requires : (t : ℕ) → start-block-lts.Need-closes-requires (start-block-claims t) (start-block-at t) start-block.Post start-block-Inv-loop start-block-μ-loop
+start-block-closes-requires : (t : ℕ)
+    → start-block-lts.Need-closes-requires (start-block-claims t) (start-block-at t) start-block.Post start-block-Inv-loop start-block-μ-loop
 start-block-closes-requires t c κs = search needs
 
 start-block-same-length : (t : ℕ) → start-block-lts.Need-same-length (start-block-claims t) (start-block-at t) start-block.Post start-block-Inv-loop start-block-μ-loop
@@ -106,7 +110,8 @@ start-block-returns t c =
     let w = c .before .before .before .before in
     starting-closed (w .loop .inv) (closing-told (c .before .before .kind-at .ensures) (c .before .closes .ensures) (c .if1 .taken))
 
-start-block-start-statement-requires : (t : ℕ) → start-block-lts.Need-start-statement-requires (start-block-claims t) (start-block-at t) start-block.Post start-block-Inv-loop start-block-μ-loop
+start-block-start-statement-requires : (t : ℕ)
+    → start-block-lts.Need-start-statement-requires (start-block-claims t) (start-block-at t) start-block.Post start-block-Inv-loop start-block-μ-loop
 start-block-start-statement-requires t c κs =
     let w = c .before .before .before .before in
     let v = w .before .before .before .before in
@@ -127,7 +132,8 @@ start-block-loop-again t c =
     let k = closing-told (w .before .before .kind-at .ensures) (w .before .closes .ensures) (w .if1 .left) in
     starting-next (v .before .loop .inv) (v .loop-test .taken) k (c .before .before .start-statement .ensures)
 
-start-block-same-length-2 : (t : ℕ) → start-block-lts.Need-same-length-2 (start-block-claims t) (start-block-at t) start-block.Post start-block-Inv-loop start-block-μ-loop
+start-block-same-length-2 : (t : ℕ)
+    → start-block-lts.Need-same-length-2 (start-block-claims t) (start-block-at t) start-block.Post start-block-Inv-loop start-block-μ-loop
 start-block-same-length-2 t c = omega (arith, c .before .loop .inv .kept)
 
 start-block-returns-2 : (t : ℕ) → start-block-lts.Need-returns-2 (start-block-claims t) (start-block-at t) start-block.Post start-block-Inv-loop start-block-μ-loop
@@ -180,7 +186,8 @@ start-branch-mul-out-3 : (t : ℕ) → start-branch-lts.Need-mul-out-3 (start-br
 start-branch-mul-out-3 t c =
     let w = c .before .before .before .before .before .before .before in
     let v = w .before .before .before .before in
-    omega (arith, last-inside (v .pre .1 .0) (v .pre .1 .1) (w .start-block .ensures) (simp length-set) (c .before .before .before .start-block2 .ensures), v .pre .1 .0 .entered .room)
+    let i = last-inside (v .pre .1 .0) (v .pre .1 .1) (w .start-block .ensures) (simp length-set) (c .before .before .before .start-block2 .ensures) in
+    omega (arith, i, v .pre .1 .0 .entered .room)
 
 start-branch-slice-write-out-3 : (t : ℕ) → start-branch-lts.Need-slice-write-out-3 (start-branch-claims t) (start-branch-at t) start-branch.Post
 start-branch-slice-write-out-3 t c =

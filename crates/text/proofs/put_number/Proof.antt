@@ -1,12 +1,14 @@
-use Rattle.printing.proofs.Digits.{few-digits}
 use native.Mathlib.Omega.{arith}
+use mathlib.Core.Path.{_∙_}
+use Rattle.text.proofs.Digits.{few-digits, decimal-is}
+use Rattle.text.proofs.Pieces.{put-same}
 use borrow.Author.Needs.{needs}
-use Rattle.printing.proofs.text.put_number.Statement.{statement}
-use Rattle.printing.proofs.text.put_number.Tie as tie
-use Rattle.printing.proofs.text.put_number.Reads as reads
-use Rattle.printing.proofs.text.put_number.Lts as lts
+use Rattle.text.proofs.put_number.Statement.{statement}
+use Rattle.text.proofs.put_number.Tie as tie
+use Rattle.text.proofs.put_number.Reads as reads
+use Rattle.text.proofs.put_number.Lts as lts
 use Rattle.io.proofs.decimal.Reads as decimal-reads
-use Rattle.printing.proofs.text.put_text.Reads as put-text-reads
+use Rattle.text.proofs.put_text.Reads as put-text-reads
 
 decimal-requires : tie.Need-decimal-requires
 decimal-requires c κs = search needs
@@ -28,9 +30,13 @@ same-length c = search needs
 
 returns : tie.Need-returns
 returns c =
-    let e = c .before .before .before .before .before .decimal .ensures in
+    let at-put-text = c .before .before in
+    let at-decimal = at-put-text .before .before .before in
+    let at-args = at-decimal .before .before .before in
+    let e = at-decimal .decimal .ensures in
     let h = few-digits _ _ (omega arith) (e .1 .0 .2) in
-    omega (arith, e .0 .0, e .0 .1)
+    let p = at-put-text .put-text .ensures in
+    (put-same (e .1 .1 ∙ decimal-is (at-args .args .n) (at-decimal .decimal .result) (omega arith) (e .1 .0)) p, omega (arith, e .0 .0, e .0 .1, p .ends))
 
 pub put-number-spec : {M : Type 1} → statement M
 put-number-spec =

@@ -1,0 +1,2 @@
+-- What the contracts on text cite beside the model's definitions.
+pub mod Pieces
