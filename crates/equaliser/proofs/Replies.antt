@@ -12,7 +12,7 @@ use Rattle.model.specs.declared.Form.the-variants.{Task}
 use Rattle.model.specs.declared.Refusal.{Refusal}
 use Rattle.model.specs.declared.Equalised.{Equalised}
 use Rattle.model.specs.Records.{bytes}
-use Rattle.model.specs.Trees.{Block, size, flatten, fileTree}
+use Rattle.model.specs.Trees.{Block, size, linearise, fileTree}
 use Rattle.model.specs.Times.{time}
 use Rattle.model.specs.Equalising.{equalise}
 use Rattle.model.specs.Settings.{settingsOf}
@@ -34,7 +34,7 @@ use Rattle.equaliser.specs.Merged.{padded}
 use Rattle.equaliser.specs.Pads.{Kept}
 use Rattle.equaliser.specs.Sizes.{InTask, Small, BlockAsks, BlockDone, IsBlock, BlockSize}
 use Rattle.equaliser.specs.Written.{BlockFits, BlockWritten}
-use Rattle.equaliser.specs.Answers.{SoundTask, sizedReply, Equalises}
+use Rattle.equaliser.specs.Answers.{SoundTask, sizedReply, EqualisesSound}
 use Rattle.equaliser.proofs.Merged.{equalise-padded}
 use Rattle.equaliser.proofs.StatementSizes.{told}
 
@@ -55,17 +55,17 @@ pub task-asks : {task pads : List ℕ} → SoundTask task → length pads ≡ 51
 task-asks S l = record { task = in-task _ S; long = l }
 
 -- the first row that refuses decides, and a refusal keeps the buffer
-turned : (task : List ℕ) (σ : Settings) (old : List ℕ) (x : Refusal) → refusal x ≡ sizedReply σ (fileTree task) (length old) → Equalises task σ old old (Equalised.Refused x)
+turned : (task : List ℕ) (σ : Settings) (old : List ℕ) (x : Refusal) → refusal x ≡ sizedReply σ (fileTree task) (length old) → EqualisesSound task σ old old (Equalised.Refused x)
 turned task σ old x e = record {
   reply = e;
-  leaves = sym (kept-refusal x _ old) ∙ ap (λ (v : Verdict). kept-by v (over (bytes (flatten (equalise σ (fileTree task)))) old) old) e;
+  leaves = sym (kept-refusal x _ old) ∙ ap (λ (v : Verdict). kept-by v (over (bytes (linearise (equalise σ (fileTree task)))) old) old) e;
 }
 
 module _ {task : List ℕ} {σ : Settings} {pads kept : List ℕ} {r : Extent} (S : SoundTask task) (B : BlockSize task 0 (length task / 12) σ pads kept r) where
   measured : IsBlock task 0 (length task / 12) σ kept (fileTree task) r
   measured = B .right (fileTree task) (in-task task S .stands)
 
-  pub over-period : (old : List ℕ) → r .time ≡ OverPeriod → Equalises task σ old old (Equalised.Refused Refusal.OverPeriod)
+  pub over-period : (old : List ℕ) → r .time ≡ OverPeriod → EqualisesSound task σ old old (Equalised.Refused Refusal.OverPeriod)
   over-period old e =
       turned task σ old Refusal.OverPeriod
       (simp (lt-ltb (σ .period) (time σ (fileTree task)) (was-over (σ .period) (time σ (fileTree task)) (subst (Gives (σ .period) (time σ (fileTree task))) e (measured .takes)))))
@@ -85,7 +85,7 @@ module _ {task : List ℕ} {σ : Settings} {pads kept : List ℕ} {r : Extent} (
       sized : (old : List ℕ) → sizedReply σ (fileTree task) (length old) ≡ turnDown 9 (noRoom (length old) n) (finished (12 * n ∷ t ∷ []))
       sized old = rw (counts, in-time .0, le-ltb (σ .period) t (in-time .1))
 
-      pub no-room : (old : List ℕ) → noRoom (length old) n ≡ true → Equalises task σ old old (Equalised.Refused Refusal.NoRoom)
+      pub no-room : (old : List ℕ) → noRoom (length old) n ≡ true → EqualisesSound task σ old old (Equalised.Refused Refusal.NoRoom)
       no-room old h = turned task σ old Refusal.NoRoom (sym (sized old ∙ rw h))
 
       -- the result's length is that of its bytes
@@ -112,7 +112,7 @@ module _ {task : List ℕ} {σ : Settings} {pads kept : List ℕ} {r : Extent} (
         pub has-room : BlockFits task 0 (length task / 12) 0 kept old
         has-room = fits
 
-        pub written : (new : List ℕ) {w : Written} → BlockWritten task 0 (length task / 12) 0 kept old new w → Equalises task σ old new (Equalised.Written (w .bytes) t)
+        pub written : (new : List ℕ) {w : Written} → BlockWritten task 0 (length task / 12) 0 kept old new w → EqualisesSound task σ old new (Equalised.Written (w .bytes) t)
         unfolding blockBytes
         written new {w} W =
             let p = W .right fits .wrote in
@@ -120,8 +120,8 @@ module _ {task : List ℕ} {σ : Settings} {pads kept : List ℕ} {r : Extent} (
             ap (λ (x : ℕ). finished (x ∷ t ∷ [])) (p .count ∙ length-result) ∙ sym (sized old ∙ rw h) in
             record {
               reply = reply;
-              leaves = p .laid ∙ ap (λ (b : Block). over (bytes (flatten b)) old) (sym (equalise-padded σ (fileTree task)))
-                  ∙ ap (λ (v : Verdict). kept-by v (over (bytes (flatten (equalise σ (fileTree task)))) old) old) reply;
+              leaves = p .laid ∙ ap (λ (b : Block). over (bytes (linearise b)) old) (sym (equalise-padded σ (fileTree task)))
+                  ∙ ap (λ (v : Verdict). kept-by v (over (bytes (linearise (equalise σ (fileTree task)))) old) old) reply;
             }
 
 -- THE CALL
@@ -137,13 +137,13 @@ module _ (s task old : List ℕ) where
   pub read-refused : (x : Refusal) → Reads s Task task (Refused x) → Replied (Equalised.Refused x) old
   unfolding equaliseReply equaliseOut
   read-refused x R =
-      let new = over (bytes (flatten (equalisedTree s task))) old in
+      let new = over (bytes (linearise (equalisedTree s task))) old in
       (R .reply _, sym (kept-refusal x new old) ∙ ap (λ (v : Verdict). kept-by v new old) (R .reply _))
 
-  pub read-equalised : (σ : Settings) (new : List ℕ) (r : Equalised) → Reads s Task task (Valid σ) → Equalises task σ old new r → Replied r new
+  pub read-equalised : (σ : Settings) (new : List ℕ) (r : Equalised) → Reads s Task task (Valid σ) → EqualisesSound task σ old new r → Replied r new
   unfolding equaliseReply equaliseOut equalisedTree
   read-equalised σ new r R E =
-      let E' = subst (λ (τ : Settings). Equalises task τ old new r) (R .settings σ refl) E in
+      let E' = subst (λ (τ : Settings). EqualisesSound task τ old new r) (R .settings σ refl) E in
       let next = sizedReply (settingsOf s) (fileTree task) (length old) in
-      let result = over (bytes (flatten (equalise (settingsOf s) (fileTree task)))) old in
+      let result = over (bytes (linearise (equalise (settingsOf s) (fileTree task)))) old in
       (E' .reply ∙ R .reply next, E' .leaves ∙ ap (λ (v : Verdict). kept-by v result old) (R .reply next))

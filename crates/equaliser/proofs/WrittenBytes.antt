@@ -4,7 +4,7 @@ use mathlib.Core.Path.{_≡_, ap, _∙_}
 use mathlib.Core.List.{List, _++_, append-assoc, append-nil}
 use Rattle.model.specs.declared.Settings.{Settings}
 use Rattle.model.specs.Records.{Rec, recordBytes, bytes}
-use Rattle.model.specs.Trees.{Block, flatten, elseRec, endRec}
+use Rattle.model.specs.Trees.{Block, linearise, elseRec, endRec}
 use Rattle.model.specs.Times.{time}
 use Rattle.records.specs.Blocks.{blockBytes}
 use Rattle.records.proofs.Blocks.{bytes-++, bytes-⧺}
@@ -24,7 +24,7 @@ loopBytes σ r a = loopHead r ++ (blockBytes (padded σ 0 a 0) ++ loopTail (time
 
 module _ (σ : Settings) where
   pub loop-bytes : (r : Rec) (a : Block) → blockBytes (loopOut σ (testOf r) (r .count) a) ≡ loopBytes σ r a
-  unfolding blockBytes flatten bytes
+  unfolding blockBytes linearise bytes
   loop-bytes r a = simp (bytes-++, append-nil, append-assoc)
 
   pub first-bytes : (n : ℕ) (b : Block) (k : ℕ)

@@ -8,7 +8,7 @@ use lib.ListN.{length, length-append}
 use Rattle.model.specs.declared.Settings.{Settings}
 use Rattle.model.specs.declared.Form.the-variants.{Task}
 use Rattle.model.specs.Records.{Rec, recordBytes, bytes, kindAt, recordAt, SKIP}
-use Rattle.model.specs.Trees.{Block, nil, skip, act, branch, while, times, flatten}
+use Rattle.model.specs.Trees.{Block, nil, skip, act, branch, while, times, linearise}
 use Rattle.model.specs.Times.{time}
 use Rattle.model.specs.Replies.{over}
 use Rattle.records.specs.declared.Record.{Record}
@@ -71,7 +71,7 @@ module _ {s : List ℕ} {i to w : ℕ} {pads old : List ℕ} (F : StatementFits 
     skip-short = omega (arith, F .within, ap (time σ) is-skip)
 
     pub skip-written : WritesStatement (F .settings) i w (F .statement .task .block) old old (record { next = i + 1; bytes = 0; wait = w + r .count })
-    unfolding blockBytes flatten bytes
+    unfolding blockBytes linearise bytes
     skip-written =
         subst (λ (b : Block). WritesStatement σ i w b old old (record { next = i + 1; bytes = 0; wait = w + r .count })) (sym is-skip)
         (record { wrote = record { laid = refl; count = refl }; waits = refl; goes = refl })

@@ -8,7 +8,7 @@ use Rattle.model.specs.declared.Settings.{Settings}
 use Rattle.model.specs.declared.Form.the-variants.{Task}
 use Rattle.model.specs.declared.Equalised.{Equalised}
 use Rattle.model.specs.Records.{bytes}
-use Rattle.model.specs.Trees.{Block, size, flatten, fileTree}
+use Rattle.model.specs.Trees.{Block, size, linearise, fileTree}
 use Rattle.model.specs.Times.{time}
 use Rattle.model.specs.Equalising.{equalise}
 use Rattle.model.specs.Refusals.{sound, fault}
@@ -24,6 +24,6 @@ abbrev pub sizedReply : Settings → Block → ℕ → Verdict
 sizedReply σ b room =
     turnDown 8 (ltb (σ .period) (time σ b)) (turnDown 9 (noRoom room (size (equalise σ b))) (finished (12 * size (equalise σ b) ∷ time σ b ∷ [])))
 
-pub record Equalises (task : List ℕ) (σ : Settings) (old new : List ℕ) (r : Equalised) : Type 0 where
+pub record EqualisesSound (task : List ℕ) (σ : Settings) (old new : List ℕ) (r : Equalised) : Type 0 where
   pub reply : equalised r ≡ sizedReply σ (fileTree task) (length old)
-  pub leaves : new ≡ kept (sizedReply σ (fileTree task) (length old)) (over (bytes (flatten (equalise σ (fileTree task)))) old) old
+  pub leaves : new ≡ kept (sizedReply σ (fileTree task) (length old)) (over (bytes (linearise (equalise σ (fileTree task)))) old) old

@@ -8,7 +8,7 @@ ghost use mathlib.Core.Path.{_≡_};
 ghost use lib.ListN.{length};
 ghost use Rattle.model.specs.Answers.{equalised};
 ghost use Rattle.model.specs.Replies.{equaliseReply, equaliseOut};
-ghost use Rattle.equaliser.specs.Answers.{SoundTask, Equalises};
+ghost use Rattle.equaliser.specs.Answers.{SoundTask, EqualisesSound};
 use measure::measure_block;
 use measure::padded_records;
 use model::Equalised;
@@ -23,7 +23,7 @@ use write::write_block;
 // A task that was read: refusals 8 and 9, or the equalised task over the front of out.
 fn equalise_sound(task: &[u8], n: Settings, out: &mut [u8]) -> Equalised
     requires { ⌜ SoundTask (now task) ⌝ }
-    ensures { λ r. ⌜ Equalises (now (task .entry)) n (now (out .entry)) (now (out .exit)) r ⌝ }
+    ensures { λ r. ⌜ EqualisesSound (now (task .entry)) n (now (out .entry)) (now (out .exit)) r ⌝ }
 {
     let to = task.len() / 12;
     let mut pads: [u32; 512] = [0; 512];

@@ -12,7 +12,7 @@ use Rattle.model.specs.declared.Form.the-variants.{Equalised}
 use Rattle.model.specs.declared.Refusal.{Refusal}
 use Rattle.model.specs.declared.LaidOut.{LaidOut}
 use Rattle.model.specs.Records.{bytes}
-use Rattle.model.specs.Trees.{Block, size, flatten, fileTree}
+use Rattle.model.specs.Trees.{Block, size, linearise, fileTree}
 use Rattle.model.specs.Times.{time}
 use Rattle.model.specs.Layout.{unroll, opened, layout, total}
 use Rattle.model.specs.Settings.{settingsOf}
@@ -32,7 +32,7 @@ use Rattle.reading.specs.Ranges.{SoundFile}
 use Rattle.layout.specs.Measured.{FilePassed}
 use Rattle.layout.specs.Meetings.{FileMeasured}
 use Rattle.layout.specs.Written.{FileFits}
-use Rattle.layout.specs.Answers.{InRange, laidReply, LaysOut}
+use Rattle.layout.specs.Answers.{InRange, laidReply, LaysOutSound}
 use Rattle.reading.proofs.Standing.{stands-file}
 use Rattle.layout.proofs.Whole.{few-ifs, opened-total, total-is, size-is}
 
@@ -53,13 +53,13 @@ pub by-settings : {s old new : List ℕ} {r : State} {σ τ : Settings} → σ �
 by-settings {s} {old} {new} {r} e m = subst (λ (ρ : Settings). FileMeasured s ρ old new r) e m
 
 -- the first row that refuses decides, and a refusal keeps the buffer
-turned : (file : List ℕ) (σ : Settings) (old : List ℕ) (x : Refusal) → refusal x ≡ laidReply σ (fileTree file) (length old) → LaysOut file σ old old (LaidOut.Refused x)
+turned : (file : List ℕ) (σ : Settings) (old : List ℕ) (x : Refusal) → refusal x ≡ laidReply σ (fileTree file) (length old) → LaysOutSound file σ old old (LaidOut.Refused x)
 turned file σ old x e = record {
   reply = e;
-  leaves = sym (kept-refusal x _ old) ∙ ap (λ (v : Verdict). kept v (over (bytes (flatten (layout σ (fileTree file)))) old) old) e;
+  leaves = sym (kept-refusal x _ old) ∙ ap (λ (v : Verdict). kept v (over (bytes (linearise (layout σ (fileTree file)))) old) old) e;
 }
 
-pub short-window : (file : List ℕ) (σ : Settings) (old : List ℕ) → shortWindow σ ≡ true → LaysOut file σ old old (LaidOut.Refused Refusal.ShortWindow)
+pub short-window : (file : List ℕ) (σ : Settings) (old : List ℕ) → shortWindow σ ≡ true → LaysOutSound file σ old old (LaidOut.Refused Refusal.ShortWindow)
 short-window file σ old h = turned file σ old Refusal.ShortWindow (rw h)
 
 wide-window : {σ : Settings} → Layable σ → shortWindow σ ≡ false
@@ -84,7 +84,7 @@ module _ {file : List ℕ} {σ : Settings} (L : Layable σ) {r : State} (F : Fil
       go true e = omega (arith, opened-total σ (fileTree file), ltb-true (σ .period) t e)
       go false e = omega (arith, total-is L (fileTree file) (F .after (ltb-false (σ .period) t e)))
 
-  pub over-period : (old : List ℕ) → σ .period < r .tick + r .left + σ .beat → LaysOut file σ old old (LaidOut.Refused Refusal.OverPeriod)
+  pub over-period : (old : List ℕ) → σ .period < r .tick + r .left + σ .beat → LaysOutSound file σ old old (LaidOut.Refused Refusal.OverPeriod)
   over-period old h =
       turned file σ old Refusal.OverPeriod
       (sym (rw (wide-window L, lt-ltb (σ .period) (total σ (fileTree file)) (late h), or-true (ltb (σ .period) (time σ (fileTree file))))))
@@ -143,7 +143,7 @@ module _ {file : List ℕ} {σ : Settings} {r : State} {m : ℕ} (T : InTime fil
           above-all room (size result) (omega (arith, size-is (T .settings) tree ended, ended .records, T .skips)) ∙ sym (above-all room n l)
       go false x = ap (noRoom room) (counts (ltb-false 5461 n x))
 
-  pub no-room : (old : List ℕ) → noRoom (length old) n ≡ true → LaysOut file σ old old (LaidOut.Refused Refusal.NoRoom)
+  pub no-room : (old : List ℕ) → noRoom (length old) n ≡ true → LaysOutSound file σ old old (LaidOut.Refused Refusal.NoRoom)
   no-room old x = turned file σ old Refusal.NoRoom (sym (timed (length old) ∙ rw (same-room (length old), x)))
 
   module _ (old : List ℕ) (x : noRoom (length old) n ≡ false) where
@@ -163,9 +163,9 @@ module _ {file : List ℕ} {σ : Settings} {r : State} {m : ℕ} (T : InTime fil
     replies : finished (12 * n ∷ (r .tick + r .left + σ .beat) ∷ []) ≡ laidReply σ tree (length old)
     replies = ap₂ (λ (k t : ℕ). finished (12 * k ∷ t ∷ [])) (sym counted) (sym totals) ∙ sym (timed (length old) ∙ rw (same-room (length old), x))
 
-    pub written : (new : List ℕ) → new ≡ over (blockBytes result) old → LaysOut file σ old new (LaidOut.Written (12 * n) (r .tick + r .left + σ .beat))
+    pub written : (new : List ℕ) → new ≡ over (blockBytes result) old → LaysOutSound file σ old new (LaidOut.Written (12 * n) (r .tick + r .left + σ .beat))
     unfolding blockBytes
-    written new y = record { reply = replies; leaves = y ∙ ap (λ (v : Verdict). kept v (over (bytes (flatten result)) old) old) replies }
+    written new y = record { reply = replies; leaves = y ∙ ap (λ (v : Verdict). kept v (over (bytes (linearise result)) old) old) replies }
 
 -- THE CALL
 
@@ -191,13 +191,13 @@ module _ (s file old : List ℕ) where
   pub read-refused : (x : Refusal) → Reads s Equalised file (Refused x) → Replied (LaidOut.Refused x) old
   unfolding layOutReply layOutOut
   read-refused x R =
-      let new = over (bytes (flatten (laidTree s file))) old in
+      let new = over (bytes (linearise (laidTree s file))) old in
       (R .reply _, sym (kept-refusal x new old) ∙ ap (λ (v : Verdict). kept v new old) (R .reply _))
 
-  pub read-laid : (σ : Settings) (new : List ℕ) (r : LaidOut) → Reads s Equalised file (Valid σ) → LaysOut file σ old new r → Replied r new
+  pub read-laid : (σ : Settings) (new : List ℕ) (r : LaidOut) → Reads s Equalised file (Valid σ) → LaysOutSound file σ old new r → Replied r new
   unfolding layOutReply layOutOut laidTree
   read-laid σ new r R E =
-      let E' = subst (λ (τ : Settings). LaysOut file τ old new r) (R .settings σ refl) E in
+      let E' = subst (λ (τ : Settings). LaysOutSound file τ old new r) (R .settings σ refl) E in
       let next = laidReply (settingsOf s) (fileTree file) (length old) in
-      let result = over (bytes (flatten (layout (settingsOf s) (fileTree file)))) old in
+      let result = over (bytes (linearise (layout (settingsOf s) (fileTree file)))) old in
       (E' .reply ∙ R .reply next, E' .leaves ∙ ap (λ (v : Verdict). kept v result old) (R .reply next))

@@ -8,7 +8,7 @@ use lib.Dec.{ltb}
 use Rattle.model.specs.declared.Settings.{Settings}
 use Rattle.model.specs.declared.LaidOut.{LaidOut}
 use Rattle.model.specs.Records.{bytes}
-use Rattle.model.specs.Trees.{Block, size, flatten, fileTree}
+use Rattle.model.specs.Trees.{Block, size, linearise, fileTree}
 use Rattle.model.specs.Times.{time}
 use Rattle.model.specs.Layout.{layout, total}
 use Rattle.model.specs.Answers.{Verdict, finished, laidOut}
@@ -29,6 +29,6 @@ laidReply σ b room =
     (turnDown 9 (noRoom room (size (layout σ b)))
     (finished (12 * size (layout σ b) ∷ total σ b ∷ []))))
 
-pub record LaysOut (file : List ℕ) (σ : Settings) (old new : List ℕ) (r : LaidOut) : Type 0 where
+pub record LaysOutSound (file : List ℕ) (σ : Settings) (old new : List ℕ) (r : LaidOut) : Type 0 where
   pub reply : laidOut r ≡ laidReply σ (fileTree file) (length old)
-  pub leaves : new ≡ kept (laidReply σ (fileTree file) (length old)) (over (bytes (flatten (layout σ (fileTree file)))) old) old
+  pub leaves : new ≡ kept (laidReply σ (fileTree file) (length old)) (over (bytes (linearise (layout σ (fileTree file)))) old) old

@@ -10,7 +10,7 @@ ghost use Rattle.model.specs.declared.Form.the-variants.{Equalised};
 ghost use Rattle.model.specs.Answers.{laidOut};
 ghost use Rattle.model.specs.Replies.{longest, shortWindow, layOutReply, layOutOut};
 ghost use Rattle.reading.specs.Ranges.{SoundFile};
-ghost use Rattle.layout.specs.Answers.{InRange, LaysOut};
+ghost use Rattle.layout.specs.Answers.{InRange, LaysOutSound};
 use measure::measure_file;
 use model::Form;
 use model::LaidOut;
@@ -42,7 +42,7 @@ fn short_window(n: Settings) -> bool
 // A file that was read: refusals 7, 8 and 9, or the laid file over the front of out.
 fn lay_out_sound(file: &[u8], n: Settings, out: &mut [u8]) -> LaidOut
     requires { ⌜ (SoundFile Equalised (now file)) × (InRange n) ⌝ }
-    ensures { λ r. ⌜ LaysOut (now (file .entry)) n (now (out .entry)) (now (out .exit)) r ⌝ }
+    ensures { λ r. ⌜ LaysOutSound (now (file .entry)) n (now (out .entry)) (now (out .exit)) r ⌝ }
 {
     if short_window(n) {
         return LaidOut::Refused(Refusal::ShortWindow);

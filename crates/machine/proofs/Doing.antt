@@ -179,19 +179,19 @@ module _ (limit : ℕ) where
   -- WHAT THE MODEL'S RUNS SAY
 
   -- stopped at the limit, a run has done the steps that end by then
-  abbrev pub Stops : List Step → ℕ → Bool → Held → Type 0
-  Stops es t o h =
+  abbrev pub CutAt : List Step → ℕ → Bool → Held → Type 0
+  CutAt es t o h =
       does limit es (machine t false o h)
       ≡ machine (t + duration (upto (limit - t) es)) (ltb (limit - t) (duration es)) (o || overran (upto (limit - t) es)) (heldAfter (upto (limit - t) es) t h)
 
-  pub does-upto : (es : List Step) (t : ℕ) (o : Bool) (h : Held) → t ≤ limit → Stops es t o h
+  pub does-upto : (es : List Step) (t : ℕ) (o : Bool) (h : Held) → t ≤ limit → CutAt es t o h
   does-upto [] t o h l = rw (le-ltb (limit - t) 0 (omega arith), or-false o, add-zero t)
   does-upto (e ∷ es) t o h l = go (leb (t + e .lasts) limit) refl (does-upto es (t + e .lasts) (o || isOverrun (e .does)) h′)
     where
       h′ : Held
       h′ = affect (e .index + 1) (t + e .lasts) (e .does) h
 
-      go : (b : Bool) → leb (t + e .lasts) limit ≡ b → (t + e .lasts ≤ limit → Stops es (t + e .lasts) (o || isOverrun (e .does)) h′) → Stops (e ∷ es) t o h
+      go : (b : Bool) → leb (t + e .lasts) limit ≡ b → (t + e .lasts ≤ limit → CutAt es (t + e .lasts) (o || isOverrun (e .does)) h′) → CutAt (e ∷ es) t o h
       go true k ih =
           let n = leb-true (t + e .lasts) limit k in
           let d : e .lasts ≤ limit - t = omega arith in

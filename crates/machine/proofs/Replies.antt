@@ -25,7 +25,7 @@ use Rattle.records.specs.declared.settings.Decoded.the-variants.{Valid, Refused
 use Rattle.records.specs.Decoded.{decoded}
 use Rattle.reading.proofs.Entry.{kept-refusal}
 use Rattle.stepping.specs.declared.progress.Progress.{Progress}
-use Rattle.machine.specs.Calls.{badLengths, Readies, Ready, steps, RunWhole, stopVerdict, Stops, resumeVerdict, Resumes}
+use Rattle.machine.specs.Calls.{badLengths, Readies, Checked, steps, RunWhole, stopVerdict, StopsSound, resumeVerdict, Resumes}
 use Rattle.machine.proofs.Doing.{neither}
 use Rattle.machine.proofs.Whole.{equal-of}
 
@@ -49,7 +49,7 @@ module _ (s : List ℕ) (f : Form) (file v ins l m : List ℕ) where
       none-bad : (badLengths (length v) (length ins) (length l) (length m) ≡ false) × (cause ≡ false)
       none-bad = neither (badLengths (length v) (length ins) (length l) (length m)) cause (sym h ∙ R .good σ refl)
 
-      pub is-ready : Ready file σ v ins l m
+      pub is-ready : Checked file σ v ins l m
       is-ready = record { form = f; sound = R .sound σ refl; in-time = R .in-time σ refl; short = R .short σ refl; lengths = none-bad .0 }
 
       no-cause : cause ≡ false
@@ -119,11 +119,11 @@ module _ (s : List ℕ) (f : Form) (file v ins l m : List ℕ) where
             sym (kept-refusal x saved image) ∙ ap (λ (y : Verdict). kept y saved image) e,
           )
 
-      pub until-finished : {σ : Settings} → Readies s f file bad (Valid σ) → {v′ l′ m′ image′ : List ℕ} {r : Stopped} → Stops file σ ins stop v l m image v′ l′ m′ image′ r
+      pub until-finished : {σ : Settings} → Readies s f file bad (Valid σ) → {v′ l′ m′ image′ : List ℕ} {r : Stopped} → StopsSound file σ ins stop v l m image v′ l′ m′ image′ r
           → Until r v′ l′ m′ image′
       unfolding stopReply stopBuffers stopImage imageAt stepsOf
       until-finished {σ} R {v′} {l′} {m′} {image′} {r} S =
-          let S′ = subst (λ (τ : Settings). Stops file τ ins stop v l m image v′ l′ m′ image′ r) (R .settings σ refl) S in
+          let S′ = subst (λ (τ : Settings). StopsSound file τ ins stop v l m image v′ l′ m′ image′ r) (R .settings σ refl) S in
           let es = steps file (settingsOf s) ins v in
           let e = replied cause h R (stopVerdict es v stop) in (
             S′ .reply ∙ e,

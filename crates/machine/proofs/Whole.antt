@@ -31,7 +31,7 @@ use Rattle.stepping.specs.Machines.{Held, held, Machine, machine, does, runs}
 use Rattle.stepping.specs.Steps.{going, reached}
 use Rattle.machine.specs.Contracts.{Pending, at-end, ahead, Started, RecordsRan}
 use Rattle.stepping.specs.Buffers.{withVariables, withOutputs, Stored, StoredImage}
-use Rattle.machine.specs.Calls.{badLengths, Ready, steps, RunWhole, stopVerdict, Stops, strayAt, resumeVerdict, Resumes}
+use Rattle.machine.specs.Calls.{badLengths, Checked, steps, RunWhole, stopVerdict, StopsSound, strayAt, resumeVerdict, Resumes}
 use Rattle.machine.proofs.Files.{file-sound, file-size}
 use Rattle.machine.proofs.Doing.{neither, heldAfter, does-upto}
 use Rattle.machine.proofs.Marks.{marks-bytes}
@@ -87,7 +87,7 @@ cleared-cells v = refl
 
 -- THE WHOLE FILE
 
-module _ {file : List ℕ} {σ : Settings} {v ins l m : List ℕ} (R : Ready file σ v ins l m) where
+module _ {file : List ℕ} {σ : Settings} {v ins l m : List ℕ} (R : Checked file σ v ins l m) where
   pub lent : Lengths (length v) (length ins) (length l) (length m)
   lent = good-lengths (length v) (length ins) (length l) (length m) (R .lengths)
 
@@ -170,7 +170,7 @@ module _ {file : List ℕ} {σ : Settings} {v ins l m : List ℕ} (R : Ready fil
     abbrev result : Saved
     result = lastImage (upto stop es) 0 v none
 
-    pub stop-late : {image : List ℕ} → not (e .cut) ≡ true → Stops file σ ins stop v l m image v l m image (Stopped.Refused Refusal.LateStop)
+    pub stop-late : {image : List ℕ} → not (e .cut) ≡ true → StopsSound file σ ins stop v l m image v l m image (Stopped.Refused Refusal.LateStop)
     stop-late {image} n =
         let c = ltb-false stop (duration es) (sym (whole-cut B start-cells refl) ∙ not-true (e .cut) n) in
         let r : refused 12 [] ≡ stopVerdict es v stop = rw (le-leb (duration es) stop c) in
@@ -181,7 +181,7 @@ module _ {file : List ℕ} {σ : Settings} {v ins l m : List ℕ} (R : Ready fil
         }
 
     pub stop-done : {image v′ l′ m′ image′ : List ℕ} {o : Bool} → not (e .cut) ≡ false → Stored (held new) v′ l′ m′ → StoredImage (held new .image) image image′ o
-        → Stops file σ ins stop v l m image v′ l′ m′ image′ (Stopped.At stop o)
+        → StopsSound file σ ins stop v l m image v′ l′ m′ image′ (Stopped.At stop o)
     stop-done {image} {v′} {l′} {m′} {image′} {o} n S I =
         let c = ltb-true stop (duration es) (sym (whole-cut B start-cells refl) ∙ not-false (e .cut) n) in
         let i = whole-image B start-cells refl in
@@ -195,7 +195,7 @@ module _ {file : List ℕ} {σ : Settings} {v ins l m : List ℕ} (R : Ready fil
 -- RUN CLEARS THE OUTPUTS FIRST
 
 module _ {file : List ℕ} {σ : Settings} {v ins l₀ m₀ : List ℕ} where
-  pub cleared-ready : {l m : List ℕ} → Ready file σ v ins l m → l₀ ≡ replicate 8 0 → m₀ ≡ replicate 8 0 → Ready file σ v ins l₀ m₀
+  pub cleared-ready : {l m : List ℕ} → Checked file σ v ins l m → l₀ ≡ replicate 8 0 → m₀ ≡ replicate 8 0 → Checked file σ v ins l₀ m₀
   cleared-ready R e k = record {
     form = R .form;
     sound = R .sound;
@@ -211,7 +211,7 @@ module _ {file : List ℕ} {σ : Settings} {v ins l₀ m₀ : List ℕ} where
 
 -- FROM AN IMAGE ON
 
-module _ {file : List ℕ} {σ : Settings} {v ins l m : List ℕ} (R : Ready file σ v ins l m) (M : Image) where
+module _ {file : List ℕ} {σ : Settings} {v ins l m : List ℕ} (R : Checked file σ v ins l m) (M : Image) where
   abbrev leaving : Image → Buffers
   leaving x = kept (resumeVerdict file σ ins x) (leave (takeUp σ ins (fileTree file) x) (buffersOf (x .variables) l m)) (buffersOf v l m)
 
@@ -324,7 +324,7 @@ image-is w image e = rw e
 pub index-small : (w image : List ℕ) → w ≡ wordsFrom image 0 18 → Bytes image → getD w 0 0 < 4294967296
 index-small w image e h = rw e (omega (arith, h 0, h 1, h 2, h 3))
 
-module _ {file : List ℕ} {σ : Settings} {v ins l m : List ℕ} (R : Ready file σ v ins l m) (w : List ℕ) where
+module _ {file : List ℕ} {σ : Settings} {v ins l m : List ℕ} (R : Checked file σ v ins l m) (w : List ℕ) where
   module _ {o : Bool} (s : o ≡ afterSave file (getD w 0 0)) where
     pub words-stray : {image : List ℕ} → w ≡ wordsFrom image 0 18 → not o ≡ true → Resumes file σ ins v l m image v l m (Resumed.Refused Refusal.BadImage)
     words-stray {image} e n = resume-stray R (imageFrom w) (image-is w image e) (rw (sym s ∙ not-true o n))

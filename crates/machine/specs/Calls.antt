@@ -36,7 +36,7 @@ pub record Readies (s : List ℕ) (f : Form) (file : List ℕ) (bad : Bool) (r :
   pub good : (σ : Settings) → r ≡ Valid σ → bad ≡ false
 
 -- a file and settings that were read, and buffers of the table's lengths
-pub record Ready (file : List ℕ) (σ : Settings) (v ins l m : List ℕ) : Type 0 where
+pub record Checked (file : List ℕ) (σ : Settings) (v ins l m : List ℕ) : Type 0 where
   pub form : Form
   pub sound : SoundFile form file
   pub in-time : time σ (fileTree file) ≤ σ .period
@@ -57,7 +57,7 @@ pub record RunWhole (file : List ℕ) (σ : Settings) (ins v l m v′ l′ m′ 
 abbrev pub stopVerdict : List Step → List ℕ → ℕ → Verdict
 stopVerdict es v stop = turnDown 12 (leb (duration es) stop) (finished (stop ∷ 0 ∷ bit (isSaved (lastImage (upto stop es) 0 v none)) ∷ []))
 
-pub record Stops (file : List ℕ) (σ : Settings) (ins : List ℕ) (stop : ℕ) (v l m image v′ l′ m′ image′ : List ℕ) (r : Stopped) : Type 0 where
+pub record StopsSound (file : List ℕ) (σ : Settings) (ins : List ℕ) (stop : ℕ) (v l m image v′ l′ m′ image′ : List ℕ) (r : Stopped) : Type 0 where
   pub reply : stopped r ≡ stopVerdict (steps file σ ins v) v stop
   pub leaves : buffersOf v′ l′ m′ ≡ kept (stopVerdict (steps file σ ins v) v stop) (leave (upto stop (steps file σ ins v)) (cleared v)) (buffersOf v l m)
   pub saves : image′ ≡ kept (stopVerdict (steps file σ ins v) v stop) (imageOver (lastImage (upto stop (steps file σ ins v)) 0 v none) image) image

@@ -7,7 +7,7 @@ ghost use mathlib.Core.Path.{_≡_};
 ghost use lib.ListN.{length, replicate};
 ghost use Rattle.model.specs.Answers.{ran, stopped, resumed};
 ghost use Rattle.model.specs.Replies.{runReply, runBuffers, stopReply, stopBuffers, stopImage, resumeReply, resumeBuffers, restartReply, restartBuffers, buffersOf, loan};
-ghost use Rattle.machine.specs.Calls.{Ready, RunWhole, Stops, Resumes};
+ghost use Rattle.machine.specs.Calls.{Checked, RunWhole, StopsSound, Resumes};
 use model::Form;
 use model::Ran;
 use model::Refusal;
@@ -47,7 +47,7 @@ fn run_whole(
     levels: &mut [u32],
     marks: &mut [u8],
 ) -> Progress
-    requires { ⌜ Ready (now file) n (now variables) (now inputs) (now levels) (now marks) ⌝ }
+    requires { ⌜ Checked (now file) n (now variables) (now inputs) (now levels) (now marks) ⌝ }
     ensures { λ e. ⌜ RunWhole (now (file .entry)) n (now (inputs .entry)) (now (variables .entry)) (now (levels .entry)) (now (marks .entry))
         (now (variables .exit)) (now (levels .exit)) (now (marks .exit)) e ⌝ }
 {
@@ -104,8 +104,8 @@ fn run_until_ready(
     image: &mut [u8],
     stop: u32,
 ) -> Stopped
-    requires { ⌜ (Ready (now file) n (now variables) (now inputs) (now levels) (now marks)) × (length (now image) ≡ 72) ⌝ }
-    ensures { λ r. ⌜ Stops (now (file .entry)) n (now (inputs .entry)) stop (now (variables .entry)) (now (levels .entry)) (now (marks .entry)) (now (image .entry))
+    requires { ⌜ (Checked (now file) n (now variables) (now inputs) (now levels) (now marks)) × (length (now image) ≡ 72) ⌝ }
+    ensures { λ r. ⌜ StopsSound (now (file .entry)) n (now (inputs .entry)) stop (now (variables .entry)) (now (levels .entry)) (now (marks .entry)) (now (image .entry))
         (now (variables .exit)) (now (levels .exit)) (now (marks .exit)) (now (image .exit)) r ⌝ }
 {
     let mut cells: [u32; 50] = [0; 50];
@@ -162,7 +162,7 @@ fn resume_ready(
     marks: &mut [u8],
     image: &[u8],
 ) -> Resumed
-    requires { ⌜ (Ready (now file) n (now variables) (now inputs) (now levels) (now marks)) × (length (now image) ≡ 72) ⌝ }
+    requires { ⌜ (Checked (now file) n (now variables) (now inputs) (now levels) (now marks)) × (length (now image) ≡ 72) ⌝ }
     ensures { λ r. ⌜ Resumes (now (file .entry)) n (now (inputs .entry)) (now (variables .entry)) (now (levels .entry)) (now (marks .entry)) (now (image .entry))
         (now (variables .exit)) (now (levels .exit)) (now (marks .exit)) r ⌝ }
 {

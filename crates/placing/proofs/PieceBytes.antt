@@ -9,7 +9,7 @@ use lib.ListN.{length, length-append}
 use borrow.Author.Tests.{eq-eqb, ne-eqb}
 use Rattle.model.specs.declared.Settings.{Settings}
 use Rattle.model.specs.Records.{Rec, rec, recordBytes, bytes, BEAT}
-use Rattle.model.specs.Trees.{beat, save, Block, nil, skip, act, actRec, size, flatten}
+use Rattle.model.specs.Trees.{beat, save, Block, nil, skip, act, actRec, size, linearise}
 use Rattle.model.specs.Equalising.{merge}
 use Rattle.model.specs.Layout.{commands, before}
 use Rattle.model.specs.Replies.{longest, over}
@@ -38,7 +38,7 @@ dueBytes σ s = bytesOf s (skip (s .left) (commands σ (s .tick + s .left)))
 due-save : (w : ℕ) (o : Bool)
     → blockBytes (settled w (act (beat 1) (cond o (act (save 0) nil) nil)))
     ≡ skipBytes w ++ (recordBytes (actRec (beat 1)) ++ cond o (recordBytes (actRec (save 0))) [])
-unfolding blockBytes flatten bytes
+unfolding blockBytes linearise bytes
 due-save w true = waiting-bytes w (act (beat 1) (act (save 0) nil))
 due-save w false = waiting-bytes w (act (beat 1) nil)
 
@@ -81,7 +81,7 @@ module _ {σ : Settings} {s : State} (y : Laying σ s) (d : ℕ) where
     before-written {old} {new} {n} W = subst (λ (bs : List ℕ). Wrote bs old new n) due-same W
 
   pub before-nothing : 1 ≤ d → d ≤ s .left → (old : List ℕ) → Wrote (bytesOf s (before σ (s .tick) d)) old old 0
-  unfolding blockBytes flatten bytes
+  unfolding blockBytes linearise bytes
   before-nothing p l old = rw (before-none (y .settings) (y .shows) d p l) (record { laid = refl; count = refl })
 
 -- A PIECE, WHAT WAITS AFTER IT, AND A RECORD

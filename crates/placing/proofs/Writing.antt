@@ -6,7 +6,7 @@ use mathlib.Core.List.{List, _++_}
 use lib.ListN.{length, length-append}
 use Rattle.model.specs.declared.Settings.{Settings}
 use Rattle.model.specs.Records.{bytes}
-use Rattle.model.specs.Trees.{Block, nil, _⧺_, size, flatten}
+use Rattle.model.specs.Trees.{Block, nil, _⧺_, size, linearise}
 use Rattle.model.proofs.Trees.{⧺-nil, ⧺-assoc}
 use Rattle.records.specs.Blocks.{blockBytes}
 use Rattle.records.proofs.Blocks.{length-block}
@@ -132,7 +132,7 @@ module _ (c rest : Block) {from : State} {old : List ℕ} (R : Room (c ⧺ rest)
 
 -- all is laid
 pub writing-end : {σ : Settings} {whole : Block} {from s : State} {old new : List ℕ} → Writing σ whole nil from s old new → Lays σ whole from old new s
-unfolding blockBytes flatten bytes
+unfolding blockBytes linearise bytes
 writing-end W = record {
   after = after-alike (alike-trans (alike-eq (sym (⧺-nil (W .done)))) (W .same)) (W .after);
   wrote = part-end (W .part) .0;

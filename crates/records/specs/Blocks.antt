@@ -4,13 +4,13 @@ use mathlib.Core.Path.{_≡_}
 use mathlib.Core.List.{List}
 use lib.ListN.{length}
 use Rattle.model.specs.Records.{bytes}
-use Rattle.model.specs.Trees.{Block, nil, size, flatten}
+use Rattle.model.specs.Trees.{Block, nil, size, linearise}
 use Rattle.model.specs.Equalising.{waiting}
 use Rattle.model.specs.Replies.{over}
 
 -- the bytes of a block
 unfoldable pub blockBytes : Block → List ℕ
-blockBytes b = bytes (flatten b)
+blockBytes b = bytes (linearise b)
 
 -- the records that n waiting ticks of SKIP become: one, or none
 abbrev pub skipRecords : ℕ → ℕ
