@@ -1,4 +1,4 @@
-// The rack task preparer, for C. Link with libpreparer.a.
+// The rack task preparer, for C. Link with librack.a.
 //
 // Document 01 decides what each call does; README.md has the formats and the refusals in tables. A call keeps nothing, uses no heap, and
 // ends whatever it is handed.

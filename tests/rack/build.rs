@@ -1,4 +1,4 @@
-//! Tells the linker where `libpreparer.a` is.
+//! Tells the linker where `librack.a` is.
 //!
 //! `RACK_LIBRARY_DIR`, an absolute path, names its directory; without it the
 //! directory is `target/staticlib` of the repository.
@@ -8,11 +8,11 @@ use std::path::{Path, PathBuf};
 
 fn main() {
     let directory = library_directory();
-    let archive = directory.join("libpreparer.a");
+    let archive = directory.join("librack.a");
     println!("cargo:rerun-if-env-changed=RACK_LIBRARY_DIR");
     println!("cargo:rerun-if-changed={}", archive.display());
     println!("cargo:rustc-link-search=native={}", directory.display());
-    println!("cargo:rustc-link-lib=static=preparer");
+    println!("cargo:rustc-link-lib=static=rack");
 }
 
 fn library_directory() -> PathBuf {

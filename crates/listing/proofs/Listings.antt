@@ -28,7 +28,7 @@ use Rattle.reading.specs.Ranges.{Stands}
 use Rattle.reading.proofs.Standing.{standing-at}
 use Rattle.theory.proofs.Accepted.{LayOutAccepted, lay-out-accepted, Runnable}
 use Rattle.theory.proofs.Files.{fileOf, laid-runnable}
-use Rattle.preparation.proofs.Chaining.{is-refused, never-finished, second-done}
+use Rattle.preparation.proofs.Chaining.{never-finished, second-done}
 use Rattle.listing.specs.declared.starts.Place.{Place}
 use Rattle.listing.specs.Starts.{Entered, BlockStarted}
 use Rattle.listing.proofs.Starting.{starts-length}
@@ -40,7 +40,7 @@ decoded-good s x g D = never-finished x [] (D .reply (finished []) ∙ rw g)
 -- a refusal leaves the table as it was
 pub table-kept : (s task table : List ℕ) (x : Refusal) → refusal x ≡ prepareReply s task fullRoom → table ≡ listStarts s task table
 unfolding listStarts
-table-kept s task table x e = rw (← e, is-refused x .is)
+table-kept s task table x e = rw (← e)
 
 -- A LAID FILE
 

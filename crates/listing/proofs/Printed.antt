@@ -11,12 +11,11 @@ use Rattle.model.specs.declared.Refusal.{Refusal}
 use Rattle.model.specs.Settings.{settingsOf}
 use Rattle.model.specs.Records.{Rec, recordAt, firstRecords}
 use Rattle.model.specs.Trees.{Block, linearise}
-use Rattle.model.specs.Answers.{finished, refusal}
+use Rattle.model.specs.Answers.{finished, row, refusal}
 use Rattle.model.specs.Replies.{over, fullRoom, prepareReply, prepareOut}
 use Rattle.model.specs.Listing.{lineOf, startTicks, linesOf, laidFrom, listStarts, lineAt, listed, turnedDown, printed}
 use Rattle.model.proofs.Bytes.{recordsAt, recordsAt-suc}
 use Rattle.model.proofs.Trees.{length-linearise}
-use Rattle.preparation.proofs.Chaining.{is-refused}
 use Rattle.listing.specs.Lines.{linesIn}
 use Rattle.listing.proofs.LineLaws.{line-there}
 use Rattle.listing.proofs.Listings.{accepted, count, total, ticks-count, table-filled, records-there, laid-length}
@@ -105,6 +104,6 @@ listing-written s task laid table {laid′} {table′} {n} {t} h k e p q =
 
 -- A REFUSAL
 
-pub printed-refused : (s task : List ℕ) (x : Refusal) → refusal x ≡ prepareReply s task fullRoom → printed s task ≡ turnedDown (is-refused x .number)
+pub printed-refused : (s task : List ℕ) (x : Refusal) → refusal x ≡ prepareReply s task fullRoom → printed s task ≡ turnedDown (row x .0)
 unfolding printed
-printed-refused s task x e = rw (← e, is-refused x .is)
+printed-refused s task x e = rw (← e)

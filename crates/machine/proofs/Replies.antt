@@ -11,19 +11,17 @@ use Rattle.model.specs.declared.Settings.{Settings}
 use Rattle.model.specs.declared.Refusal.{Refusal}
 use Rattle.model.specs.declared.Ran.{Ran}
 use Rattle.model.specs.declared.Stopped.{Stopped}
-use Rattle.model.specs.declared.Resumed.{Resumed}
 use Rattle.model.specs.Settings.{settingsOf}
 use Rattle.model.specs.Trees.{Block, fileTree}
 use Rattle.model.specs.Runs.{Step, duration, leave, cleared, run}
 use Rattle.model.specs.Stopping.{upto, none, lastImage, imageOf, start, takeUp}
-use Rattle.model.specs.Answers.{Verdict, finished, bit, ran, stopped, resumed}
+use Rattle.model.specs.Answers.{Verdict, finished, bit, ran, stopped}
 use Rattle.model.specs.Replies.{turnDown, reading, above, fileTime, kept, Loan, ready, ended, stepsOf, runReply, runBuffers, imageAt, stopReply, stopBuffers, imageOver, stopImage, buffersOf, loan}
 use Rattle.model.specs.Replies.{takenUp, takenBuffers, resumeReply, resumeBuffers, restartReply, restartBuffers}
 use Rattle.theory.proofs.Left.{rest-0}
 use Rattle.records.specs.declared.settings.Decoded.{Decoded}
 use Rattle.records.specs.declared.settings.Decoded.the-variants.{Valid, Refused}
 use Rattle.records.specs.Decoded.{decoded}
-use Rattle.reading.proofs.Entry.{kept-refusal}
 use Rattle.stepping.specs.declared.progress.Progress.{Progress}
 use Rattle.machine.specs.Calls.{badLengths, Readies, Checked, steps, RunWhole, stopVerdict, StopsSound, resumeVerdict, Resumes}
 use Rattle.machine.proofs.Doing.{neither}
@@ -63,14 +61,14 @@ module _ (s : List ℕ) (f : Form) (file v ins l m : List ℕ) where
     run-refused {x} R =
         let e = replied false h R (ended 0 (stepsOf c)) in
         let new = leave (stepsOf c) (cleared v) in
-        (e, sym (kept-refusal x new (buffersOf v l m)) ∙ ap (λ (y : Verdict). kept y new (buffersOf v l m)) e)
+        (e, ap (λ (y : Verdict). kept y new (buffersOf v l m)) e)
 
-    pub restart-refused : {x : Refusal} → Readies s f file bad (Refused x) → (resumed (Resumed.Refused x) ≡ restartReply c) × (buffersOf v l m ≡ restartBuffers c)
+    pub restart-refused : {x : Refusal} → Readies s f file bad (Refused x) → (ran (Ran.Refused x) ≡ restartReply c) × (buffersOf v l m ≡ restartBuffers c)
     unfolding restartReply restartBuffers
     restart-refused {x} R =
         let e = replied false h R (ended 0 (takenUp c (start v))) in
         let new = takenBuffers c (start v) in
-        (e, sym (kept-refusal x new (buffersOf v l m)) ∙ ap (λ (y : Verdict). kept y new (buffersOf v l m)) e)
+        (e, ap (λ (y : Verdict). kept y new (buffersOf v l m)) e)
 
     module _ {σ : Settings} (R : Readies s f file bad (Valid σ)) {v′ l′ m′ : List ℕ} {e : Progress} where
       pub run-finished : RunWhole file σ ins v (replicate 8 0) (replicate 8 0) v′ l′ m′ e → (ran (Ran.Ended (e .tick) (e .overran)) ≡ runReply c) × (buffersOf v′ l′ m′ ≡ runBuffers c)
@@ -83,7 +81,7 @@ module _ (s : List ℕ) (f : Form) (file v ins l m : List ℕ) where
             W′ .leaves ∙ ap (λ (y : Verdict). kept y (leave es (cleared v)) (buffersOf v l m)) k,
           )
 
-      pub restart-finished : RunWhole file σ ins v l m v′ l′ m′ e → (resumed (Resumed.Ended (e .tick) (e .overran)) ≡ restartReply c) × (buffersOf v′ l′ m′ ≡ restartBuffers c)
+      pub restart-finished : RunWhole file σ ins v l m v′ l′ m′ e → (ran (Ran.Ended (e .tick) (e .overran)) ≡ restartReply c) × (buffersOf v′ l′ m′ ≡ restartBuffers c)
       unfolding restartReply restartBuffers takenUp takenBuffers takeUp
       restart-finished W =
           let W′ = subst (λ (τ : Settings). RunWhole file τ ins v l m v′ l′ m′ e) (R .settings σ refl) W in
@@ -115,8 +113,8 @@ module _ (s : List ℕ) (f : Form) (file v ins l m : List ℕ) where
           let new = leave (upto stop (stepsOf c)) (cleared v) in
           let saved = imageOver (lastImage (upto stop (stepsOf c)) 0 v none) image in (
             e,
-            sym (kept-refusal x new (buffersOf v l m)) ∙ ap (λ (y : Verdict). kept y new (buffersOf v l m)) e,
-            sym (kept-refusal x saved image) ∙ ap (λ (y : Verdict). kept y saved image) e,
+            ap (λ (y : Verdict). kept y new (buffersOf v l m)) e,
+            ap (λ (y : Verdict). kept y saved image) e,
           )
 
       pub until-finished : {σ : Settings} → Readies s f file bad (Valid σ) → {v′ l′ m′ image′ : List ℕ} {r : Stopped} → StopsSound file σ ins stop v l m image v′ l′ m′ image′ r
@@ -131,17 +129,17 @@ module _ (s : List ℕ) (f : Form) (file v ins l m : List ℕ) where
             S′ .saves ∙ ap (λ (y : Verdict). kept y (imageOver (lastImage (upto stop es) 0 v none) image) image) e,
           )
 
-    abbrev From : Resumed → List ℕ → List ℕ → List ℕ → Type 0
-    From r v′ l′ m′ = (resumed r ≡ resumeReply c image) × (buffersOf v′ l′ m′ ≡ resumeBuffers c image)
+    abbrev From : Ran → List ℕ → List ℕ → List ℕ → Type 0
+    From r v′ l′ m′ = (ran r ≡ resumeReply c image) × (buffersOf v′ l′ m′ ≡ resumeBuffers c image)
 
-    pub resume-refused : {x : Refusal} → Readies s f file bad (Refused x) → From (Resumed.Refused x) v l m
+    pub resume-refused : {x : Refusal} → Readies s f file bad (Refused x) → From (Ran.Refused x) v l m
     unfolding resumeReply resumeBuffers takenUp
     resume-refused {x} R =
         let e = replied cause h R (resumeVerdict file (settingsOf s) ins (imageOf image)) in
         let new = takenBuffers c (imageOf image) in
-        (e, sym (kept-refusal x new (buffersOf v l m)) ∙ ap (λ (y : Verdict). kept y new (buffersOf v l m)) e)
+        (e, ap (λ (y : Verdict). kept y new (buffersOf v l m)) e)
 
-    pub resume-finished : {σ : Settings} → Readies s f file bad (Valid σ) → {v′ l′ m′ : List ℕ} {r : Resumed} → Resumes file σ ins v l m image v′ l′ m′ r → From r v′ l′ m′
+    pub resume-finished : {σ : Settings} → Readies s f file bad (Valid σ) → {v′ l′ m′ : List ℕ} {r : Ran} → Resumes file σ ins v l m image v′ l′ m′ r → From r v′ l′ m′
     unfolding resumeReply resumeBuffers takenUp takenBuffers
     resume-finished {σ} R {v′} {l′} {m′} {r} S =
         let S′ = subst (λ (τ : Settings). Resumes file τ ins v l m image v′ l′ m′ r) (R .settings σ refl) S in

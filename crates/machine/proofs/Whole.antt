@@ -10,7 +10,7 @@ use lib.ListN.{length, getD, take, drop, replicate}
 use borrow.Author.Tests.{not-true, not-false, eqb-true, ltb-true, ltb-false, lt-ltb, le-ltb, le-leb, lt-leb}
 use Rattle.model.specs.declared.Settings.{Settings}
 use Rattle.model.specs.declared.Stopped.{Stopped}
-use Rattle.model.specs.declared.Resumed.{Resumed}
+use Rattle.model.specs.declared.Ran.{Ran}
 use Rattle.model.specs.declared.Refusal.{Refusal}
 use Rattle.model.specs.Trees.{Block, nil, _⧺_, size, fileTree}
 use Rattle.model.specs.Runs.{Step, duration, variablesAfter, outputsAfter, level, mark, overran, Buffers, leave, cleared, run}
@@ -216,7 +216,7 @@ module _ {file : List ℕ} {σ : Settings} {v ins l m : List ℕ} (R : Checked f
   leaving x = kept (resumeVerdict file σ ins x) (leave (takeUp σ ins (fileTree file) x) (buffersOf (x .variables) l m)) (buffersOf v l m)
 
   -- row 11
-  resume-stray : {image : List ℕ} → M ≡ imageOf image → strayAt file (σ .period) M ≡ true → Resumes file σ ins v l m image v l m (Resumed.Refused Refusal.BadImage)
+  resume-stray : {image : List ℕ} → M ≡ imageOf image → strayAt file (σ .period) M ≡ true → Resumes file σ ins v l m image v l m (Ran.Refused Refusal.BadImage)
   resume-stray is e =
       let r : refused 11 [] ≡ resumeVerdict file σ ins M = rw e in
       record {
@@ -305,7 +305,7 @@ module _ {file : List ℕ} {σ : Settings} {v ins l m : List ℕ} (R : Checked f
           })
 
       resume-ran : {image v′ l′ m′ : List ℕ} → M ≡ imageOf image → Stored (held new) v′ l′ m′
-          → Resumes file σ ins v l m image v′ l′ m′ (Resumed.Ended (e .tick) (e .overran))
+          → Resumes file σ ins v l m image v′ l′ m′ (Ran.Ended (e .tick) (e .overran))
       resume-ran is S =
           let r : ended t again ≡ resumeVerdict file σ ins M = rw (a, le-ltb (σ .period) t p) in
           record {
@@ -326,7 +326,7 @@ index-small w image e h = rw e (omega (arith, h 0, h 1, h 2, h 3))
 
 module _ {file : List ℕ} {σ : Settings} {v ins l m : List ℕ} (R : Checked file σ v ins l m) (w : List ℕ) where
   module _ {o : Bool} (s : o ≡ afterSave file (getD w 0 0)) where
-    pub words-stray : {image : List ℕ} → w ≡ wordsFrom image 0 18 → not o ≡ true → Resumes file σ ins v l m image v l m (Resumed.Refused Refusal.BadImage)
+    pub words-stray : {image : List ℕ} → w ≡ wordsFrom image 0 18 → not o ≡ true → Resumes file σ ins v l m image v l m (Ran.Refused Refusal.BadImage)
     words-stray {image} e n = resume-stray R (imageFrom w) (image-is w image e) (rw (sym s ∙ not-true o n))
 
     module _ (n : not o ≡ false) (p : getD w 1 0 ≤ σ .period) where
@@ -348,8 +348,8 @@ module _ {file : List ℕ} {σ : Settings} {v ins l m : List ℕ} (R : Checked f
         words-bytes h = left-bytes (resume-left R (imageFrom w) there p T k) h
 
         pub words-ran : {image v′ l′ m′ : List ℕ} → w ≡ wordsFrom image 0 18 → Stored (held new) v′ l′ m′
-            → Resumes file σ ins v l m image v′ l′ m′ (Resumed.Ended (e .tick) (e .overran))
+            → Resumes file σ ins v l m image v′ l′ m′ (Ran.Ended (e .tick) (e .overran))
         words-ran {image} e S = resume-ran R (imageFrom w) there p T k (image-is w image e) S
 
-  pub words-late : {image : List ℕ} → w ≡ wordsFrom image 0 18 → σ .period < getD w 1 0 → Resumes file σ ins v l m image v l m (Resumed.Refused Refusal.BadImage)
+  pub words-late : {image : List ℕ} → w ≡ wordsFrom image 0 18 → σ .period < getD w 1 0 → Resumes file σ ins v l m image v l m (Ran.Refused Refusal.BadImage)
   words-late {image} e p = resume-stray R (imageFrom w) (image-is w image e) (rw (lt-ltb (σ .period) (getD w 1 0) p) (or-true (not (afterSave file (getD w 0 0)))))

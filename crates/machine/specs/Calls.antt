@@ -8,13 +8,13 @@ use lib.ListN.{length}
 use Rattle.model.specs.declared.Form.{Form}
 use Rattle.model.specs.declared.Settings.{Settings}
 use Rattle.model.specs.declared.Stopped.{Stopped}
-use Rattle.model.specs.declared.Resumed.{Resumed}
+use Rattle.model.specs.declared.Ran.{Ran}
 use Rattle.model.specs.Settings.{settingsOf}
 use Rattle.model.specs.Trees.{fileTree}
 use Rattle.model.specs.Times.{time}
 use Rattle.model.specs.Runs.{Step, duration, overran, leave, cleared, run}
 use Rattle.model.specs.Stopping.{upto, none, Image, lastImage, imageOf, takeUp}
-use Rattle.model.specs.Answers.{Verdict, finished, bit, stopped, resumed}
+use Rattle.model.specs.Answers.{Verdict, finished, bit, stopped, ran}
 use Rattle.model.specs.Replies.{turnDown, reading, above, fileTime, kept, buffersOf, ended, isSaved, imageOver, afterSave}
 use Rattle.records.specs.declared.settings.Decoded.{Decoded}
 use Rattle.records.specs.declared.settings.Decoded.the-variants.{Valid}
@@ -69,7 +69,7 @@ strayAt file period m = not (afterSave file (m .index)) || ltb period (m .tick)
 abbrev pub resumeVerdict : List ℕ → Settings → List ℕ → Image → Verdict
 resumeVerdict file σ ins m = turnDown 11 (strayAt file (σ .period) m) (ended (m .tick) (takeUp σ ins (fileTree file) m))
 
-pub record Resumes (file : List ℕ) (σ : Settings) (ins v l m image v′ l′ m′ : List ℕ) (r : Resumed) : Type 0 where
-  pub reply : resumed r ≡ resumeVerdict file σ ins (imageOf image)
+pub record Resumes (file : List ℕ) (σ : Settings) (ins v l m image v′ l′ m′ : List ℕ) (r : Ran) : Type 0 where
+  pub reply : ran r ≡ resumeVerdict file σ ins (imageOf image)
   pub leaves : buffersOf v′ l′ m′
       ≡ kept (resumeVerdict file σ ins (imageOf image)) (leave (takeUp σ ins (fileTree file) (imageOf image)) (buffersOf (imageOf image .variables) l m)) (buffersOf v l m)

@@ -5,13 +5,12 @@ mod tables;
 
 ghost use mathlib.Core.Path.{_≡_};
 ghost use lib.ListN.{length, replicate};
-ghost use Rattle.model.specs.Answers.{ran, stopped, resumed};
+ghost use Rattle.model.specs.Answers.{ran, stopped};
 ghost use Rattle.model.specs.Replies.{runReply, runBuffers, stopReply, stopBuffers, stopImage, resumeReply, resumeBuffers, restartReply, restartBuffers, buffersOf, loan};
 ghost use Rattle.machine.specs.Calls.{Checked, RunWhole, StopsSound, Resumes};
 use model::Form;
 use model::Ran;
 use model::Refusal;
-use model::Resumed;
 use model::Settings;
 use model::Stopped;
 use ready::bad_buffers;
@@ -161,7 +160,7 @@ fn resume_ready(
     levels: &mut [u32],
     marks: &mut [u8],
     image: &[u8],
-) -> Resumed
+) -> Ran
     requires { ⌜ (Checked (now file) n (now variables) (now inputs) (now levels) (now marks)) × (length (now image) ≡ 72) ⌝ }
     ensures { λ r. ⌜ Resumes (now (file .entry)) n (now (inputs .entry)) (now (variables .entry)) (now (levels .entry)) (now (marks .entry)) (now (image .entry))
         (now (variables .exit)) (now (levels .exit)) (now (marks .exit)) r ⌝ }
@@ -171,10 +170,10 @@ fn resume_ready(
     let index = words[0] as usize;
     let tick = words[1];
     if !after_save(file, index) {
-        return Resumed::Refused(Refusal::BadImage);
+        return Ran::Refused(Refusal::BadImage);
     }
     if n.period < tick {
-        return Resumed::Refused(Refusal::BadImage);
+        return Ran::Refused(Refusal::BadImage);
     }
     let mut cells: [u32; 50] = [0; 50];
     load_variables(&mut cells, &words[2..]);
@@ -182,7 +181,7 @@ fn resume_ready(
     let limit = tick + n.period;
     let last = run_from(file, index, n, inputs, limit, tick, &mut cells);
     store(&cells, variables, levels, marks);
-    Resumed::Ended {
+    Ran::Ended {
         tick: last.tick,
         overran: last.overran,
     }
@@ -198,9 +197,9 @@ pub fn resume(
     levels: &mut [u32],
     marks: &mut [u8],
     image: &[u8],
-) -> Resumed
+) -> Ran
     ensures { λ r. ⌜ (let c = loan (now (settings .entry)) form (now (file .entry)) (now (variables .entry)) (now (inputs .entry)) (now (levels .entry)) (now (marks .entry)) in
-        ((resumed r ≡ resumeReply c (now (image .entry)))
+        ((ran r ≡ resumeReply c (now (image .entry)))
         × (buffersOf (now (variables .exit)) (now (levels .exit)) (now (marks .exit)) ≡ resumeBuffers c (now (image .entry))))) ⌝ }
 {
     let bad = bad_buffers(
@@ -212,7 +211,7 @@ pub fn resume(
     );
     let r = ready(settings, form, file, bad);
     match r {
-        Decoded::Refused(x) => Resumed::Refused(x),
+        Decoded::Refused(x) => Ran::Refused(x),
         Decoded::Valid(n) => resume_ready(file, n, variables, inputs, levels, marks, image),
     }
 }
@@ -226,9 +225,9 @@ pub fn restart(
     inputs: &[u32],
     levels: &mut [u32],
     marks: &mut [u8],
-) -> Resumed
+) -> Ran
     ensures { λ r. ⌜ (let c = loan (now (settings .entry)) form (now (file .entry)) (now (variables .entry)) (now (inputs .entry)) (now (levels .entry)) (now (marks .entry)) in
-        ((resumed r ≡ restartReply c) × (buffersOf (now (variables .exit)) (now (levels .exit)) (now (marks .exit)) ≡ restartBuffers c))) ⌝ }
+        ((ran r ≡ restartReply c) × (buffersOf (now (variables .exit)) (now (levels .exit)) (now (marks .exit)) ≡ restartBuffers c))) ⌝ }
 {
     let bad = bad_buffers(
         variables.len(),
@@ -239,10 +238,10 @@ pub fn restart(
     );
     let r = ready(settings, form, file, bad);
     match r {
-        Decoded::Refused(x) => Resumed::Refused(x),
+        Decoded::Refused(x) => Ran::Refused(x),
         Decoded::Valid(n) => {
             let e = run_whole(file, n, variables, inputs, levels, marks);
-            Resumed::Ended {
+            Ran::Ended {
                 tick: e.tick,
                 overran: e.overran,
             }

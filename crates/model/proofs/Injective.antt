@@ -11,9 +11,8 @@ use Rattle.model.specs.declared.Equalised.{Equalised}
 use Rattle.model.specs.declared.LaidOut.{LaidOut}
 use Rattle.model.specs.declared.Ran.{Ran}
 use Rattle.model.specs.declared.Stopped.{Stopped}
-use Rattle.model.specs.declared.Resumed.{Resumed}
 use Rattle.model.specs.declared.Rehearsed.{Rehearsed}
-use Rattle.model.specs.Answers.{Verdict, finished, refused, bit, refusal, timed, equalised, laidOut, ran, stopped, resumed, rehearsed}
+use Rattle.model.specs.Answers.{Verdict, finished, refused, bit, refusal, timed, equalised, laidOut, ran, stopped, rehearsed}
 
 -- a function that can be undone is injective
 undone : {A : Type 0} (f : A → Verdict) (g : Verdict → A) → ((a : A) → g (f a) ≡ a) → (a b : A) → f a ≡ f b → a ≡ b
@@ -114,17 +113,6 @@ stopped-injective = undone stopped (read-back done Stopped.Refused) back
     back : (a : Stopped) → read-back done Stopped.Refused (stopped a) ≡ a
     back (Stopped.At t m) = ap (Stopped.At t) (bit-back m)
     back (Stopped.Refused r) = turned-back done Stopped.Refused r
-
-pub resumed-injective : (a b : Resumed) → resumed a ≡ resumed b → a ≡ b
-unfolding read-back
-resumed-injective = undone resumed (read-back done Resumed.Refused) back
-  where
-    done : List ℕ → Resumed
-    done xs = Resumed.Ended (getD xs 0 0) (eqb (getD xs 1 0) 1)
-
-    back : (a : Resumed) → read-back done Resumed.Refused (resumed a) ≡ a
-    back (Resumed.Ended t o) = ap (Resumed.Ended t) (bit-back o)
-    back (Resumed.Refused r) = turned-back done Resumed.Refused r
 
 pub rehearsed-injective : (a b : Rehearsed) → rehearsed a ≡ rehearsed b → a ≡ b
 unfolding read-back

@@ -9,7 +9,6 @@ use Rattle.model.specs.declared.Equalised.{Equalised}
 use Rattle.model.specs.declared.LaidOut.{LaidOut}
 use Rattle.model.specs.declared.Ran.{Ran}
 use Rattle.model.specs.declared.Stopped.{Stopped}
-use Rattle.model.specs.declared.Resumed.{Resumed}
 use Rattle.model.specs.declared.Rehearsed.{Rehearsed}
 
 -- what a call answers: the values of a finished result, or a refusal's number and the value returned with it, if any
@@ -22,19 +21,22 @@ bit true = 1
 bit false = 0
 
 -- the table's columns "No." and "Returned"
+abbrev pub row : Refusal → ℕ × List ℕ
+row (Refusal.BadLength n) = (1, n ∷ [])
+row (Refusal.BadKind i) = (2, i ∷ [])
+row (Refusal.BadField i) = (3, i ∷ [])
+row (Refusal.BadStructure i) = (4, i ∷ [])
+row (Refusal.TooDeep i) = (5, i ∷ [])
+row Refusal.BadSettings = (6, [])
+row Refusal.ShortWindow = (7, [])
+row Refusal.OverPeriod = (8, [])
+row Refusal.NoRoom = (9, [])
+row Refusal.BadBuffers = (10, [])
+row Refusal.BadImage = (11, [])
+row Refusal.LateStop = (12, [])
+
 abbrev pub refusal : Refusal → Verdict
-refusal (Refusal.BadLength n) = refused 1 (n ∷ [])
-refusal (Refusal.BadKind i) = refused 2 (i ∷ [])
-refusal (Refusal.BadField i) = refused 3 (i ∷ [])
-refusal (Refusal.BadStructure i) = refused 4 (i ∷ [])
-refusal (Refusal.TooDeep i) = refused 5 (i ∷ [])
-refusal Refusal.BadSettings = refused 6 []
-refusal Refusal.ShortWindow = refused 7 []
-refusal Refusal.OverPeriod = refused 8 []
-refusal Refusal.NoRoom = refused 9 []
-refusal Refusal.BadBuffers = refused 10 []
-refusal Refusal.BadImage = refused 11 []
-refusal Refusal.LateStop = refused 12 []
+refusal x = refused (row x .0) (row x .1)
 
 -- "Timing a file answers its time; equalising answers the bytes written and the time, laying out the bytes written and the total."
 abbrev pub timed : Timed → Verdict
@@ -58,10 +60,6 @@ ran (Ran.Refused r) = refusal r
 abbrev pub stopped : Stopped → Verdict
 stopped (Stopped.At t m) = finished (t ∷ 0 ∷ bit m ∷ [])
 stopped (Stopped.Refused r) = refusal r
-
-abbrev pub resumed : Resumed → Verdict
-resumed (Resumed.Ended t o) = finished (t ∷ bit o ∷ [])
-resumed (Resumed.Refused r) = refusal r
 
 -- `rehearse` answers whether the ends are alike, the laid length and total, and the end tick; of a stopped run also the stop
 -- tick, whether there is an image and its tick, and the ticks run twice.

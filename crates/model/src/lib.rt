@@ -1,4 +1,5 @@
 // The types that the definitions of specs/ and the public calls share.
+pub mod refusals;
 
 // The forms that a file of records can have.
 pub enum Form {
@@ -40,6 +41,12 @@ pub enum Refusal {
     LateStop,
 }
 
+// A refusal's number, and the value returned with it; 0 where the number is returned alone.
+pub struct Row {
+    pub number: u64,
+    pub value: usize,
+}
+
 // time_file
 pub enum Timed {
     Ticks(u32),
@@ -58,7 +65,7 @@ pub enum LaidOut {
     Refused(Refusal),
 }
 
-// run
+// run, resume and restart
 pub enum Ran {
     Ended { tick: u32, overran: bool },
     Refused(Refusal),
@@ -67,12 +74,6 @@ pub enum Ran {
 // run_until: the stop tick, and whether an image was written
 pub enum Stopped {
     At { tick: u32, saved: bool },
-    Refused(Refusal),
-}
-
-// resume and restart
-pub enum Resumed {
-    Ended { tick: u32, overran: bool },
     Refused(Refusal),
 }
 

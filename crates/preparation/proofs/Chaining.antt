@@ -10,30 +10,8 @@ use Rattle.model.specs.Chain.{isFinished}
 use Rattle.model.specs.Replies.{andThen}
 
 -- a refusal is no finished result
-pub record IsRefused (v : Verdict) : Type 0 where
-  pub number : ℕ
-  pub values : List ℕ
-  pub is : v ≡ refused number values
-
-numbered : (n : ℕ) (ys : List ℕ) → IsRefused (refused n ys)
-numbered n ys = record { number = n; values = ys; is = refl }
-
-pub is-refused : (x : Refusal) → IsRefused (refusal x)
-is-refused (Refusal.BadLength n) = numbered 1 (n ∷ [])
-is-refused (Refusal.BadKind i) = numbered 2 (i ∷ [])
-is-refused (Refusal.BadField i) = numbered 3 (i ∷ [])
-is-refused (Refusal.BadStructure i) = numbered 4 (i ∷ [])
-is-refused (Refusal.TooDeep i) = numbered 5 (i ∷ [])
-is-refused Refusal.BadSettings = numbered 6 []
-is-refused Refusal.ShortWindow = numbered 7 []
-is-refused Refusal.OverPeriod = numbered 8 []
-is-refused Refusal.NoRoom = numbered 9 []
-is-refused Refusal.BadBuffers = numbered 10 []
-is-refused Refusal.BadImage = numbered 11 []
-is-refused Refusal.LateStop = numbered 12 []
-
 pub never-finished : {A : Type 0} (x : Refusal) (xs : List ℕ) → refusal x ≡ finished xs → A
-never-finished x xs e = let f = sym (is-refused x .is) ∙ e in let z : _≡_ {A = ℕ} 0 1 = cc in absurd (omega arith)
+never-finished x xs e = let z : _≡_ {A = ℕ} 0 1 = cc in absurd (omega arith)
 
 -- it ends the chain
 ended : (x : Refusal) (v next : Verdict) → refusal x ≡ v → refusal x ≡ andThen v next

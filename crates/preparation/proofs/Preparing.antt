@@ -18,7 +18,7 @@ use Rattle.model.proofs.Sound.{sound-file}
 use Rattle.theory.proofs.Accepted.{equalise-accepted}
 use Rattle.theory.proofs.Files.{equalised-file}
 use Rattle.equaliser.proofs.Merged.{equalise-padded, padded-small}
-use Rattle.preparation.proofs.Chaining.{is-refused, refused-first}
+use Rattle.preparation.proofs.Chaining.{refused-first}
 
 -- ROOM
 
@@ -62,7 +62,7 @@ module _ (s task own out : List ℕ) (h : length own ≡ 12300) where
   unfolding prepareReply prepareOut
   prepare-refused x e =
       let k = refused-first x (layOutReply s (equalisedOf s task) (length out)) (e ∙ answered) in
-      (k, rw (← k, is-refused x .is))
+      (k, rw (← k))
 
   module _ {n t : ℕ} (e : finished (n ∷ t ∷ []) ≡ equaliseReply s task (length own)) {own′ : List ℕ} (w : own′ ≡ equaliseOut s task own) where
     written : take n own′ ≡ equalisedOf s task

@@ -11,11 +11,9 @@ use Rattle.model.specs.declared.Shown.{Shown}
 use Rattle.model.specs.declared.Refusal.{Refusal}
 use Rattle.model.specs.declared.LaidOut.{LaidOut}
 use Rattle.model.specs.Records.{recordAt}
-use Rattle.model.specs.Answers.{Verdict, refusal, laidOut}
+use Rattle.model.specs.Answers.{row, laidOut}
 use Rattle.model.specs.Replies.{over, fullRoom, prepareReply, prepareOut}
 use Rattle.model.specs.Listing.{lineOf, lineAt, listStarts, ascii, decimal, lineText, linesText, listed, turnedDown, printed, printedText}
-use Rattle.refusals.specs.Numbers.{numberIn}
-use Rattle.preparation.proofs.Chaining.{is-refused}
 use Rattle.listing.proofs.LineLaws.{at-most-four, line-there}
 use Rattle.listing.specs.Lines.{linesIn}
 use Rattle.listing.proofs.Printed.{Listing, listing-written, printed-refused}
@@ -63,9 +61,9 @@ module _ (laid table : List ℕ) (i : ℕ) where
 -- A REFUSAL
 
 pub text-of-refusal : (s task : List ℕ) (x : Refusal) {r : LaidOut} → r ≡ LaidOut.Refused x → laidOut r ≡ prepareReply s task fullRoom
-    → printedText (turnedDown (numberIn (refusal x))) ≡ printedText (printed s task)
+    → printedText (turnedDown (row x .0)) ≡ printedText (printed s task)
 text-of-refusal s task x e f =
-    ap (λ (v : Verdict). printedText (turnedDown (numberIn v))) (is-refused x .is) ∙ ap printedText (sym (printed-refused s task x (sym (ap laidOut e) ∙ f)))
+    ap printedText (sym (printed-refused s task x (sym (ap laidOut e) ∙ f)))
 
 pub put-refused : {n k i j r : ℕ} {a b d f : List ℕ} → k ≡ n → Put (ascii "refused ") 0 a b i → Put (decimal k) i b d j × (j ≤ i + 10)
     → Put (ascii "\n") j d f r → Put (printedText (turnedDown n)) 0 a f r × (r ≤ 64)

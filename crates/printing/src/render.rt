@@ -2,10 +2,9 @@
 ghost use Prim.Native.Nat.{_+_, _*_, _≤_};
 ghost use mathlib.Core.Path.{_≡_};
 ghost use lib.ListN.{length};
-ghost use Rattle.model.specs.Answers.{refusal};
+ghost use Rattle.model.specs.Answers.{row};
 ghost use Rattle.model.specs.Replies.{over};
 ghost use Rattle.model.specs.Listing.{linesText, listed, turnedDown, printed, printedText};
-ghost use Rattle.refusals.specs.Numbers.{numberIn};
 ghost use Rattle.listing.specs.Lines.{linesIn};
 ghost use Rattle.text.specs.Pieces.{Put};
 ghost use Rattle.printing.specs.Rooms.{Room};
@@ -14,17 +13,18 @@ use listing::list_task;
 use model::LaidOut;
 use model::Refusal;
 use model::Shown;
-use refusals::number;
+use model::refusals::row_of;
 use text::put_line;
 use text::put_number;
 use text::put_text;
 
 fn put_refusal(page: &mut [u8], x: Refusal) -> usize
     requires { ⌜ 64 ≤ length (now page) ⌝ }
-    ensures { λ r. ⌜ (Put (printedText (turnedDown (numberIn (refusal x)))) 0 (now (page .entry)) (now (page .exit)) r) × (r ≤ 64) ⌝ }
+    ensures { λ r. ⌜ (Put (printedText (turnedDown (row x .0))) 0 (now (page .entry)) (now (page .exit)) r) × (r ≤ 64) ⌝ }
 {
+    let row = row_of(x);
     let named = put_text(page, 0, b"refused ");
-    let ended = put_number(page, named, number(x) as u32);
+    let ended = put_number(page, named, row.number as u32);
     put_text(page, ended, b"\n")
 }
 

@@ -54,18 +54,3 @@ module _ (s : List ℕ) (f : Form) (file : List ℕ) where
 
   pub read-sound : (σ : Settings) → Reads s f file (Valid σ) → fault f file ≡ sound
   read-sound σ R = read-good σ R .1
-
--- a refusal keeps what was lent
-pub kept-refusal : {A : Type 0} (x : Refusal) (new old : A) → kept (refusal x) new old ≡ old
-kept-refusal (Refusal.BadLength n) new old = refl
-kept-refusal (Refusal.BadKind i) new old = refl
-kept-refusal (Refusal.BadField i) new old = refl
-kept-refusal (Refusal.BadStructure i) new old = refl
-kept-refusal (Refusal.TooDeep i) new old = refl
-kept-refusal Refusal.BadSettings new old = refl
-kept-refusal Refusal.ShortWindow new old = refl
-kept-refusal Refusal.OverPeriod new old = refl
-kept-refusal Refusal.NoRoom new old = refl
-kept-refusal Refusal.BadBuffers new old = refl
-kept-refusal Refusal.BadImage new old = refl
-kept-refusal Refusal.LateStop new old = refl

@@ -10,11 +10,10 @@ use Rattle.model.specs.declared.Form.the-variants.{Laid}
 use Rattle.model.specs.declared.Refusal.{Refusal}
 use Rattle.model.specs.declared.Ran.{Ran}
 use Rattle.model.specs.declared.Stopped.{Stopped}
-use Rattle.model.specs.declared.Resumed.{Resumed}
 use Rattle.model.specs.Records.{wordAt}
 use Rattle.model.specs.Runs.{Buffers}
 use Rattle.model.specs.Stopping.{imageOf}
-use Rattle.model.specs.Answers.{Verdict, finished, bit, refusal, ran, stopped, resumed}
+use Rattle.model.specs.Answers.{Verdict, finished, bit, refusal, ran, stopped}
 use Rattle.model.specs.Replies.{andThen, Loan, runReply, runBuffers, stopReply, stopBuffers, stopImage, resumeReply, resumeBuffers, restartReply, restartBuffers, buffersOf}
 use Rattle.model.specs.Chain.{valueAt, Outputs, lend, End, endOf}
 use Rattle.model.specs.Rehearsal.{sameEnd, wholeOf, takenOf, stoppedOf}
@@ -44,11 +43,11 @@ module _ (first : End) (total : ℕ) (s file ins : List ℕ) {v two : List ℕ} 
 
 -- TAKEN UP
 
-module _ (first : End) (total : ℕ) (c : Loan) (stop : ℕ) (saved : Bool) {r : Resumed} {n : ℕ} {up : Verdict} {left : Buffers} where
-  taken-ended : {t : ℕ} {over a : Bool} {b : Buffers} → r ≡ Resumed.Ended t over → resumed r ≡ up → b ≡ left → a ≡ sameEnd first (record { buffers = b; overran = bit over })
+module _ (first : End) (total : ℕ) (c : Loan) (stop : ℕ) (saved : Bool) {r : Ran} {n : ℕ} {up : Verdict} {left : Buffers} where
+  taken-ended : {t : ℕ} {over a : Bool} {b : Buffers} → r ≡ Ran.Ended t over → ran r ≡ up → b ≡ left → a ≡ sameEnd first (record { buffers = b; overran = bit over })
       → finished (bit a ∷ length (c .file) ∷ total ∷ t ∷ stop ∷ bit saved ∷ n ∷ (stop - n) ∷ []) ≡ takenOf first total c stop saved n up left
   taken-ended {over = over} k e =
-      ended-then first (λ x m. finished (bit x ∷ length (c .file) ∷ total ∷ m ∷ stop ∷ bit saved ∷ n ∷ (stop - n) ∷ [])) over (sym (ap resumed k) ∙ e)
+      ended-then first (λ x m. finished (bit x ∷ length (c .file) ∷ total ∷ m ∷ stop ∷ bit saved ∷ n ∷ (stop - n) ∷ [])) over (sym (ap ran k) ∙ e)
 
 module _ (first : End) (total : ℕ) (s file ins : List ℕ) (o : Outputs) (stop : ℕ) where
   abbrev loan : List ℕ → Loan
@@ -60,11 +59,11 @@ module _ (first : End) (total : ℕ) (s file ins : List ℕ) (o : Outputs) (stop
   abbrev fromStart : List ℕ → Verdict
   fromStart v = takenOf first total (loan v) stop false 0 (restartReply (loan v)) (restartBuffers (loan v))
 
-  module _ (image : List ℕ) {r : Resumed} where
-    pub resumed-refused : {x : Refusal} → r ≡ Resumed.Refused x → resumed r ≡ resumeReply (loan (replicate 16 0)) image → refusal x ≡ fromImage image (imageOf image .tick)
-    resumed-refused {x} k e = refused-first x _ (sym (ap resumed k) ∙ e)
+  module _ (image : List ℕ) {r : Ran} where
+    pub resumed-refused : {x : Refusal} → r ≡ Ran.Refused x → ran r ≡ resumeReply (loan (replicate 16 0)) image → refusal x ≡ fromImage image (imageOf image .tick)
+    resumed-refused {x} k e = refused-first x _ (sym (ap ran k) ∙ e)
 
-    pub resumed-ended : {t n twice : ℕ} {over a : Bool} {v′ l′ m′ : List ℕ} → r ≡ Resumed.Ended t over → resumed r ≡ resumeReply (loan (replicate 16 0)) image
+    pub resumed-ended : {t n twice : ℕ} {over a : Bool} {v′ l′ m′ : List ℕ} → r ≡ Ran.Ended t over → ran r ≡ resumeReply (loan (replicate 16 0)) image
         → buffersOf v′ l′ m′ ≡ resumeBuffers (loan (replicate 16 0)) image → a ≡ sameEnd first (record { buffers = buffersOf v′ l′ m′; overran = bit over })
         → n ≡ wordAt image 4 → twice ≡ stop - n → finished (bit a ∷ length file ∷ total ∷ t ∷ stop ∷ 1 ∷ n ∷ twice ∷ []) ≡ fromImage image (imageOf image .tick)
     unfolding imageOf
@@ -73,11 +72,11 @@ module _ (first : End) (total : ℕ) (s file ins : List ℕ) (o : Outputs) (stop
         ∙ taken-ended first total (loan (replicate 16 0)) stop true k e l h
         ∙ ap (fromImage image) w
 
-  module _ {v two : List ℕ} (copied : v ≡ two) {r : Resumed} where
-    pub restarted-refused : {x : Refusal} → r ≡ Resumed.Refused x → resumed r ≡ restartReply (loan v) → refusal x ≡ fromStart two
-    restarted-refused {x} k e = refused-first x _ (sym (ap resumed k) ∙ e) ∙ ap fromStart copied
+  module _ {v two : List ℕ} (copied : v ≡ two) {r : Ran} where
+    pub restarted-refused : {x : Refusal} → r ≡ Ran.Refused x → ran r ≡ restartReply (loan v) → refusal x ≡ fromStart two
+    restarted-refused {x} k e = refused-first x _ (sym (ap ran k) ∙ e) ∙ ap fromStart copied
 
-    pub restarted-ended : {t : ℕ} {over a : Bool} {v′ l′ m′ : List ℕ} → r ≡ Resumed.Ended t over → resumed r ≡ restartReply (loan v) → buffersOf v′ l′ m′ ≡ restartBuffers (loan v)
+    pub restarted-ended : {t : ℕ} {over a : Bool} {v′ l′ m′ : List ℕ} → r ≡ Ran.Ended t over → ran r ≡ restartReply (loan v) → buffersOf v′ l′ m′ ≡ restartBuffers (loan v)
         → a ≡ sameEnd first (record { buffers = buffersOf v′ l′ m′; overran = bit over }) → finished (bit a ∷ length file ∷ total ∷ t ∷ stop ∷ 0 ∷ 0 ∷ stop ∷ []) ≡ fromStart two
     restarted-ended {t} {a = a} k e l h =
         ap (λ (x : ℕ). finished (bit a ∷ length file ∷ total ∷ t ∷ stop ∷ 0 ∷ 0 ∷ x ∷ [])) (sym (sub-zero stop))

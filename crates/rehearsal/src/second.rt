@@ -18,7 +18,6 @@ use machine::run_until;
 use model::Form;
 use model::Ran;
 use model::Rehearsed;
-use model::Resumed;
 use model::Stopped;
 use records::words::copy;
 use records::words::word_at;
@@ -105,8 +104,8 @@ fn resumed(
         &image,
     );
     match r {
-        Resumed::Refused(x) => Rehearsed::Refused(x),
-        Resumed::Ended { tick: end, overran } => {
+        Ran::Refused(x) => Rehearsed::Refused(x),
+        Ran::Ended { tick: end, overran } => {
             let last = Final {
                 variables,
                 levels,
@@ -156,8 +155,8 @@ fn restarted(
         &mut marks,
     );
     match r {
-        Resumed::Refused(x) => Rehearsed::Refused(x),
-        Resumed::Ended { tick: end, overran } => {
+        Ran::Refused(x) => Rehearsed::Refused(x),
+        Ran::Ended { tick: end, overran } => {
             let last = Final {
                 variables,
                 levels,

@@ -1,6 +1,6 @@
 //! The rack task preparer, called from Rust through its static library.
 //!
-//! Each function lends its slices to one function of `libpreparer.a` for the
+//! Each function lends its slices to one function of `librack.a` for the
 //! length of the call and turns the answered word into a `Result`. Nothing is
 //! copied and nothing is kept.
 

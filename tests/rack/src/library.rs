@@ -1,4 +1,4 @@
-//! The functions of `libpreparer.a`.
+//! The functions of `librack.a`.
 //!
 //! A slice is a pointer, never null, and a length in elements. The answer is
 //! one word, taken apart in `answer.rs`.

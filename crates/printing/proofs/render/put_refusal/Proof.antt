@@ -4,7 +4,7 @@ use Rattle.printing.proofs.render.put_refusal.Statement.{statement}
 use Rattle.printing.proofs.render.put_refusal.Tie as tie
 use Rattle.printing.proofs.render.put_refusal.Reads as reads
 use Rattle.printing.proofs.render.put_refusal.Lts as lts
-use Rattle.refusals.proofs.number.Reads as number-reads
+use Rattle.model.proofs.refusals.row_of.Reads as row-of-reads
 use Rattle.text.proofs.put_number.Reads as put-number-reads
 use Rattle.text.proofs.put_text.Reads as put-text-reads
 

@@ -1,0 +1,31 @@
+use mathlib.Core.Path.{ap, _∙_}
+use denote.Ref.{now}
+use Rattle.model.specs.declared.Form.{Form}
+use Rattle.model.specs.Replies.{timeReply}
+use Rattle.rack.specs.Words.{fileWord, packed}
+use borrow.Author.Needs.{needs}
+use Rattle.rack.proofs.rack_time.Statement.{statement}
+use Rattle.rack.proofs.rack_time.Tie as tie
+use Rattle.rack.proofs.rack_time.Reads as reads
+use Rattle.rack.proofs.rack_time.Lts as lts
+use Rattle.rack.proofs.answers.time_word.Reads as time-word-reads
+use Rattle.rack.proofs.words.form_of.Reads as form-of-reads
+use Rattle.timing.proofs.time_file.Reads as time-file-reads
+
+form-of-requires : tie.Need-form-of-requires
+form-of-requires c κs = search needs
+
+time-file-requires : tie.Need-time-file-requires
+time-file-requires c κs = search needs
+
+time-word-requires : tie.Need-time-word-requires
+time-word-requires c κs = search needs
+
+returns : tie.Need-returns
+returns c =
+    let a = c .before .before .before .before .before .args in
+    c .time-word .ensures ∙ ap (packed fileWord) (c .before .time-file .ensures ∙ ap (λ (f : Form). timeReply (now (a .settings)) f (now (a .file))) (c .before .before .form-of .ensures))
+
+pub rack-time-spec : {M : Type 1} → statement M
+rack-time-spec =
+    tie.close (tie.spec form-of-requires time-file-requires time-word-requires returns)
