@@ -23,7 +23,7 @@ use Rattle.records.specs.declared.settings.Decoded.the-variants.{Valid, Refused
 use Rattle.records.specs.Blocks.{blockBytes, skipRecords}
 use Rattle.records.proofs.Blocks.{length-block}
 use Rattle.reading.specs.Answers.{Reads}
-use Rattle.reading.proofs.Entry.{read-sound, kept-refusal}
+use Rattle.reading.proofs.Entry.{read-sound}
 use Rattle.reading.proofs.Standing.{stands-file}
 use Rattle.timing.specs.declared.ticks.Time.the-variants.{Ticks, OverPeriod}
 use Rattle.timing.specs.Times.{Gives}
@@ -58,7 +58,7 @@ task-asks S l = record { task = in-task _ S; long = l }
 turned : (task : List ℕ) (σ : Settings) (old : List ℕ) (x : Refusal) → refusal x ≡ sizedReply σ (fileTree task) (length old) → EqualisesSound task σ old old (Equalised.Refused x)
 turned task σ old x e = record {
   reply = e;
-  leaves = sym (kept-refusal x _ old) ∙ ap (λ (v : Verdict). kept-by v (over (bytes (linearise (equalise σ (fileTree task)))) old) old) e;
+  leaves = ap (λ (v : Verdict). kept-by v (over (bytes (linearise (equalise σ (fileTree task)))) old) old) e;
 }
 
 module _ {task : List ℕ} {σ : Settings} {pads kept : List ℕ} {r : Extent} (S : SoundTask task) (B : BlockSize task 0 (length task / 12) σ pads kept r) where
@@ -138,7 +138,7 @@ module _ (s task old : List ℕ) where
   unfolding equaliseReply equaliseOut
   read-refused x R =
       let new = over (bytes (linearise (equalisedTree s task))) old in
-      (R .reply _, sym (kept-refusal x new old) ∙ ap (λ (v : Verdict). kept-by v new old) (R .reply _))
+      (R .reply _, ap (λ (v : Verdict). kept-by v new old) (R .reply _))
 
   pub read-equalised : (σ : Settings) (new : List ℕ) (r : Equalised) → Reads s Task task (Valid σ) → EqualisesSound task σ old new r → Replied r new
   unfolding equaliseReply equaliseOut equalisedTree

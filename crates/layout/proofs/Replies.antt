@@ -25,7 +25,7 @@ use Rattle.records.specs.declared.settings.Decoded.the-variants.{Valid, Refused
 use Rattle.records.specs.Blocks.{blockBytes, skipRecords}
 use Rattle.records.proofs.Blocks.{one-skip, length-block}
 use Rattle.reading.specs.Answers.{Reads}
-use Rattle.reading.proofs.Entry.{read-settings, read-sound, kept-refusal}
+use Rattle.reading.proofs.Entry.{read-settings, read-sound}
 use Rattle.placing.specs.declared.clock.State.{State}
 use Rattle.placing.specs.States.{Layable, After, started}
 use Rattle.reading.specs.Ranges.{SoundFile}
@@ -56,7 +56,7 @@ by-settings {s} {old} {new} {r} e m = subst (λ (ρ : Settings). FileMeasured s 
 turned : (file : List ℕ) (σ : Settings) (old : List ℕ) (x : Refusal) → refusal x ≡ laidReply σ (fileTree file) (length old) → LaysOutSound file σ old old (LaidOut.Refused x)
 turned file σ old x e = record {
   reply = e;
-  leaves = sym (kept-refusal x _ old) ∙ ap (λ (v : Verdict). kept v (over (bytes (linearise (layout σ (fileTree file)))) old) old) e;
+  leaves = ap (λ (v : Verdict). kept v (over (bytes (linearise (layout σ (fileTree file)))) old) old) e;
 }
 
 pub short-window : (file : List ℕ) (σ : Settings) (old : List ℕ) → shortWindow σ ≡ true → LaysOutSound file σ old old (LaidOut.Refused Refusal.ShortWindow)
@@ -192,7 +192,7 @@ module _ (s file old : List ℕ) where
   unfolding layOutReply layOutOut
   read-refused x R =
       let new = over (bytes (linearise (laidTree s file))) old in
-      (R .reply _, sym (kept-refusal x new old) ∙ ap (λ (v : Verdict). kept v new old) (R .reply _))
+      (R .reply _, ap (λ (v : Verdict). kept v new old) (R .reply _))
 
   pub read-laid : (σ : Settings) (new : List ℕ) (r : LaidOut) → Reads s Equalised file (Valid σ) → LaysOutSound file σ old new r → Replied r new
   unfolding layOutReply layOutOut laidTree
