@@ -1,17 +1,16 @@
 -- What a call of the crates below answers is packed as its reply is.
 use Prim.Native.Nat.{ℕ, _*_, _≤_}
 use native.Mathlib.Omega.{arith}
-use mathlib.Core.Path.{_≡_, refl, ap, sym, _∙_}
+use mathlib.Core.Path.{_≡_, ap, sym, _∙_}
 use mathlib.Core.List.{List}
-use Rattle.model.specs.declared.Refusal.{Refusal}
 use Rattle.model.specs.declared.Form.{Form}
 use Rattle.model.specs.Trees.{size}
 use Rattle.model.specs.Runs.{Buffers}
-use Rattle.model.specs.Answers.{Verdict, finished, refused, refusal}
+use Rattle.model.specs.Answers.{Verdict, finished, refused}
 use Rattle.model.specs.Replies.{equalisedTree, equaliseReply, laidTree, layOutReply, fullRoom, equalisedOf, prepareReply}
 use Rattle.preparation.proofs.Chaining.{second-done}
 use Rattle.theory.proofs.Accepted.{equalise-accepted, lay-out-accepted}
-use Rattle.rack.specs.Words.{firstIn, refusedWord, runWord, packed}
+use Rattle.rack.specs.Words.{firstIn, runWord, packed}
 
 -- The bytes written have room in bits 0 to 23.
 pub equalised-few : (s file : List ℕ) (room : ℕ) (v : Verdict) → v ≡ equaliseReply s file room → firstIn v ≤ 65532

@@ -9,8 +9,8 @@ use Rattle.model.specs.declared.Settings.{Settings}
 use Rattle.model.specs.declared.Refusal.{Refusal}
 use Rattle.model.specs.Settings.{badSettings}
 use Rattle.model.specs.Refusals.{Fault, sound, faulty, fault}
-use Rattle.model.specs.Answers.{Verdict, finished, refusal}
-use Rattle.model.specs.Replies.{turnDown, unless, reading, kept}
+use Rattle.model.specs.Answers.{Verdict, finished}
+use Rattle.model.specs.Replies.{turnDown, unless, reading}
 use Rattle.records.specs.declared.settings.Decoded.the-variants.{Valid, Refused}
 use Rattle.records.specs.Decoded.{Decodes}
 use Rattle.reading.specs.declared.scan.Scanned.{Scanned}

@@ -5,23 +5,11 @@ use Rattle.equaliser.proofs.Replies.{read-refused, sound-task, read-equ
 use Rattle.equaliser.proofs.equalise.Statement.{statement}
 use Rattle.equaliser.proofs.equalise.Tie as tie
 
-read-requires : tie.Need-read-requires
-read-requires c κs = search needs
-
-enum-known-read : tie.Need-enum-known-read
-enum-known-read c = search needs
-
-enum-known-read-2 : tie.Need-enum-known-read-2
-enum-known-read-2 c = search needs
-
 equalise-sound-requires : tie.Need-equalise-sound-requires
 equalise-sound-requires c κs = sound-task _ _ _ (subst (Reads _ _ _) (c .before .before .read3 .given .1) (c .before .before .before .before .read .ensures))
 
 returns : tie.Need-returns
 returns c = read-refused _ _ _ _ (subst (Reads _ _ _) (c .before .read2 .given .1) (c .before .before .before .read .ensures))
-
-same-length : tie.Need-same-length
-same-length c = search needs
 
 returns-2 : tie.Need-returns-2
 returns-2 c =
@@ -30,12 +18,4 @@ returns-2 c =
 
 pub equalise-spec : {M : Type 1} → statement M
 equalise-spec =
-    tie.close
-    (tie.spec
-    read-requires
-    enum-known-read
-    enum-known-read-2
-    equalise-sound-requires
-    returns
-    same-length
-    returns-2)
+    tie.close (tie.spec (search needs) (search needs) (search needs) equalise-sound-requires returns (search needs) returns-2)

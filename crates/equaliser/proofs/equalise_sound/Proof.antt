@@ -13,9 +13,6 @@ measure-block-requires c κs =
     let start = c .before .before .before in
     task-asks (start .pre) (length-replicate {A = ℕ} 512 0)
 
-enum-known-time : tie.Need-enum-known-time
-enum-known-time c = search needs
-
 enum-told : tie.Need-enum-told
 enum-told c = search needs
 
@@ -29,9 +26,6 @@ padded-records-requires c κs =
     let at-measure-block = c .before .before .before in
     let start = at-measure-block .before .before .before .before in
     small (start .pre) (at-measure-block .measure-block .ensures) (c .before .time .given .1)
-
-no-room-requires : tie.Need-no-room-requires
-no-room-requires c κs = search needs
 
 returns-2 : tie.Need-returns-2
 returns-2 c =
@@ -51,9 +45,6 @@ write-block-requires c κs =
     has-room (start .pre) (at-measure-block .measure-block .ensures) (at-time .time .given .1) (at-padded-records .padded-records .ensures .0) (omega arith) _
     (sym (at-no-room .no-room .ensures) ∙ c .before .before .if1 .left)
 
-same-length : tie.Need-same-length
-same-length c = search needs
-
 returns-3 : tie.Need-returns-3
 returns-3 c =
     let at-if1 = c .before .before .before .before .before in
@@ -67,15 +58,5 @@ returns-3 c =
 
 pub equalise-sound-spec : {M : Type 1} → statement M
 equalise-sound-spec =
-    tie.close
-    (tie.spec
-    measure-block-requires
-    enum-known-time
-    enum-told
-    returns
-    padded-records-requires
-    no-room-requires
-    returns-2
-    write-block-requires
-    same-length
-    returns-3)
+    tie.close (tie.spec measure-block-requires (search needs) enum-told returns padded-records-requires (search needs) returns-2
+    write-block-requires (search needs) returns-3)

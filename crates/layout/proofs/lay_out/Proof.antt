@@ -5,15 +5,6 @@ use Rattle.layout.proofs.Replies.{sound-file, settings-in-range, read-r
 use Rattle.layout.proofs.lay_out.Statement.{statement}
 use Rattle.layout.proofs.lay_out.Tie as tie
 
-read-requires : tie.Need-read-requires
-read-requires c κs = search needs
-
-enum-known-read : tie.Need-enum-known-read
-enum-known-read c = search needs
-
-enum-known-read-2 : tie.Need-enum-known-read-2
-enum-known-read-2 c = search needs
-
 lay-out-sound-requires : tie.Need-lay-out-sound-requires
 lay-out-sound-requires c κs =
     let R = subst (Reads _ _ _) (c .before .before .read3 .given .1) (c .before .before .before .before .read .ensures) in
@@ -22,9 +13,6 @@ lay-out-sound-requires c κs =
 returns : tie.Need-returns
 returns c = read-refused _ _ _ _ (subst (Reads _ _ _) (c .before .read2 .given .1) (c .before .before .before .read .ensures))
 
-same-length : tie.Need-same-length
-same-length c = search needs
-
 returns-2 : tie.Need-returns-2
 returns-2 c =
     let v = c .before .before .before .before .before in
@@ -32,12 +20,4 @@ returns-2 c =
 
 pub lay-out-spec : {M : Type 1} → statement M
 lay-out-spec =
-    tie.close
-    (tie.spec
-    read-requires
-    enum-known-read
-    enum-known-read-2
-    lay-out-sound-requires
-    returns
-    same-length
-    returns-2)
+    tie.close (tie.spec (search needs) (search needs) (search needs) lay-out-sound-requires returns (search needs) returns-2)

@@ -51,65 +51,14 @@ timed c = record {
   skips = c .skip-records .ensures;
 }
 
-short-window-requires : tie.Need-short-window-requires
-short-window-requires c κs = search needs
-
-returns : tie.Need-returns
-returns c = short-window _ _ _ (sym (c .before .short-window .ensures) ∙ c .if1 .taken)
-
-ticks-of-requires : tie.Need-ticks-of-requires
-ticks-of-requires c κs = search needs
-
 measure-file-requires : tie.Need-measure-file-requires
 measure-file-requires c κs = ((c .before .before .before .before .before .before .before .pre) .0, subst Layable (sym (c .before .before .ticks-of .ensures)) (wide (c .before .before .before)))
-
-cast-total : tie.Need-cast-total
-cast-total c = search needs
-
-cast-total-2 : tie.Need-cast-total-2
-cast-total-2 c = search needs
-
-add-total : tie.Need-add-total
-add-total c = search needs
-
-cast-total-3 : tie.Need-cast-total-3
-cast-total-3 c = search needs
-
-add-total-2 : tie.Need-add-total-2
-add-total-2 c = search needs
-
-cast-if2 : tie.Need-cast-if2
-cast-if2 c = search needs
 
 returns-2 : tie.Need-returns-2
 returns-2 c =
     let at-ticks-of = c .before .before .before .before .before .before .before .before in
     over-period (wide (at-ticks-of .before)) (by-settings (at-ticks-of .ticks-of .ensures) (c .before .before .before .before .before .measure-file .ensures) .passed) _
     (c .if2 .taken)
-
-cast-skip-records : tie.Need-cast-skip-records
-cast-skip-records c = search needs
-
-cast-skip-records-2 : tie.Need-cast-skip-records-2
-cast-skip-records-2 c = search needs
-
-add-skip-records : tie.Need-add-skip-records
-add-skip-records c = search needs
-
-skip-records-requires : tie.Need-skip-records-requires
-skip-records-requires c κs = search needs
-
-add-records : tie.Need-add-records
-add-records c = omega (arith, few-counted (timed (c .before)))
-
-add-records-2 : tie.Need-add-records-2
-add-records-2 c = omega (arith, few-counted (timed (c .before)))
-
-no-room-requires : tie.Need-no-room-requires
-no-room-requires c κs = search needs
-
-returns-3 : tie.Need-returns-3
-returns-3 c = no-room (timed (c .before .before .before)) _ (sym (c .before .no-room .ensures) ∙ c .if3 .taken)
 
 write-file-requires : tie.Need-write-file-requires
 write-file-requires c κs =
@@ -118,14 +67,8 @@ write-file-requires c κs =
     (by-settings (c .before .before .before .before .before .before .before .before .before .before .before .before .before .before .before .before .ticks-of .ensures)
     (c .before .before .before .before .before .before .before .before .before .before .before .before .before .measure-file .ensures))
 
-mul-t21 : tie.Need-mul-t21
-mul-t21 c = omega (arith, few-counted (timed (c .before .before .before .before .before .before .before .before)))
-
 cast-t28 : tie.Need-cast-t28
 cast-t28 c = let t = timed (c .before .before .before .before .before .before .before .before) in omega (arith, t .short, t .settings .short)
-
-same-length : tie.Need-same-length
-same-length c = search needs
 
 returns-4 : tie.Need-returns-4
 returns-4 c =
@@ -134,29 +77,10 @@ returns-4 c =
 
 pub lay-out-sound-spec : {M : Type 1} → statement M
 lay-out-sound-spec =
-    tie.close
-    (tie.spec
-    short-window-requires
-    returns
-    ticks-of-requires
-    measure-file-requires
-    cast-total
-    cast-total-2
-    add-total
-    cast-total-3
-    add-total-2
-    cast-if2
-    returns-2
-    cast-skip-records
-    cast-skip-records-2
-    add-skip-records
-    skip-records-requires
-    add-records
-    add-records-2
-    no-room-requires
-    returns-3
-    write-file-requires
-    mul-t21
-    cast-t28
-    same-length
+    tie.close (tie.spec (search needs) (λ c. short-window _ _ _ (sym (c .before .short-window .ensures) ∙ c .if1 .taken)) (search needs)
+    measure-file-requires (search needs) (search needs) (search needs) (search needs) (search needs) (search needs) returns-2 (search needs)
+    (search needs) (search needs) (search needs) (λ c. omega (arith, few-counted (timed (c .before))))
+    (λ c. omega (arith, few-counted (timed (c .before)))) (search needs)
+    (λ c. no-room (timed (c .before .before .before)) _ (sym (c .before .no-room .ensures) ∙ c .if3 .taken)) write-file-requires
+    (λ c. omega (arith, few-counted (timed (c .before .before .before .before .before .before .before .before)))) cast-t28 (search needs)
     returns-4)

@@ -5,12 +5,6 @@ use Rattle.listing.proofs.Listings.{list-refused, list-decoded, list-en
 use Rattle.listing.proofs.list_task.Statement.{statement}
 use Rattle.listing.proofs.list_task.Tie as tie
 
-prepare-requires : tie.Need-prepare-requires
-prepare-requires c κs = search needs
-
-enum-known-r : tie.Need-enum-known-r
-enum-known-r c = search needs
-
 enum-told : tie.Need-enum-told
 enum-told c = search needs
 
@@ -20,15 +14,6 @@ returns c =
     let a = u .before .before .before .before .args in
     list-refused (a .settings .now) (a .task .now) (a .laid .now) (u .prepare .last .1 .1 .0) (u .prepare .result) (search needs) (u .prepare .ensures)
     (a .starts .now) (c .enum-told .given .1)
-
-decode-requires : tie.Need-decode-requires
-decode-requires c κs = search needs
-
-enum-known-decoded : tie.Need-enum-known-decoded
-enum-known-decoded c = search needs
-
-enum-told-2 : tie.Need-enum-told-2
-enum-told-2 c = search needs
 
 returns-2 : tie.Need-returns-2
 returns-2 c =
@@ -58,15 +43,5 @@ returns-3 c =
 
 pub list-task-spec : {M : Type 1} → statement M
 list-task-spec =
-    tie.close
-    (tie.spec
-    prepare-requires
-    enum-known-r
-    enum-told
-    returns
-    decode-requires
-    enum-known-decoded
-    enum-told-2
-    returns-2
-    start-block-requires
-    returns-3)
+    tie.close (tie.spec (search needs) (search needs) enum-told returns (search needs) (search needs) (search needs) returns-2
+    start-block-requires returns-3)

@@ -6,18 +6,6 @@ use Rattle.machine.proofs.Replies.{is-ready, restart-refused, restart-f
 use Rattle.machine.proofs.restart.Statement.{statement}
 use Rattle.machine.proofs.restart.Tie as tie
 
-bad-buffers-requires : tie.Need-bad-buffers-requires
-bad-buffers-requires c κs = search needs
-
-ready-requires : tie.Need-ready-requires
-ready-requires c κs = search needs
-
-enum-known-r : tie.Need-enum-known-r
-enum-known-r c = search needs
-
-enum-known-r-2 : tie.Need-enum-known-r-2
-enum-known-r-2 c = search needs
-
 run-whole-requires : tie.Need-run-whole-requires
 run-whole-requires c κs =
     let w = c .before .before .before .before in
@@ -28,15 +16,6 @@ returns c =
     let w = c .before .before .before .before in
     restart-refused _ _ _ _ _ _ _ (w .bad-buffers .ensures) (subst (Readies _ _ _ _) (c .before .r .given .1) (c .before .before .before .ready .ensures))
 
-same-length : tie.Need-same-length
-same-length c = search needs
-
-same-length-2 : tie.Need-same-length-2
-same-length-2 c = search needs
-
-same-length-3 : tie.Need-same-length-3
-same-length-3 c = search needs
-
 returns-2 : tie.Need-returns-2
 returns-2 c =
     let w = c .before .before .before .before .before .before in
@@ -45,15 +24,5 @@ returns-2 c =
 
 pub restart-spec : {M : Type 1} → statement M
 restart-spec =
-    tie.close
-    (tie.spec
-    bad-buffers-requires
-    ready-requires
-    enum-known-r
-    enum-known-r-2
-    run-whole-requires
-    returns
-    same-length
-    same-length-2
-    same-length-3
-    returns-2)
+    tie.close (tie.spec (search needs) (search needs) (search needs) (search needs) run-whole-requires returns (search needs) (search needs)
+    (search needs) returns-2)

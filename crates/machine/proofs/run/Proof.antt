@@ -7,18 +7,6 @@ use Rattle.machine.proofs.Replies.{is-ready, run-refused, run-finished}
 use Rattle.machine.proofs.run.Statement.{statement}
 use Rattle.machine.proofs.run.Tie as tie
 
-bad-buffers-requires : tie.Need-bad-buffers-requires
-bad-buffers-requires c κs = search needs
-
-ready-requires : tie.Need-ready-requires
-ready-requires c κs = search needs
-
-enum-known-r : tie.Need-enum-known-r
-enum-known-r c = search needs
-
-enum-known-r-2 : tie.Need-enum-known-r-2
-enum-known-r-2 c = search needs
-
 clear-requires : tie.Need-clear-requires
 clear-requires c κs =
     let w = c .before .before .before .before .before in
@@ -39,15 +27,6 @@ returns c =
     let w = c .before .before .before .before in
     run-refused _ _ _ _ _ _ _ (w .bad-buffers .ensures) (subst (Readies _ _ _ _) (c .before .r .given .1) (c .before .before .before .ready .ensures))
 
-same-length : tie.Need-same-length
-same-length c = search needs
-
-same-length-2 : tie.Need-same-length-2
-same-length-2 c = search needs
-
-same-length-3 : tie.Need-same-length-3
-same-length-3 c = search needs
-
 returns-2 : tie.Need-returns-2
 returns-2 c =
     let w = c .before .before .before .before .before .before in
@@ -58,16 +37,5 @@ returns-2 c =
 
 pub run-spec : {M : Type 1} → statement M
 run-spec =
-    tie.close
-    (tie.spec
-    bad-buffers-requires
-    ready-requires
-    enum-known-r
-    enum-known-r-2
-    clear-requires
-    run-whole-requires
-    returns
-    same-length
-    same-length-2
-    same-length-3
-    returns-2)
+    tie.close (tie.spec (search needs) (search needs) (search needs) (search needs) clear-requires run-whole-requires returns (search needs)
+    (search needs) (search needs) returns-2)

@@ -5,18 +5,6 @@ use Rattle.machine.proofs.Replies.{is-ready, image-lent, until-refused,
 use Rattle.machine.proofs.run_until.Statement.{statement}
 use Rattle.machine.proofs.run_until.Tie as tie
 
-bad-buffers-requires : tie.Need-bad-buffers-requires
-bad-buffers-requires c κs = search needs
-
-ready-requires : tie.Need-ready-requires
-ready-requires c κs = search needs
-
-enum-known-r : tie.Need-enum-known-r
-enum-known-r c = search needs
-
-enum-known-r-2 : tie.Need-enum-known-r-2
-enum-known-r-2 c = search needs
-
 run-until-ready-requires : tie.Need-run-until-ready-requires
 run-until-ready-requires c κs =
     let w = c .before .before .before .before .before in
@@ -32,18 +20,6 @@ returns c =
     let w = c .before .before .before .before in
     until-refused _ _ _ _ _ _ _ _ (w .bad-buffers .ensures) _ (subst (Readies _ _ _ _) (c .before .r .given .1) (c .before .before .before .ready .ensures))
 
-same-length : tie.Need-same-length
-same-length c = search needs
-
-same-length-2 : tie.Need-same-length-2
-same-length-2 c = search needs
-
-same-length-3 : tie.Need-same-length-3
-same-length-3 c = search needs
-
-same-length-4 : tie.Need-same-length-4
-same-length-4 c = search needs
-
 returns-2 : tie.Need-returns-2
 returns-2 c =
     let w = c .before .before .before .before .before .before .before .before in
@@ -53,16 +29,5 @@ returns-2 c =
 
 pub run-until-spec : {M : Type 1} → statement M
 run-until-spec =
-    tie.close
-    (tie.spec
-    bad-buffers-requires
-    ready-requires
-    enum-known-r
-    enum-known-r-2
-    run-until-ready-requires
-    returns
-    same-length
-    same-length-2
-    same-length-3
-    same-length-4
-    returns-2)
+    tie.close (tie.spec (search needs) (search needs) (search needs) (search needs) run-until-ready-requires returns (search needs)
+    (search needs) (search needs) (search needs) returns-2)

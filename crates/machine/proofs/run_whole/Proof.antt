@@ -5,32 +5,20 @@ use Rattle.machine.proofs.Whole.{left-bytes, lent, whole-started, run-l
 use Rattle.machine.proofs.run_whole.Statement.{statement}
 use Rattle.machine.proofs.run_whole.Tie as tie
 
-slice-aggregate-load-variables : tie.Need-slice-aggregate-load-variables
-slice-aggregate-load-variables c = search needs
-
 load-variables-requires : tie.Need-load-variables-requires
 load-variables-requires c κs =
     let w = c .before .before .before .before .before .before .before in
     (refl, lent ((w .pre)) .variables)
-
-slice-aggregate-load-outputs : tie.Need-slice-aggregate-load-outputs
-slice-aggregate-load-outputs c = search needs
 
 load-outputs-requires : tie.Need-load-outputs-requires
 load-outputs-requires c κs =
     let w = c .before .before .before .before .before .before .before .before .before .before .before .before in
     (search needs, lent (w .pre) .levels, lent (w .pre) .marks)
 
-slice-aggregate-run-from : tie.Need-slice-aggregate-run-from
-slice-aggregate-run-from c = search needs
-
 run-from-requires : tie.Need-run-from-requires
 run-from-requires c κs =
     let w = c .before .before .before .before .before .before .before .before .before .before .before .before .before .before .before in
     whole-started ((w .pre)) (search needs)
-
-slice-aggregate-store : tie.Need-slice-aggregate-store
-slice-aggregate-store c = search needs
 
 store-requires : tie.Need-store-requires
 store-requires c κs =
@@ -47,15 +35,6 @@ store-requires c κs =
       left-bytes (run-left (u .pre) (w .run-from .ensures) k) (λ i. (v .before .before .before .slice-known3) .given i .fits),
     )
 
-same-length : tie.Need-same-length
-same-length c = search needs
-
-same-length-2 : tie.Need-same-length-2
-same-length-2 c = search needs
-
-same-length-3 : tie.Need-same-length-3
-same-length-3 c = search needs
-
 returns : tie.Need-returns
 returns c =
     let w = c .before .before .before .before .before .before in
@@ -67,17 +46,5 @@ returns c =
 
 pub run-whole-spec : {M : Type 1} → statement M
 run-whole-spec =
-    tie.close
-    (tie.spec
-    slice-aggregate-load-variables
-    load-variables-requires
-    slice-aggregate-load-outputs
-    load-outputs-requires
-    slice-aggregate-run-from
-    run-from-requires
-    slice-aggregate-store
-    store-requires
-    same-length
-    same-length-2
-    same-length-3
-    returns)
+    tie.close (tie.spec (search needs) load-variables-requires (search needs) load-outputs-requires (search needs) run-from-requires
+    (search needs) store-requires (search needs) (search needs) (search needs) returns)

@@ -7,22 +7,6 @@ use Rattle.model.specs.Answers.{equalised}
 use Rattle.preparation.proofs.Preparing.{prepare-refused, prepare-fits, prepare-laid}
 use Rattle.preparation.proofs.prepare.Statement.{statement}
 use Rattle.preparation.proofs.prepare.Tie as tie
-use Rattle.preparation.proofs.prepare.Reads as reads
-use Rattle.preparation.proofs.prepare.Lts as lts
-use Rattle.equaliser.proofs.equalise.Reads as equalise-reads
-use Rattle.layout.proofs.lay_out.Reads as lay-out-reads
-
-slice-aggregate-equalise : tie.Need-slice-aggregate-equalise
-slice-aggregate-equalise c = search needs
-
-equalise-requires : tie.Need-equalise-requires
-equalise-requires c κs = search needs
-
-enum-known-r : tie.Need-enum-known-r
-enum-known-r c = search needs
-
-enum-known-r-2 : tie.Need-enum-known-r-2
-enum-known-r-2 c = search needs
 
 array-share-prefix-equalised : tie.Need-array-share-prefix-equalised
 array-share-prefix-equalised c =
@@ -36,18 +20,12 @@ slice-aggregate-lay-out c =
     let a = e .before .before .before .before .before .args in
     sym (length-take-le _ _ (prepare-fits (a .settings .now) (a .task .now) _ (sym (ap equalised (c .before .before .r2 .given .1)) ∙ e .equalise .ensures .0) (search needs)))
 
-lay-out-requires : tie.Need-lay-out-requires
-lay-out-requires c κs = search needs
-
 returns : tie.Need-returns
 returns c =
     let e = c .before .before .before .before in
     let a = e .before .before .before .before .before .args in
     prepare-refused (a .settings .now) (a .task .now) (replicate 12300 0) (a .out .now) (length-replicate {A = ℕ} 12300 0)
     (c .before .r .given .0 .0) (sym (ap equalised (c .before .r .given .1)) ∙ e .equalise .ensures .0)
-
-same-length : tie.Need-same-length
-same-length c = search needs
 
 returns-2 : tie.Need-returns-2
 returns-2 c =
@@ -58,15 +36,5 @@ returns-2 c =
 
 pub prepare-spec : {M : Type 1} → statement M
 prepare-spec =
-    tie.close
-    (tie.spec
-    slice-aggregate-equalise
-    equalise-requires
-    enum-known-r
-    enum-known-r-2
-    array-share-prefix-equalised
-    slice-aggregate-lay-out
-    lay-out-requires
-    returns
-    same-length
-    returns-2)
+    tie.close (tie.spec (search needs) (search needs) (search needs) (search needs) array-share-prefix-equalised slice-aggregate-lay-out
+    (search needs) returns (search needs) returns-2)

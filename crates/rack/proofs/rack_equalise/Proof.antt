@@ -4,10 +4,6 @@ use Rattle.rack.proofs.Packing.{equalised-few}
 use borrow.Author.Needs.{needs}
 use Rattle.rack.proofs.rack_equalise.Statement.{statement}
 use Rattle.rack.proofs.rack_equalise.Tie as tie
-use Rattle.rack.proofs.rack_equalise.Reads as reads
-use Rattle.rack.proofs.rack_equalise.Lts as lts
-use Rattle.equaliser.proofs.equalise.Reads as equalise-reads
-use Rattle.rack.proofs.answers.equalised_word.Reads as equalised-word-reads
 
 equalise-requires : tie.Need-equalise-requires
 equalise-requires c κs = search needs

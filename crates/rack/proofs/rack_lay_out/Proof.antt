@@ -4,10 +4,6 @@ use Rattle.rack.proofs.Packing.{laid-few}
 use borrow.Author.Needs.{needs}
 use Rattle.rack.proofs.rack_lay_out.Statement.{statement}
 use Rattle.rack.proofs.rack_lay_out.Tie as tie
-use Rattle.rack.proofs.rack_lay_out.Reads as reads
-use Rattle.rack.proofs.rack_lay_out.Lts as lts
-use Rattle.layout.proofs.lay_out.Reads as lay-out-reads
-use Rattle.rack.proofs.answers.laid_word.Reads as laid-word-reads
 
 lay-out-requires : tie.Need-lay-out-requires
 lay-out-requires c κs = search needs

@@ -4,10 +4,6 @@ use Rattle.rack.proofs.Packing.{prepared-few}
 use borrow.Author.Needs.{needs}
 use Rattle.rack.proofs.rack_prepare.Statement.{statement}
 use Rattle.rack.proofs.rack_prepare.Tie as tie
-use Rattle.rack.proofs.rack_prepare.Reads as reads
-use Rattle.rack.proofs.rack_prepare.Lts as lts
-use Rattle.preparation.proofs.prepare.Reads as prepare-reads
-use Rattle.rack.proofs.answers.laid_word.Reads as laid-word-reads
 
 prepare-requires : tie.Need-prepare-requires
 prepare-requires c κs = search needs

@@ -5,29 +5,6 @@ use Rattle.rack.proofs.Packing.{by-form}
 use borrow.Author.Needs.{needs}
 use Rattle.rack.proofs.rack_restart.Statement.{statement}
 use Rattle.rack.proofs.rack_restart.Tie as tie
-use Rattle.rack.proofs.rack_restart.Reads as reads
-use Rattle.rack.proofs.rack_restart.Lts as lts
-use Rattle.machine.proofs.restart.Reads as restart-reads
-use Rattle.rack.proofs.answers.ran_word.Reads as ran-word-reads
-use Rattle.rack.proofs.words.form_of.Reads as form-of-reads
-
-form-of-requires : tie.Need-form-of-requires
-form-of-requires c κs = search needs
-
-restart-requires : tie.Need-restart-requires
-restart-requires c κs = search needs
-
-ran-word-requires : tie.Need-ran-word-requires
-ran-word-requires c κs = search needs
-
-same-length : tie.Need-same-length
-same-length c = search needs
-
-same-length-2 : tie.Need-same-length-2
-same-length-2 c = search needs
-
-same-length-3 : tie.Need-same-length-3
-same-length-3 c = search needs
 
 returns : tie.Need-returns
 returns c =
@@ -39,12 +16,4 @@ returns c =
 
 pub rack-restart-spec : {M : Type 1} → statement M
 rack-restart-spec =
-    tie.close
-    (tie.spec
-    form-of-requires
-    restart-requires
-    ran-word-requires
-    same-length
-    same-length-2
-    same-length-3
-    returns)
+    tie.close (tie.spec (search needs) (search needs) (search needs) (search needs) (search needs) (search needs) returns)

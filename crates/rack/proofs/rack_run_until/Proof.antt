@@ -6,32 +6,6 @@ use Rattle.rack.proofs.Packing.{by-form}
 use borrow.Author.Needs.{needs}
 use Rattle.rack.proofs.rack_run_until.Statement.{statement}
 use Rattle.rack.proofs.rack_run_until.Tie as tie
-use Rattle.rack.proofs.rack_run_until.Reads as reads
-use Rattle.rack.proofs.rack_run_until.Lts as lts
-use Rattle.machine.proofs.run_until.Reads as run-until-reads
-use Rattle.rack.proofs.answers.stopped_word.Reads as stopped-word-reads
-use Rattle.rack.proofs.words.form_of.Reads as form-of-reads
-
-form-of-requires : tie.Need-form-of-requires
-form-of-requires c κs = search needs
-
-run-until-requires : tie.Need-run-until-requires
-run-until-requires c κs = search needs
-
-stopped-word-requires : tie.Need-stopped-word-requires
-stopped-word-requires c κs = search needs
-
-same-length : tie.Need-same-length
-same-length c = search needs
-
-same-length-2 : tie.Need-same-length-2
-same-length-2 c = search needs
-
-same-length-3 : tie.Need-same-length-3
-same-length-3 c = search needs
-
-same-length-4 : tie.Need-same-length-4
-same-length-4 c = search needs
 
 returns : tie.Need-returns
 returns c =
@@ -44,13 +18,4 @@ returns c =
 
 pub rack-run-until-spec : {M : Type 1} → statement M
 rack-run-until-spec =
-    tie.close
-    (tie.spec
-    form-of-requires
-    run-until-requires
-    stopped-word-requires
-    same-length
-    same-length-2
-    same-length-3
-    same-length-4
-    returns)
+    tie.close (tie.spec (search needs) (search needs) (search needs) (search needs) (search needs) (search needs) (search needs) returns)

@@ -6,11 +6,6 @@ use Rattle.rack.specs.Words.{fileWord, packed}
 use borrow.Author.Needs.{needs}
 use Rattle.rack.proofs.rack_time.Statement.{statement}
 use Rattle.rack.proofs.rack_time.Tie as tie
-use Rattle.rack.proofs.rack_time.Reads as reads
-use Rattle.rack.proofs.rack_time.Lts as lts
-use Rattle.rack.proofs.answers.time_word.Reads as time-word-reads
-use Rattle.rack.proofs.words.form_of.Reads as form-of-reads
-use Rattle.timing.proofs.time_file.Reads as time-file-reads
 
 form-of-requires : tie.Need-form-of-requires
 form-of-requires c κs = search needs

@@ -7,12 +7,6 @@ use borrow.Author.Needs.{needs}
 use Rattle.reading.proofs.read.Statement.{statement}
 use Rattle.reading.proofs.read.Tie as tie
 
-decode-requires : tie.Need-decode-requires
-decode-requires c κs = search needs
-
-enum-known-decoded : tie.Need-enum-known-decoded
-enum-known-decoded c = search needs
-
 enum-told : tie.Need-enum-told
 enum-told c = search needs
 
@@ -20,15 +14,6 @@ returns : tie.Need-returns
 returns c =
     let e = c .enum-told .given .1 in
     subst (Reads _ _ _) (sym e) (settings-refused _ _ _ _ (subst (Decodes _) e (c .before .before .decode .ensures)))
-
-scan-file-requires : tie.Need-scan-file-requires
-scan-file-requires c κs = search needs
-
-enum-told-2 : tie.Need-enum-told-2
-enum-told-2 c = search needs
-
-enum-known-scanned : tie.Need-enum-known-scanned
-enum-known-scanned c = search needs
 
 returns-2 : tie.Need-returns-2
 returns-2 c =
@@ -44,14 +29,4 @@ returns-3 c =
 
 pub read-spec : {M : Type 1} → statement M
 read-spec =
-    tie.close
-    (tie.spec
-    decode-requires
-    enum-known-decoded
-    enum-told
-    returns
-    scan-file-requires
-    enum-told-2
-    enum-known-scanned
-    returns-2
-    returns-3)
+    tie.close (tie.spec (search needs) (search needs) enum-told returns (search needs) (search needs) (search needs) returns-2 returns-3)

@@ -26,45 +26,6 @@ module _ (out : List ℕ) (r : Record) (room : 12 ≤ length out) where
   count-left : {ys : List ℕ} → ys ≡ over (wordBytes (r .value)) (lent stored 4) → Part (recordBytes (recordOf r)) (wordBytes (r .count)) out (back stored 4 ys) 8
   count-left e = part-lent (wordBytes (r .value)) words-left e refl
 
-slice-write-out : tie.Need-slice-write-out
-slice-write-out c = search needs
-
-slice-write-out-2 : tie.Need-slice-write-out-2
-slice-write-out-2 c = simp length-set (omega arith)
-
-slice-write-out-3 : tie.Need-slice-write-out-3
-slice-write-out-3 c = simp length-set (omega arith)
-
-slice-write-out-4 : tie.Need-slice-write-out-4
-slice-write-out-4 c = simp length-set (omega arith)
-
-sub-put-word : tie.Need-sub-put-word
-sub-put-word c = simp length-set (omega arith)
-
-part-put-word-start : tie.Need-part-put-word-start
-part-put-word-start c = simp length-set (omega arith)
-
-part-put-word-end : tie.Need-part-put-word-end
-part-put-word-end c = search needs
-
-put-word-requires : tie.Need-put-word-requires
-put-word-requires c κs = rw lent-length (simp length-set (omega arith))
-
-sub-put-word-2 : tie.Need-sub-put-word-2
-sub-put-word-2 c = rw (c .before .out .given .1) (simp length-set (omega arith))
-
-part-put-word-start-2 : tie.Need-part-put-word-start-2
-part-put-word-start-2 c = rw (c .before .out .given .1) (simp length-set (omega arith))
-
-part-put-word-end-2 : tie.Need-part-put-word-end-2
-part-put-word-end-2 c = search needs
-
-put-word-requires-2 : tie.Need-put-word-requires-2
-put-word-requires-2 c κs = rw (lent-length, c .before .before .out .given .1) (simp length-set (omega arith))
-
-same-length : tie.Need-same-length
-same-length c = c .before .out2 .given .1 ∙ c .before .before .before .before .before .out .given .1 ∙ simp length-set
-
 returns : tie.Need-returns
 returns c =
     let s = c .before .before .before .before .before .before .before .before .before in
@@ -73,19 +34,9 @@ returns c =
 
 pub put-record-spec : {M : Type 1} → statement M
 put-record-spec =
-    tie.close
-    (tie.spec
-    slice-write-out
-    slice-write-out-2
-    slice-write-out-3
-    slice-write-out-4
-    sub-put-word
-    part-put-word-start
-    part-put-word-end
-    put-word-requires
-    sub-put-word-2
-    part-put-word-start-2
-    part-put-word-end-2
-    put-word-requires-2
-    same-length
-    returns)
+    tie.close (tie.spec (search needs) (λ c. simp length-set (omega arith)) (λ c. simp length-set (omega arith))
+    (λ c. simp length-set (omega arith)) (λ c. simp length-set (omega arith)) (λ c. simp length-set (omega arith)) (search needs)
+    (λ c κs. rw lent-length (simp length-set (omega arith))) (λ c. rw (c .before .out .given .1) (simp length-set (omega arith)))
+    (λ c. rw (c .before .out .given .1) (simp length-set (omega arith))) (search needs)
+    (λ c κs. rw (lent-length, c .before .before .out .given .1) (simp length-set (omega arith)))
+    (λ c. c .before .out2 .given .1 ∙ c .before .before .before .before .before .out .given .1 ∙ simp length-set) returns)

@@ -6,26 +6,6 @@ use Rattle.model.specs.Rehearsal.{setOf}
 use Rattle.rehearsal.proofs.Preparing.{good-sets, rehearse-refused, file-fits, rehearse-bad, rehearse-done}
 use Rattle.rehearsal.proofs.rehearse.Statement.{statement}
 use Rattle.rehearsal.proofs.rehearse.Tie as tie
-use Rattle.rehearsal.proofs.rehearse.Reads as reads
-use Rattle.rehearsal.proofs.rehearse.Lts as lts
-use Rattle.preparation.proofs.prepare.Reads as prepare-reads
-use Rattle.rehearsal.proofs.bad_sets.Reads as bad-sets-reads
-use Rattle.rehearsal.proofs.rehearse_laid.Reads as rehearse-laid-reads
-
-slice-aggregate-prepare : tie.Need-slice-aggregate-prepare
-slice-aggregate-prepare c = search needs
-
-prepare-requires : tie.Need-prepare-requires
-prepare-requires c κs = search needs
-
-enum-known-r : tie.Need-enum-known-r
-enum-known-r c = search needs
-
-enum-known-r-2 : tie.Need-enum-known-r-2
-enum-known-r-2 c = search needs
-
-bad-sets-requires : tie.Need-bad-sets-requires
-bad-sets-requires c κs = search needs
 
 returns : tie.Need-returns
 returns c =
@@ -67,16 +47,5 @@ returns-3 c =
 
 pub rehearse-spec : {M : Type 1} → statement M
 rehearse-spec =
-    tie.close
-    (tie.spec
-    slice-aggregate-prepare
-    prepare-requires
-    enum-known-r
-    enum-known-r-2
-    bad-sets-requires
-    returns
-    array-share-prefix-laid
-    slice-aggregate-rehearse-laid
-    rehearse-laid-requires
-    returns-2
-    returns-3)
+    tie.close (tie.spec (search needs) (search needs) (search needs) (search needs) (search needs) returns array-share-prefix-laid
+    slice-aggregate-rehearse-laid rehearse-laid-requires returns-2 returns-3)

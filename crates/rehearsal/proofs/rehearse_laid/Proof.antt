@@ -8,48 +8,9 @@ use Rattle.rehearsal.specs.Contracts.{laidLoan}
 use Rattle.rehearsal.proofs.First.{first-refused, first-whole, first-stopped}
 use Rattle.rehearsal.proofs.rehearse_laid.Statement.{statement}
 use Rattle.rehearsal.proofs.rehearse_laid.Tie as tie
-use Rattle.rehearsal.proofs.rehearse_laid.Reads as reads
-use Rattle.rehearsal.proofs.rehearse_laid.Lts as lts
-use Rattle.machine.proofs.run.Reads as run-reads
-use Rattle.records.proofs.words.copy.Reads as copy-reads
-use Rattle.rehearsal.proofs.second.stopped.Reads as stopped-reads
-use Rattle.rehearsal.proofs.second.whole.Reads as whole-reads
-
-slice-aggregate-copy : tie.Need-slice-aggregate-copy
-slice-aggregate-copy c = search needs
-
-copy-requires : tie.Need-copy-requires
-copy-requires c κs = search needs
-
-slice-aggregate-run : tie.Need-slice-aggregate-run
-slice-aggregate-run c = search needs
-
-slice-aggregate-run-2 : tie.Need-slice-aggregate-run-2
-slice-aggregate-run-2 c = search needs
-
-slice-aggregate-run-3 : tie.Need-slice-aggregate-run-3
-slice-aggregate-run-3 c = search needs
-
-run-requires : tie.Need-run-requires
-run-requires c κs = search needs
-
-enum-known-r : tie.Need-enum-known-r
-enum-known-r c = search needs
-
-enum-known-r-2 : tie.Need-enum-known-r-2
-enum-known-r-2 c = search needs
 
 enum-told : tie.Need-enum-told
 enum-told c = search needs
-
-whole-requires : tie.Need-whole-requires
-whole-requires c κs = search needs
-
-enum-known-stop : tie.Need-enum-known-stop
-enum-known-stop c = search needs
-
-stopped-requires : tie.Need-stopped-requires
-stopped-requires c κs = search needs
 
 returns : tie.Need-returns
 returns c =
@@ -81,20 +42,5 @@ returns-3 c =
 
 pub rehearse-laid-spec : {M : Type 1} → statement M
 rehearse-laid-spec =
-    tie.close
-    (tie.spec
-    slice-aggregate-copy
-    copy-requires
-    slice-aggregate-run
-    slice-aggregate-run-2
-    slice-aggregate-run-3
-    run-requires
-    enum-known-r
-    enum-known-r-2
-    enum-told
-    whole-requires
-    enum-known-stop
-    stopped-requires
-    returns
-    returns-2
-    returns-3)
+    tie.close (tie.spec (search needs) (search needs) (search needs) (search needs) (search needs) (search needs) (search needs)
+    (search needs) enum-told (search needs) (search needs) (search needs) returns returns-2 returns-3)

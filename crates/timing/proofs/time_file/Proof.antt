@@ -6,21 +6,6 @@ use borrow.Author.Needs.{needs}
 use Rattle.timing.proofs.time_file.Statement.{statement}
 use Rattle.timing.proofs.time_file.Tie as tie
 
-read-requires : tie.Need-read-requires
-read-requires c κs = search needs
-
-enum-known-read : tie.Need-enum-known-read
-enum-known-read c = search needs
-
-enum-known-read-2 : tie.Need-enum-known-read-2
-enum-known-read-2 c = search needs
-
-block-time-requires : tie.Need-block-time-requires
-block-time-requires c κs = search needs
-
-enum-known-time : tie.Need-enum-known-time
-enum-known-time c = search needs
-
 enum-told : tie.Need-enum-told
 enum-told c = search needs
 
@@ -41,14 +26,4 @@ returns-3 c =
 
 pub time-file-spec : {M : Type 1} → statement M
 time-file-spec =
-    tie.close
-    (tie.spec
-    read-requires
-    enum-known-read
-    enum-known-read-2
-    block-time-requires
-    enum-known-time
-    enum-told
-    returns
-    returns-2
-    returns-3)
+    tie.close (tie.spec (search needs) (search needs) (search needs) (search needs) (search needs) enum-told returns returns-2 returns-3)

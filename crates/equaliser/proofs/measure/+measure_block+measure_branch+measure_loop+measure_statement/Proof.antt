@@ -38,12 +38,8 @@ use Rattle.records.proofs.skips.skip_records.Reads as skip-records-reads
 use Rattle.timing.proofs.ticks.beyond.Reads as beyond-reads
 use Rattle.timing.proofs.ticks.branch_time.Reads as branch-time-reads
 use Rattle.timing.proofs.ticks.loop_time.Reads as loop-time-reads
-use Rattle.equaliser.proofs.measure.+measure_block+measure_branch+measure_loop+measure_statement.{
-  statement,
-}
-use Rattle.equaliser.proofs.measure.+measure_block+measure_branch+measure_loop+measure_statement.Tie.{
-  close,
-}
+use Rattle.equaliser.proofs.measure.+measure_block+measure_branch+measure_loop+measure_statement.{statement}
+use Rattle.equaliser.proofs.measure.+measure_block+measure_branch+measure_loop+measure_statement.Tie.{close}
 
 abbrev μ-measure-block : Measures 2 measure-block-kinds.ps ℕ
 μ-measure-block κs a = 4 * (a .1 .1 .0 - a .1 .0) + 3
@@ -58,60 +54,28 @@ abbrev μ-measure-statement : Measures 2 measure-statement-kinds.ps ℕ
 μ-measure-statement κs a = 4 * (a .1 .1 .0 - a .1 .0) + 2
 
 abbrev measure-block-at : ℕ → In 2 measure-block-kinds.ps
-measure-block-at t =
-    and 2 measure-block-kinds.ps (is 2 measure-block-kinds.ps μ-measure-block t) measure-block.Pre
+measure-block-at t = and 2 measure-block-kinds.ps (is 2 measure-block-kinds.ps μ-measure-block t) measure-block.Pre
 
 abbrev measure-block-below : ℕ → In 2 measure-block-kinds.ps
-measure-block-below t =
-    and
-    2
-    measure-block-kinds.ps
-    (falls 2 measure-block-kinds.ps _<_ μ-measure-block t)
-    measure-block.Pre
+measure-block-below t = and 2 measure-block-kinds.ps (falls 2 measure-block-kinds.ps _<_ μ-measure-block t) measure-block.Pre
 
 abbrev measure-branch-at : ℕ → In 2 measure-branch-kinds.ps
-measure-branch-at t =
-    and
-    2
-    measure-branch-kinds.ps
-    (is 2 measure-branch-kinds.ps μ-measure-branch t)
-    measure-branch.Pre
+measure-branch-at t = and 2 measure-branch-kinds.ps (is 2 measure-branch-kinds.ps μ-measure-branch t) measure-branch.Pre
 
 abbrev measure-branch-below : ℕ → In 2 measure-branch-kinds.ps
-measure-branch-below t =
-    and
-    2
-    measure-branch-kinds.ps
-    (falls 2 measure-branch-kinds.ps _<_ μ-measure-branch t)
-    measure-branch.Pre
+measure-branch-below t = and 2 measure-branch-kinds.ps (falls 2 measure-branch-kinds.ps _<_ μ-measure-branch t) measure-branch.Pre
 
 abbrev measure-loop-at : ℕ → In 2 measure-loop-kinds.ps
-measure-loop-at t =
-    and 2 measure-loop-kinds.ps (is 2 measure-loop-kinds.ps μ-measure-loop t) measure-loop.Pre
+measure-loop-at t = and 2 measure-loop-kinds.ps (is 2 measure-loop-kinds.ps μ-measure-loop t) measure-loop.Pre
 
 abbrev measure-loop-below : ℕ → In 2 measure-loop-kinds.ps
-measure-loop-below t =
-    and
-    2
-    measure-loop-kinds.ps
-    (falls 2 measure-loop-kinds.ps _<_ μ-measure-loop t)
-    measure-loop.Pre
+measure-loop-below t = and 2 measure-loop-kinds.ps (falls 2 measure-loop-kinds.ps _<_ μ-measure-loop t) measure-loop.Pre
 
 abbrev measure-statement-at : ℕ → In 2 measure-statement-kinds.ps
-measure-statement-at t =
-    and
-    2
-    measure-statement-kinds.ps
-    (is 2 measure-statement-kinds.ps μ-measure-statement t)
-    measure-statement.Pre
+measure-statement-at t = and 2 measure-statement-kinds.ps (is 2 measure-statement-kinds.ps μ-measure-statement t) measure-statement.Pre
 
 abbrev measure-statement-below : ℕ → In 2 measure-statement-kinds.ps
-measure-statement-below t =
-    and
-    2
-    measure-statement-kinds.ps
-    (falls 2 measure-statement-kinds.ps _<_ μ-measure-statement t)
-    measure-statement.Pre
+measure-statement-below t = and 2 measure-statement-kinds.ps (falls 2 measure-statement-kinds.ps _<_ μ-measure-statement t) measure-statement.Pre
 
 abbrev measure-block-Inv-loop : measure-block-lts.InvT-loop
 measure-block-Inv-loop s from to n pads₀ sum₀ records₀ wait₀ next₀ pads sum records wait next = Measured s from to n pads₀ pads next sum records wait
@@ -176,23 +140,11 @@ measure-block-loop-holds t c =
     let start = c .before in
     measured-start (start .args .n) (omega arith) (start .pre .1)
 
-measure-block-kind-at-requires : (t : ℕ) → measure-block-lts.Need-kind-at-requires (measure-block-claims t) (measure-block-at t) measure-block.Post measure-block-Inv-loop measure-block-μ-loop
-measure-block-kind-at-requires t c κs = omega arith
-
-measure-block-closes-requires : (t : ℕ) → measure-block-lts.Need-closes-requires (measure-block-claims t) (measure-block-at t) measure-block.Post measure-block-Inv-loop measure-block-μ-loop
-measure-block-closes-requires t c κs = search needs
-
 measure-block-measure-statement-requires : (t : ℕ) → measure-block-lts.Need-measure-statement-requires (measure-block-claims t) (measure-block-at t) measure-block.Post measure-block-Inv-loop measure-block-μ-loop
 measure-block-measure-statement-requires t c κs =
     let at-loop-test = c .before .before .before .before in
     let at-loop = at-loop-test .before in
     (omega (arith, at-loop .loop .inv .on, at-loop-test .loop-test .taken), measured-asks (at-loop .loop .inv) (at-loop-test .loop-test .taken) (going t (c .before)))
-
-measure-block-enum-known-one : (t : ℕ) → measure-block-lts.Need-enum-known-one (measure-block-claims t) (measure-block-at t) measure-block.Post measure-block-Inv-loop measure-block-μ-loop
-measure-block-enum-known-one t c = search needs
-
-measure-block-enum-told : (t : ℕ) → measure-block-lts.Need-enum-told (measure-block-claims t) (measure-block-at t) measure-block.Post measure-block-Inv-loop measure-block-μ-loop
-measure-block-enum-told t c = search needs
 
 measure-block-returns : (t : ℕ) → measure-block-lts.Need-returns (measure-block-claims t) (measure-block-at t) measure-block.Post measure-block-Inv-loop measure-block-μ-loop
 measure-block-returns t c =
@@ -200,17 +152,11 @@ measure-block-returns t c =
     measured-over (at-loop .loop .inv) (c .before .before .before .before .before .before .before .loop-test .taken) (going t (c .before .before .before .before))
     (c .before .before .measure-statement .ensures) (c .enum-told .given .1)
 
-measure-block-sub-if2 : (t : ℕ) → measure-block-lts.Need-sub-if2 (measure-block-claims t) (measure-block-at t) measure-block.Post measure-block-Inv-loop measure-block-μ-loop
-measure-block-sub-if2 t c = omega arith
-
 measure-block-returns-2 : (t : ℕ) → measure-block-lts.Need-returns-2 (measure-block-claims t) (measure-block-at t) measure-block.Post measure-block-Inv-loop measure-block-μ-loop
 measure-block-returns-2 t c =
     let at-loop-test = c .before .before .before .before .before .before .before .before .before .before in
     measured-past (at-loop-test .before .loop .inv) (at-loop-test .loop-test .taken) (going t (c .before .before .before .before .before .before .before))
     (c .before .before .before .before .before .measure-statement .ensures) (c .before .before .before .one .given .1) (c .if2 .taken)
-
-measure-block-add-sum : (t : ℕ) → measure-block-lts.Need-add-sum (measure-block-claims t) (measure-block-at t) measure-block.Post measure-block-Inv-loop measure-block-μ-loop
-measure-block-add-sum t c = omega arith
 
 -- what is known of the rest after the statement
 goes-on : (t : ℕ) (c : measure-block-lts.After-struct-known2 (measure-block-claims t) (measure-block-at t) measure-block.Post measure-block-Inv-loop measure-block-μ-loop) →
@@ -226,9 +172,6 @@ goes-on t c =
     measured-next (at-if1 .before .before .before .before .loop .inv) (at-if1 .before .before .before .loop-test .taken) (going t at-if1)
     (c .before .before .before .before .before .before .measure-statement .ensures) (c .before .before .before .before .one .given .1) (c .before .if2 .left)
 
-measure-block-add-records : (t : ℕ) → measure-block-lts.Need-add-records (measure-block-claims t) (measure-block-at t) measure-block.Post measure-block-Inv-loop measure-block-μ-loop
-measure-block-add-records t c = omega (arith, measured-few (goes-on t c))
-
 measure-block-loop-less : (t : ℕ) → measure-block-lts.Need-loop-less (measure-block-claims t) (measure-block-at t) measure-block.Post measure-block-Inv-loop measure-block-μ-loop
 measure-block-loop-less t c =
     let at-if1 = c .before .before .before .before .before .before .before .before in
@@ -240,28 +183,13 @@ measure-block-loop-less t c =
       at-loop-test .loop-test .taken,
     )
 
-measure-block-loop-again : (t : ℕ) → measure-block-lts.Need-loop-again (measure-block-claims t) (measure-block-at t) measure-block.Post measure-block-Inv-loop measure-block-μ-loop
-measure-block-loop-again t c = goes-on t c
-
-measure-block-returns-3 : (t : ℕ) → measure-block-lts.Need-returns-3 (measure-block-claims t) (measure-block-at t) measure-block.Post measure-block-Inv-loop measure-block-μ-loop
-measure-block-returns-3 t c = measured-all (c .before .loop .inv) (c .loop-test .left)
-
 measure-block-returns-4 : (t : ℕ) → measure-block-lts.Need-returns-4 (measure-block-claims t) (measure-block-at t) measure-block.Post measure-block-Inv-loop measure-block-μ-loop
 measure-block-returns-4 t c = measured-closed (c .before .before .before .before .loop .inv) (closing-told (c .before .before .kind-at .ensures) (c .before .closes .ensures) (c .if1 .taken))
-
-measure-branch-add-measure-block : (t : ℕ) → measure-branch-lts.Need-add-measure-block (measure-branch-claims t) (measure-branch-at t) measure-branch.Post
-measure-branch-add-measure-block t c = omega arith
 
 measure-branch-measure-block-requires : (t : ℕ) → measure-branch-lts.Need-measure-block-requires (measure-branch-claims t) (measure-branch-at t) measure-branch.Post
 measure-branch-measure-block-requires t c κs =
     let start = c .before .before in
     (omega arith, first-asks (start .pre .1 .0) (start .pre .1 .1))
-
-measure-branch-enum-known-one : (t : ℕ) → measure-branch-lts.Need-enum-known-one (measure-branch-claims t) (measure-branch-at t) measure-branch.Post
-measure-branch-enum-known-one t c = search needs
-
-measure-branch-enum-told : (t : ℕ) → measure-branch-lts.Need-enum-told (measure-branch-claims t) (measure-branch-at t) measure-branch.Post
-measure-branch-enum-told t c = search needs
 
 measure-branch-returns : (t : ℕ) → measure-branch-lts.Need-returns (measure-branch-claims t) (measure-branch-at t) measure-branch.Post
 measure-branch-returns t c =
@@ -288,24 +216,12 @@ measure-branch-measure-block-requires-2 t c κs =
       second-asks (start .pre .1 .0) (start .pre .1 .1) (at-measure-block .measure-block .ensures) (at-one .one .given .1),
     )
 
-measure-branch-enum-known-two : (t : ℕ) → measure-branch-lts.Need-enum-known-two (measure-branch-claims t) (measure-branch-at t) measure-branch.Post
-measure-branch-enum-known-two t c = search needs
-
-measure-branch-enum-told-2 : (t : ℕ) → measure-branch-lts.Need-enum-told-2 (measure-branch-claims t) (measure-branch-at t) measure-branch.Post
-measure-branch-enum-told-2 t c = search needs
-
 measure-branch-returns-2 : (t : ℕ) → measure-branch-lts.Need-returns-2 (measure-branch-claims t) (measure-branch-at t) measure-branch.Post
 measure-branch-returns-2 t c =
     let at-measure-block = c .before .before .before .before .before .before .before .before in
     let start = at-measure-block .before .before .before in
     second-late (start .pre .1 .0) (start .pre .1 .1) (at-measure-block .measure-block .ensures) (c .before .before .before .before .before .before .one .given .1)
     (c .before .before .measure-block2 .ensures) (c .enum-told2 .given .1)
-
-measure-branch-beyond-requires : (t : ℕ) → measure-branch-lts.Need-beyond-requires (measure-branch-claims t) (measure-branch-at t) measure-branch.Post
-measure-branch-beyond-requires t c κs = search needs
-
-measure-branch-beyond-requires-2 : (t : ℕ) → measure-branch-lts.Need-beyond-requires-2 (measure-branch-claims t) (measure-branch-at t) measure-branch.Post
-measure-branch-beyond-requires-2 t c κs = search needs
 
 measure-branch-keep-requires : (t : ℕ) → measure-branch-lts.Need-keep-requires (measure-branch-claims t) (measure-branch-at t) measure-branch.Post
 measure-branch-keep-requires t c κs =
@@ -330,18 +246,6 @@ measure-branch-padded-records-requires-2 t c κs =
     second-small (start .pre .1 .0) (start .pre .1 .1) (at-measure-block2 .before .before .before .before .before .before .measure-block .ensures)
     (at-measure-block2 .before .before .before .before .one .given .1) (at-measure-block2 .measure-block2 .ensures)
     (c .before .before .before .before .before .before .two .given .1)
-
-measure-branch-add-sides : (t : ℕ) → measure-branch-lts.Need-add-sides (measure-branch-claims t) (measure-branch-at t) measure-branch.Post
-measure-branch-add-sides t c = omega arith
-
-measure-branch-branch-time-requires : (t : ℕ) → measure-branch-lts.Need-branch-time-requires (measure-branch-claims t) (measure-branch-at t) measure-branch.Post
-measure-branch-branch-time-requires t c κs = search needs
-
-measure-branch-skip-records-requires : (t : ℕ) → measure-branch-lts.Need-skip-records-requires (measure-branch-claims t) (measure-branch-at t) measure-branch.Post
-measure-branch-skip-records-requires t c κs = search needs
-
-measure-branch-add-t21 : (t : ℕ) → measure-branch-lts.Need-add-t21 (measure-branch-claims t) (measure-branch-at t) measure-branch.Post
-measure-branch-add-t21 t c = omega arith
 
 measure-branch-add-t23 : (t : ℕ) → measure-branch-lts.Need-add-t23 (measure-branch-claims t) (measure-branch-at t) measure-branch.Post
 measure-branch-add-t23 t c =
@@ -380,19 +284,10 @@ measure-branch-returns-3 t c =
     (c .before .before .before .before .padded-records .ensures .0) (c .before .before .before .padded-records2 .ensures .0) (c .before .before .branch-time .ensures)
     (c .before .skip-records .ensures)
 
-measure-loop-add-measure-block : (t : ℕ) → measure-loop-lts.Need-add-measure-block (measure-loop-claims t) (measure-loop-at t) measure-loop.Post
-measure-loop-add-measure-block t c = omega arith
-
 measure-loop-measure-block-requires : (t : ℕ) → measure-loop-lts.Need-measure-block-requires (measure-loop-claims t) (measure-loop-at t) measure-loop.Post
 measure-loop-measure-block-requires t c κs =
     let start = c .before .before in
     (omega arith, body-asks (start .pre .1 .0) (start .pre .1 .2) (start .pre .1 .3))
-
-measure-loop-enum-known-time : (t : ℕ) → measure-loop-lts.Need-enum-known-time (measure-loop-claims t) (measure-loop-at t) measure-loop.Post
-measure-loop-enum-known-time t c = search needs
-
-measure-loop-enum-told : (t : ℕ) → measure-loop-lts.Need-enum-told (measure-loop-claims t) (measure-loop-at t) measure-loop.Post
-measure-loop-enum-told t c = search needs
 
 measure-loop-returns : (t : ℕ) → measure-loop-lts.Need-returns (measure-loop-claims t) (measure-loop-at t) measure-loop.Post
 measure-loop-returns t c =
@@ -412,20 +307,8 @@ measure-loop-padded-records-requires t c κs =
     body-small (start .pre .1 .0) (start .pre .1 .2) (start .pre .1 .3) (c .before .before .before .before .before .measure-block .ensures)
     (c .before .before .before .time .given .1)
 
-measure-loop-cast-skip-records : (t : ℕ) → measure-loop-lts.Need-cast-skip-records (measure-loop-claims t) (measure-loop-at t) measure-loop.Post
-measure-loop-cast-skip-records t c = search needs
-
-measure-loop-skip-records-requires : (t : ℕ) → measure-loop-lts.Need-skip-records-requires (measure-loop-claims t) (measure-loop-at t) measure-loop.Post
-measure-loop-skip-records-requires t c κs = search needs
-
 measure-loop-add-sides : (t : ℕ) → measure-loop-lts.Need-add-sides (measure-loop-claims t) (measure-loop-at t) measure-loop.Post
 measure-loop-add-sides t c = omega (arith, c .before .padded-records .ensures .1, c .skip-records .ensures, one-skip (c .before .before .before .before .before .time .given .0 .0))
-
-measure-loop-loop-time-requires : (t : ℕ) → measure-loop-lts.Need-loop-time-requires (measure-loop-claims t) (measure-loop-at t) measure-loop.Post
-measure-loop-loop-time-requires t c κs = search needs
-
-measure-loop-skip-records-requires-2 : (t : ℕ) → measure-loop-lts.Need-skip-records-requires-2 (measure-loop-claims t) (measure-loop-at t) measure-loop.Post
-measure-loop-skip-records-requires-2 t c κs = search needs
 
 measure-loop-add-t16 : (t : ℕ) → measure-loop-lts.Need-add-t16 (measure-loop-claims t) (measure-loop-at t) measure-loop.Post
 measure-loop-add-t16 t c =
@@ -464,18 +347,6 @@ measure-loop-returns-2 t c =
     (c .before .before .before .before .before .keep .ensures) (start .pre .1 .1) (c .before .before .before .before .padded-records .ensures .0)
     (c .before .before .before .skip-records .ensures) (c .before .skip-records2 .ensures) (c .before .before .loop-time .ensures)
 
-measure-statement-record-at-requires : (t : ℕ) → measure-statement-lts.Need-record-at-requires (measure-statement-claims t) (measure-statement-at t) measure-statement.Post
-measure-statement-record-at-requires t c κs = omega arith
-
-measure-statement-opens-requires : (t : ℕ) → measure-statement-lts.Need-opens-requires (measure-statement-claims t) (measure-statement-at t) measure-statement.Post
-measure-statement-opens-requires t c κs = search needs
-
-measure-statement-add-measure-plain : (t : ℕ) → measure-statement-lts.Need-add-measure-plain (measure-statement-claims t) (measure-statement-at t) measure-statement.Post
-measure-statement-add-measure-plain t c = omega arith
-
-measure-statement-measure-plain-requires : (t : ℕ) → measure-statement-lts.Need-measure-plain-requires (measure-statement-claims t) (measure-statement-at t) measure-statement.Post
-measure-statement-measure-plain-requires t c κs = c .before .before .before .before .pre .1 .short
-
 measure-statement-returns : (t : ℕ) → measure-statement-lts.Need-returns (measure-statement-claims t) (measure-statement-at t) measure-statement.Post
 measure-statement-returns t c =
     plain-size (c .before .before .before .before .before .pre .1 .statement) (c .before .before .before .record-at .ensures)
@@ -485,9 +356,6 @@ measure-statement-measure-branch-requires : (t : ℕ) → measure-statement-lts.
 measure-statement-measure-branch-requires t c κs =
     let start = c .before .before .before .before .before .before .before in
     (omega arith, (start .pre .1, sym (ap (λ (x : Rec). x .kind) (c .before .before .before .before .before .record-at .ensures)) ∙ c .before .if2 .taken))
-
-measure-statement-returns-2 : (t : ℕ) → measure-statement-lts.Need-returns-2 (measure-statement-claims t) (measure-statement-at t) measure-statement.Post
-measure-statement-returns-2 t c = c .measure-branch .ensures
 
 measure-statement-measure-loop-requires : (t : ℕ) → measure-statement-lts.Need-measure-loop-requires (measure-statement-claims t) (measure-statement-at t) measure-statement.Post
 measure-statement-measure-loop-requires t c κs =
@@ -503,85 +371,25 @@ measure-statement-measure-loop-requires t c κs =
       ),
     )
 
-measure-statement-returns-3 : (t : ℕ) → measure-statement-lts.Need-returns-3 (measure-statement-claims t) (measure-statement-at t) measure-statement.Post
-measure-statement-returns-3 t c = c .measure-loop .ensures
-
 pub +measure-block+measure-branch+measure-loop+measure-statement-spec : {M : Type 1} → statement M
 +measure-block+measure-branch+measure-loop+measure-statement-spec =
-    close
-    μ-measure-block
-    μ-measure-branch
-    μ-measure-loop
-    μ-measure-statement
-    (λ t. measure-block-lts.spec (measure-block-claims t) (measure-block-at t)
-    measure-block.Post
-    measure-block-Inv-loop
-    measure-block-μ-loop
-    (measure-block-loop-holds t)
-    (measure-block-kind-at-requires t)
-    (measure-block-closes-requires t)
-    (measure-block-measure-statement-requires t)
-    (measure-block-enum-known-one t)
-    (measure-block-enum-told t)
-    (measure-block-returns t)
-    (measure-block-sub-if2 t)
-    (measure-block-returns-2 t)
-    (measure-block-add-sum t)
-    (measure-block-add-records t)
-    (measure-block-loop-less t)
-    (measure-block-loop-again t)
-    (measure-block-returns-3 t)
-    (measure-block-returns-4 t))
-    (λ t. measure-branch-lts.spec (measure-branch-claims t) (measure-branch-at t)
-    measure-branch.Post
-    (measure-branch-add-measure-block t)
-    (measure-branch-measure-block-requires t)
-    (measure-branch-enum-known-one t)
-    (measure-branch-enum-told t)
-    (measure-branch-returns t)
-    (measure-branch-add-measure-block-2 t)
-    (measure-branch-measure-block-requires-2 t)
-    (measure-branch-enum-known-two t)
-    (measure-branch-enum-told-2 t)
-    (measure-branch-returns-2 t)
-    (measure-branch-beyond-requires t)
-    (measure-branch-beyond-requires-2 t)
-    (measure-branch-keep-requires t)
-    (measure-branch-padded-records-requires t)
-    (measure-branch-padded-records-requires-2 t)
-    (measure-branch-add-sides t)
-    (measure-branch-branch-time-requires t)
-    (measure-branch-skip-records-requires t)
-    (measure-branch-add-t21 t)
-    (measure-branch-add-t23 t)
-    (measure-branch-add-t24 t)
-    (measure-branch-returns-3 t))
-    (λ t. measure-loop-lts.spec (measure-loop-claims t) (measure-loop-at t)
-    measure-loop.Post
-    (measure-loop-add-measure-block t)
-    (measure-loop-measure-block-requires t)
-    (measure-loop-enum-known-time t)
-    (measure-loop-enum-told t)
-    (measure-loop-returns t)
-    (measure-loop-keep-requires t)
-    (measure-loop-padded-records-requires t)
-    (measure-loop-cast-skip-records t)
-    (measure-loop-skip-records-requires t)
-    (measure-loop-add-sides t)
-    (measure-loop-loop-time-requires t)
-    (measure-loop-skip-records-requires-2 t)
-    (measure-loop-add-t16 t)
-    (measure-loop-add-t19 t)
-    (measure-loop-add-t20 t)
-    (measure-loop-returns-2 t))
-    λ t. measure-statement-lts.spec (measure-statement-claims t) (measure-statement-at t)
-    measure-statement.Post
-    (measure-statement-record-at-requires t)
-    (measure-statement-opens-requires t)
-    (measure-statement-add-measure-plain t)
-    (measure-statement-measure-plain-requires t)
-    (measure-statement-returns t)
-    (measure-statement-measure-branch-requires t)
-    (measure-statement-returns-2 t)
-    (measure-statement-measure-loop-requires t)
-    (measure-statement-returns-3 t)
+    close μ-measure-block μ-measure-branch μ-measure-loop μ-measure-statement
+    (λ t. measure-block-lts.spec (measure-block-claims t) (measure-block-at t) measure-block.Post measure-block-Inv-loop
+    measure-block-μ-loop (measure-block-loop-holds t) (omega arith) (search needs) (measure-block-measure-statement-requires t)
+    (search needs) (search needs) (measure-block-returns t) (omega arith) (measure-block-returns-2 t) (omega arith)
+    (λ c. omega (arith, measured-few (goes-on t c))) (measure-block-loop-less t) (λ c. goes-on t c)
+    (λ c. measured-all (c .before .loop .inv) (c .loop-test .left)) (measure-block-returns-4 t))
+    (λ t. measure-branch-lts.spec (measure-branch-claims t) (measure-branch-at t) measure-branch.Post (omega arith)
+    (measure-branch-measure-block-requires t) (search needs) (search needs) (measure-branch-returns t)
+    (measure-branch-add-measure-block-2 t) (measure-branch-measure-block-requires-2 t) (search needs) (search needs)
+    (measure-branch-returns-2 t) (search needs) (search needs) (measure-branch-keep-requires t) (measure-branch-padded-records-requires t)
+    (measure-branch-padded-records-requires-2 t) (omega arith) (search needs) (search needs) (omega arith) (measure-branch-add-t23 t)
+    (measure-branch-add-t24 t) (measure-branch-returns-3 t))
+    (λ t. measure-loop-lts.spec (measure-loop-claims t) (measure-loop-at t) measure-loop.Post (omega arith)
+    (measure-loop-measure-block-requires t) (search needs) (search needs) (measure-loop-returns t) (measure-loop-keep-requires t)
+    (measure-loop-padded-records-requires t) (search needs) (search needs) (measure-loop-add-sides t) (search needs) (search needs)
+    (measure-loop-add-t16 t) (measure-loop-add-t19 t) (measure-loop-add-t20 t) (measure-loop-returns-2 t))
+    λ t. measure-statement-lts.spec (measure-statement-claims t) (measure-statement-at t) measure-statement.Post (omega arith)
+    (search needs) (omega arith) (λ c κs. c .before .before .before .before .pre .1 .short) (measure-statement-returns t)
+    (measure-statement-measure-branch-requires t) (λ c. c .measure-branch .ensures) (measure-statement-measure-loop-requires t)
+    (λ c. c .measure-loop .ensures)

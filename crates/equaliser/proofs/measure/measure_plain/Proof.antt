@@ -13,21 +13,6 @@ use Rattle.records.proofs.skips.skip_records.Reads as skip-records-reads
 use Rattle.timing.proofs.ticks.step_ticks.Reads as step-ticks-reads
 use Rattle.timing.proofs.ticks.up_to.Reads as up-to-reads
 
-step-ticks-requires : tie.Need-step-ticks-requires
-step-ticks-requires c κs = search needs
-
-cast-up-to : tie.Need-cast-up-to
-cast-up-to c = search needs
-
-up-to-requires : tie.Need-up-to-requires
-up-to-requires c κs = search needs
-
-cast-wait : tie.Need-cast-wait
-cast-wait c = search needs
-
-add-wait : tie.Need-add-wait
-add-wait c = search needs
-
 -- the time that is told is that of the record
 timed : (c : lts.After-up-to (step-ticks-reads.Asked, step-ticks-reads.Learnt, up-to-reads.Asked, up-to-reads.Learnt, skip-records-reads.Asked, skip-records-reads.Learnt) reads.Pre reads.Post) →
     let a = c .before .before .args in
@@ -42,12 +27,6 @@ returns c = record {
   acts = λ k. absurd (k (c .before .if1 .taken));
 }
 
-skip-records-requires : tie.Need-skip-records-requires
-skip-records-requires c κs = search needs
-
-add-t12 : tie.Need-add-t12
-add-t12 c = omega (arith, c .skip-records .ensures, one-skip (c .before .before .before .before .before .args .wait))
-
 returns-2 : tie.Need-returns-2
 returns-2 c = record {
   takes = timed (c .before .before .before);
@@ -58,14 +37,5 @@ returns-2 c = record {
 
 pub measure-plain-spec : {M : Type 1} → statement M
 measure-plain-spec =
-    tie.close
-    (tie.spec
-    step-ticks-requires
-    cast-up-to
-    up-to-requires
-    cast-wait
-    add-wait
-    returns
-    skip-records-requires
-    add-t12
-    returns-2)
+    tie.close (tie.spec (search needs) (search needs) (search needs) (search needs) (search needs) returns (search needs)
+    (λ c. omega (arith, c .skip-records .ensures, one-skip (c .before .before .before .before .before .args .wait))) returns-2)

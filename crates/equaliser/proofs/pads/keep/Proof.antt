@@ -23,5 +23,4 @@ returns c = keeps (c .args .pads .now) (c .args .i) (c .args .first) (c .args .s
 
 pub keep-spec : {M : Type 1} → statement M
 keep-spec =
-    tie.close
-    (tie.spec mul-pads element-write-pads add-pads mul-pads-2 element-write-pads-2 returns)
+    tie.close (tie.spec mul-pads element-write-pads add-pads mul-pads-2 element-write-pads-2 returns)

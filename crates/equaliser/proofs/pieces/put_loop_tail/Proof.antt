@@ -41,59 +41,11 @@ ended : (c : lts.After-put-bare2 claims reads.Pre reads.Post) →
     (back (back (e .put-bare .last .0) 12 (k .put-skip .last .0)) at (c .put-bare2 .last .0)) (at + 12)
 ended c = part-lent (recordBytes endRec) (skipped (c .before .before .before .before)) (c .put-bare2 .ensures) refl
 
-put-bare-requires : tie.Need-put-bare-requires
-put-bare-requires c κs = search needs
-
-sub-put-skip : tie.Need-sub-put-skip
-sub-put-skip c = search needs
-
-part-put-skip-start : tie.Need-part-put-skip-start
-part-put-skip-start c = search needs
-
-part-put-skip-end : tie.Need-part-put-skip-end
-part-put-skip-end c = search needs
-
 put-skip-requires : tie.Need-put-skip-requires
 put-skip-requires c κs =
     let e = c .before .before .before in
     let s = e .before .before .before in
     part-fits (skipBytes (s .args .body)) _ (else-laid (s .args .body) (s .args .out .now) (s .pre) (e .put-bare .ensures))
-
-add-at : tie.Need-add-at
-add-at c = omega (arith, part-room (skipped (c .before .before)))
-
-sub-put-bare : tie.Need-sub-put-bare
-sub-put-bare c = part-at (skipped (c .before .before))
-
-part-put-bare-start : tie.Need-part-put-bare-start
-part-put-bare-start c = part-at (skipped (c .before .before))
-
-part-put-bare-end : tie.Need-part-put-bare-end
-part-put-bare-end c = search needs
-
-put-bare-requires-2 : tie.Need-put-bare-requires-2
-put-bare-requires-2 c κs = part-fits (recordBytes endRec) (recordBytes endRec) (skipped (c .before .before .before))
-
-add-last : tie.Need-add-last
-add-last c = omega (arith, part-room (ended (c .before .before)))
-
-sub-put-bare-2 : tie.Need-sub-put-bare-2
-sub-put-bare-2 c = part-at (ended (c .before .before))
-
-part-put-bare-start-2 : tie.Need-part-put-bare-start-2
-part-put-bare-start-2 c = part-at (ended (c .before .before))
-
-part-put-bare-end-2 : tie.Need-part-put-bare-end-2
-part-put-bare-end-2 c = search needs
-
-put-bare-requires-3 : tie.Need-put-bare-requires-3
-put-bare-requires-3 c κs = part-fits-last (ended (c .before .before .before))
-
-add-result : tie.Need-add-result
-add-result c = omega (arith, part-room (ended (c .before .before .before .before .before .before)))
-
-same-length : tie.Need-same-length
-same-length c = search needs
 
 returns : tie.Need-returns
 returns c =
@@ -102,23 +54,10 @@ returns c =
 
 pub put-loop-tail-spec : {M : Type 1} → statement M
 put-loop-tail-spec =
-    tie.close
-    (tie.spec
-    put-bare-requires
-    sub-put-skip
-    part-put-skip-start
-    part-put-skip-end
-    put-skip-requires
-    add-at
-    sub-put-bare
-    part-put-bare-start
-    part-put-bare-end
-    put-bare-requires-2
-    add-last
-    sub-put-bare-2
-    part-put-bare-start-2
-    part-put-bare-end-2
-    put-bare-requires-3
-    add-result
-    same-length
-    returns)
+    tie.close (tie.spec (search needs) (search needs) (search needs) (search needs) put-skip-requires
+    (λ c. omega (arith, part-room (skipped (c .before .before)))) (λ c. part-at (skipped (c .before .before)))
+    (λ c. part-at (skipped (c .before .before))) (search needs)
+    (λ c κs. part-fits (recordBytes endRec) (recordBytes endRec) (skipped (c .before .before .before)))
+    (λ c. omega (arith, part-room (ended (c .before .before)))) (λ c. part-at (ended (c .before .before)))
+    (λ c. part-at (ended (c .before .before))) (search needs) (λ c κs. part-fits-last (ended (c .before .before .before)))
+    (λ c. omega (arith, part-room (ended (c .before .before .before .before .before .before)))) (search needs) returns)

@@ -42,12 +42,8 @@ use Rattle.records.proofs.put_bare.Reads as put-bare-reads
 use Rattle.records.proofs.put_record.Reads as put-record-reads
 use Rattle.records.proofs.record_at.Reads as record-at-reads
 use Rattle.records.proofs.skips.put_skip.Reads as put-skip-reads
-use Rattle.equaliser.proofs.write.+write_block+write_branch+write_inner+write_loop+write_statement.{
-  statement,
-}
-use Rattle.equaliser.proofs.write.+write_block+write_branch+write_inner+write_loop+write_statement.Tie.{
-  close,
-}
+use Rattle.equaliser.proofs.write.+write_block+write_branch+write_inner+write_loop+write_statement.{statement}
+use Rattle.equaliser.proofs.write.+write_block+write_branch+write_inner+write_loop+write_statement.Tie.{close}
 
 abbrev μ-write-block : Measures 3 write-block-kinds.ps ℕ
 μ-write-block κs a = 4 * (a .1 .1 .0 - a .1 .0) + 3
@@ -65,56 +61,34 @@ abbrev μ-write-statement : Measures 3 write-statement-kinds.ps ℕ
 μ-write-statement κs a = 4 * (a .1 .1 .0 - a .1 .0) + 2
 
 abbrev write-block-at : ℕ → In 3 write-block-kinds.ps
-write-block-at t =
-    and 3 write-block-kinds.ps (is 3 write-block-kinds.ps μ-write-block t) write-block.Pre
+write-block-at t = and 3 write-block-kinds.ps (is 3 write-block-kinds.ps μ-write-block t) write-block.Pre
 
 abbrev write-block-below : ℕ → In 3 write-block-kinds.ps
-write-block-below t =
-    and 3 write-block-kinds.ps (falls 3 write-block-kinds.ps _<_ μ-write-block t) write-block.Pre
+write-block-below t = and 3 write-block-kinds.ps (falls 3 write-block-kinds.ps _<_ μ-write-block t) write-block.Pre
 
 abbrev write-branch-at : ℕ → In 3 write-branch-kinds.ps
-write-branch-at t =
-    and 3 write-branch-kinds.ps (is 3 write-branch-kinds.ps μ-write-branch t) write-branch.Pre
+write-branch-at t = and 3 write-branch-kinds.ps (is 3 write-branch-kinds.ps μ-write-branch t) write-branch.Pre
 
 abbrev write-branch-below : ℕ → In 3 write-branch-kinds.ps
-write-branch-below t =
-    and
-    3
-    write-branch-kinds.ps
-    (falls 3 write-branch-kinds.ps _<_ μ-write-branch t)
-    write-branch.Pre
+write-branch-below t = and 3 write-branch-kinds.ps (falls 3 write-branch-kinds.ps _<_ μ-write-branch t) write-branch.Pre
 
 abbrev write-inner-at : ℕ → In 3 write-inner-kinds.ps
-write-inner-at t =
-    and 3 write-inner-kinds.ps (is 3 write-inner-kinds.ps μ-write-inner t) write-inner.Pre
+write-inner-at t = and 3 write-inner-kinds.ps (is 3 write-inner-kinds.ps μ-write-inner t) write-inner.Pre
 
 abbrev write-inner-below : ℕ → In 3 write-inner-kinds.ps
-write-inner-below t =
-    and 3 write-inner-kinds.ps (falls 3 write-inner-kinds.ps _<_ μ-write-inner t) write-inner.Pre
+write-inner-below t = and 3 write-inner-kinds.ps (falls 3 write-inner-kinds.ps _<_ μ-write-inner t) write-inner.Pre
 
 abbrev write-loop-at : ℕ → In 3 write-loop-kinds.ps
-write-loop-at t =
-    and 3 write-loop-kinds.ps (is 3 write-loop-kinds.ps μ-write-loop t) write-loop.Pre
+write-loop-at t = and 3 write-loop-kinds.ps (is 3 write-loop-kinds.ps μ-write-loop t) write-loop.Pre
 
 abbrev write-loop-below : ℕ → In 3 write-loop-kinds.ps
-write-loop-below t =
-    and 3 write-loop-kinds.ps (falls 3 write-loop-kinds.ps _<_ μ-write-loop t) write-loop.Pre
+write-loop-below t = and 3 write-loop-kinds.ps (falls 3 write-loop-kinds.ps _<_ μ-write-loop t) write-loop.Pre
 
 abbrev write-statement-at : ℕ → In 3 write-statement-kinds.ps
-write-statement-at t =
-    and
-    3
-    write-statement-kinds.ps
-    (is 3 write-statement-kinds.ps μ-write-statement t)
-    write-statement.Pre
+write-statement-at t = and 3 write-statement-kinds.ps (is 3 write-statement-kinds.ps μ-write-statement t) write-statement.Pre
 
 abbrev write-statement-below : ℕ → In 3 write-statement-kinds.ps
-write-statement-below t =
-    and
-    3
-    write-statement-kinds.ps
-    (falls 3 write-statement-kinds.ps _<_ μ-write-statement t)
-    write-statement.Pre
+write-statement-below t = and 3 write-statement-kinds.ps (falls 3 write-statement-kinds.ps _<_ μ-write-statement t) write-statement.Pre
 
 abbrev write-block-Inv-loop : write-block-lts.InvT-loop
 write-block-Inv-loop s from to pad pads out₀ at₀ wait₀ next₀ out at wait next = (F : BlockFits s from to pad pads out₀) → Writing F out at wait next
@@ -153,23 +127,11 @@ going : (t : ℕ) (c : write-block-lts.Else1 (write-block-claims t) (write-block
     closesBlock (kindAt (c .before .before .before .before .before .before .before .args .s .now) (c .before .before .before .before .loop .next)) ≡ false
 going t c = closing-told (c .before .before .kind-at .ensures) (c .before .closes .ensures) (c .if1 .left)
 
-write-block-loop-holds : (t : ℕ) → write-block-lts.Need-loop-holds (write-block-claims t) (write-block-at t) write-block.Post write-block-Inv-loop write-block-μ-loop
-write-block-loop-holds t c = λ F. writing-start F
-
-write-block-kind-at-requires : (t : ℕ) → write-block-lts.Need-kind-at-requires (write-block-claims t) (write-block-at t) write-block.Post write-block-Inv-loop write-block-μ-loop
-write-block-kind-at-requires t c κs = omega arith
-
-write-block-closes-requires : (t : ℕ) → write-block-lts.Need-closes-requires (write-block-claims t) (write-block-at t) write-block.Post write-block-Inv-loop write-block-μ-loop
-write-block-closes-requires t c κs = search needs
-
 write-block-sub-write-statement : (t : ℕ) → write-block-lts.Need-sub-write-statement (write-block-claims t) (write-block-at t) write-block.Post write-block-Inv-loop write-block-μ-loop
 write-block-sub-write-statement t c = part-at (c .before .before .before .before .loop .inv (c .before .before .before .before .before .before .before .pre .1) .part)
 
 write-block-part-write-statement-start : (t : ℕ) → write-block-lts.Need-part-write-statement-start (write-block-claims t) (write-block-at t) write-block.Post write-block-Inv-loop write-block-μ-loop
 write-block-part-write-statement-start t c = part-at (c .before .before .before .before .loop .inv (c .before .before .before .before .before .before .before .pre .1) .part)
-
-write-block-part-write-statement-end : (t : ℕ) → write-block-lts.Need-part-write-statement-end (write-block-claims t) (write-block-at t) write-block.Post write-block-Inv-loop write-block-μ-loop
-write-block-part-write-statement-end t c = search needs
 
 write-block-write-statement-requires : (t : ℕ) → write-block-lts.Need-write-statement-requires (write-block-claims t) (write-block-at t) write-block.Post write-block-Inv-loop write-block-μ-loop
 write-block-write-statement-requires t c κs =
@@ -220,21 +182,6 @@ write-block-loop-less t c =
           (going t (c .before .before .before .before .before)) (c .before .before .before .write-statement .ensures),
       at-loop-test .loop-test .taken,
     )
-
-write-block-loop-again : (t : ℕ) → write-block-lts.Need-loop-again (write-block-claims t) (write-block-at t) write-block.Post write-block-Inv-loop write-block-μ-loop
-write-block-loop-again t c = λ F. turned t c F
-
-write-block-sub-put-skip : (t : ℕ) → write-block-lts.Need-sub-put-skip (write-block-claims t) (write-block-at t) write-block.Post write-block-Inv-loop write-block-μ-loop
-write-block-sub-put-skip t c = part-at (c .before .loop .inv (c .before .before .before .before .pre .1) .part)
-
-write-block-part-put-skip-start : (t : ℕ) → write-block-lts.Need-part-put-skip-start (write-block-claims t) (write-block-at t) write-block.Post write-block-Inv-loop write-block-μ-loop
-write-block-part-put-skip-start t c = part-at (c .before .loop .inv (c .before .before .before .before .pre .1) .part)
-
-write-block-part-put-skip-end : (t : ℕ) → write-block-lts.Need-part-put-skip-end (write-block-claims t) (write-block-at t) write-block.Post write-block-Inv-loop write-block-μ-loop
-write-block-part-put-skip-end t c = search needs
-
-write-block-add-put-skip : (t : ℕ) → write-block-lts.Need-add-put-skip (write-block-claims t) (write-block-at t) write-block.Post write-block-Inv-loop write-block-μ-loop
-write-block-add-put-skip t c = omega (arith, c .before .before .loop .inv (c .before .before .before .before .before .pre .1) .within)
 
 write-block-put-skip-requires : (t : ℕ) → write-block-lts.Need-put-skip-requires (write-block-claims t) (write-block-at t) write-block.Post write-block-Inv-loop write-block-μ-loop
 write-block-put-skip-requires t c κs =
@@ -327,23 +274,11 @@ write-branch-put-record-requires t c κs =
     let start = c .before .before .before in
     test-fits (start .pre .1 .0) (start .pre .1 .1) (start .pre .1 .2)
 
-write-branch-add-write-block : (t : ℕ) → write-branch-lts.Need-add-write-block (write-branch-claims t) (write-branch-at t) write-branch.Post
-write-branch-add-write-block t c = omega arith
-
-write-branch-mul-write-block : (t : ℕ) → write-branch-lts.Need-mul-write-block (write-branch-claims t) (write-branch-at t) write-branch.Post
-write-branch-mul-write-block t c = omega arith
-
-write-branch-element-copy-out-write-block : (t : ℕ) → write-branch-lts.Need-element-copy-out-write-block (write-branch-claims t) (write-branch-at t) write-branch.Post
-write-branch-element-copy-out-write-block t c = omega arith
-
 write-branch-sub-write-block : (t : ℕ) → write-branch-lts.Need-sub-write-block (write-branch-claims t) (write-branch-at t) write-branch.Post
 write-branch-sub-write-block t c = part-at (branch-test t (c .before .before .before) (c .before .before .before .before .before .before .before .pre .1 .0) .part)
 
 write-branch-part-write-block-start : (t : ℕ) → write-branch-lts.Need-part-write-block-start (write-branch-claims t) (write-branch-at t) write-branch.Post
 write-branch-part-write-block-start t c = part-at (branch-test t (c .before .before .before) (c .before .before .before .before .before .before .before .pre .1 .0) .part)
-
-write-branch-part-write-block-end : (t : ℕ) → write-branch-lts.Need-part-write-block-end (write-branch-claims t) (write-branch-at t) write-branch.Post
-write-branch-part-write-block-end t c = search needs
 
 write-branch-write-block-requires : (t : ℕ) → write-branch-lts.Need-write-block-requires (write-branch-claims t) (write-branch-at t) write-branch.Post
 write-branch-write-block-requires t c κs =
@@ -365,9 +300,6 @@ write-branch-part-put-bare-start t c =
     let start = c .before .before .before .before .before .before .before .before .before .before .before .before in
     part-at (branch-first t (c .before .before .before) (start .pre .1 .0) .part)
 
-write-branch-part-put-bare-end : (t : ℕ) → write-branch-lts.Need-part-put-bare-end (write-branch-claims t) (write-branch-at t) write-branch.Post
-write-branch-part-put-bare-end t c = search needs
-
 write-branch-put-bare-requires : (t : ℕ) → write-branch-lts.Need-put-bare-requires (write-branch-claims t) (write-branch-at t) write-branch.Post
 write-branch-put-bare-requires t c κs =
     let start = c .before .before .before .before .before .before .before .before .before .before .before .before .before in
@@ -388,15 +320,6 @@ write-branch-add-write-block-2 t c =
           .statement .task .few,
     )
 
-write-branch-add-write-block-3 : (t : ℕ) → write-branch-lts.Need-add-write-block-3 (write-branch-claims t) (write-branch-at t) write-branch.Post
-write-branch-add-write-block-3 t c = omega arith
-
-write-branch-mul-write-block-2 : (t : ℕ) → write-branch-lts.Need-mul-write-block-2 (write-branch-claims t) (write-branch-at t) write-branch.Post
-write-branch-mul-write-block-2 t c = omega arith
-
-write-branch-element-copy-out-write-block-2 : (t : ℕ) → write-branch-lts.Need-element-copy-out-write-block-2 (write-branch-claims t) (write-branch-at t) write-branch.Post
-write-branch-element-copy-out-write-block-2 t c = omega arith
-
 write-branch-sub-write-block-2 : (t : ℕ) → write-branch-lts.Need-sub-write-block-2 (write-branch-claims t) (write-branch-at t) write-branch.Post
 write-branch-sub-write-block-2 t c =
     let start = c .before .before .before .before .before .before .before .before .before .before .before .before .before .before .before .before .before .before in
@@ -406,9 +329,6 @@ write-branch-part-write-block-start-2 : (t : ℕ) → write-branch-lts.Need-part
 write-branch-part-write-block-start-2 t c =
     let start = c .before .before .before .before .before .before .before .before .before .before .before .before .before .before .before .before .before .before in
     part-at (branch-else t (c .before .before .before .before) (start .pre .1 .0) .part)
-
-write-branch-part-write-block-end-2 : (t : ℕ) → write-branch-lts.Need-part-write-block-end-2 (write-branch-claims t) (write-branch-at t) write-branch.Post
-write-branch-part-write-block-end-2 t c = search needs
 
 write-branch-write-block-requires-2 : (t : ℕ) → write-branch-lts.Need-write-block-requires-2 (write-branch-claims t) (write-branch-at t) write-branch.Post
 write-branch-write-block-requires-2 t c κs =
@@ -441,9 +361,6 @@ write-branch-part-put-bare-start-2 t c =
     let start = c .before .before .before .before .before .before .before .before .before .before .before .before .before .before .before .before .before .before .before
     .before .before .before .before in
     part-at (branch-second t (c .before .before .before) (start .pre .1 .0) .part)
-
-write-branch-part-put-bare-end-2 : (t : ℕ) → write-branch-lts.Need-part-put-bare-end-2 (write-branch-claims t) (write-branch-at t) write-branch.Post
-write-branch-part-put-bare-end-2 t c = search needs
 
 write-branch-put-bare-requires-2 : (t : ℕ) → write-branch-lts.Need-put-bare-requires-2 (write-branch-claims t) (write-branch-at t) write-branch.Post
 write-branch-put-bare-requires-2 t c κs =
@@ -489,22 +406,10 @@ write-inner-write-branch-requires t c κs =
     let start = c .before .before .before .before .before in
     (omega arith, (start .pre .1 .0, start .pre .1 .1, sym (ap (λ (x : Rec). x .kind) (start .pre .1 .1)) ∙ c .before .if1 .taken))
 
-write-inner-same-length : (t : ℕ) → write-inner-lts.Need-same-length (write-inner-claims t) (write-inner-at t) write-inner.Post
-write-inner-same-length t c = search needs
-
-write-inner-returns : (t : ℕ) → write-inner-lts.Need-returns (write-inner-claims t) (write-inner-at t) write-inner.Post
-write-inner-returns t c = c .before .before .write-branch .ensures
-
 write-inner-write-loop-requires : (t : ℕ) → write-inner-lts.Need-write-loop-requires (write-inner-claims t) (write-inner-at t) write-inner.Post
 write-inner-write-loop-requires t c κs =
     let start = c .before .before .before .before .before in
     (omega arith, (start .pre .1 .0, start .pre .1 .1, start .pre .1 .2, λ k. c .before .if1 .left (ap (λ (x : Rec). x .kind) (start .pre .1 .1) ∙ k)))
-
-write-inner-same-length-2 : (t : ℕ) → write-inner-lts.Need-same-length-2 (write-inner-claims t) (write-inner-at t) write-inner.Post
-write-inner-same-length-2 t c = search needs
-
-write-inner-returns-2 : (t : ℕ) → write-inner-lts.Need-returns-2 (write-inner-claims t) (write-inner-at t) write-inner.Post
-write-inner-returns-2 t c = c .before .before .write-loop .ensures
 
 -- what is laid once the head of the loop is written, and once its body is
 loop-head : (t : ℕ) (c : write-loop-lts.After-put-loop-head (write-loop-claims t) (write-loop-at t) write-loop.Post)
@@ -534,17 +439,11 @@ write-loop-put-loop-head-requires t c κs =
     let start = c .before .before .before in
     head-fits (start .pre .1 .0) (start .pre .1 .1) (start .pre .1 .2) (start .pre .1 .3)
 
-write-loop-add-write-block : (t : ℕ) → write-loop-lts.Need-add-write-block (write-loop-claims t) (write-loop-at t) write-loop.Post
-write-loop-add-write-block t c = omega arith
-
 write-loop-sub-write-block : (t : ℕ) → write-loop-lts.Need-sub-write-block (write-loop-claims t) (write-loop-at t) write-loop.Post
 write-loop-sub-write-block t c = part-at (loop-head t (c .before .before) (c .before .before .before .before .before .before .pre .1 .0) .part)
 
 write-loop-part-write-block-start : (t : ℕ) → write-loop-lts.Need-part-write-block-start (write-loop-claims t) (write-loop-at t) write-loop.Post
 write-loop-part-write-block-start t c = part-at (loop-head t (c .before .before) (c .before .before .before .before .before .before .pre .1 .0) .part)
-
-write-loop-part-write-block-end : (t : ℕ) → write-loop-lts.Need-part-write-block-end (write-loop-claims t) (write-loop-at t) write-loop.Post
-write-loop-part-write-block-end t c = search needs
 
 write-loop-write-block-requires : (t : ℕ) → write-loop-lts.Need-write-block-requires (write-loop-claims t) (write-loop-at t) write-loop.Post
 write-loop-write-block-requires t c κs =
@@ -565,15 +464,6 @@ write-loop-part-put-loop-tail-start : (t : ℕ) → write-loop-lts.Need-part-put
 write-loop-part-put-loop-tail-start t c =
     let start = c .before .before .before .before .before .before .before .before .before .before .before in
     part-at (loop-body t (c .before .before .before) (start .pre .1 .0) .part)
-
-write-loop-part-put-loop-tail-end : (t : ℕ) → write-loop-lts.Need-part-put-loop-tail-end (write-loop-claims t) (write-loop-at t) write-loop.Post
-write-loop-part-put-loop-tail-end t c = search needs
-
-write-loop-mul-put-loop-tail : (t : ℕ) → write-loop-lts.Need-mul-put-loop-tail (write-loop-claims t) (write-loop-at t) write-loop.Post
-write-loop-mul-put-loop-tail t c = omega arith
-
-write-loop-element-copy-out-put-loop-tail : (t : ℕ) → write-loop-lts.Need-element-copy-out-put-loop-tail (write-loop-claims t) (write-loop-at t) write-loop.Post
-write-loop-element-copy-out-put-loop-tail t c = omega arith
 
 write-loop-put-loop-tail-requires : (t : ℕ) → write-loop-lts.Need-put-loop-tail-requires (write-loop-claims t) (write-loop-at t) write-loop.Post
 write-loop-put-loop-tail-requires t c κs =
@@ -602,9 +492,6 @@ write-loop-add-t13 t c =
           .0 .statement .task .few,
     )
 
-write-loop-same-length : (t : ℕ) → write-loop-lts.Need-same-length (write-loop-claims t) (write-loop-at t) write-loop.Post
-write-loop-same-length t c = search needs
-
 write-loop-returns : (t : ℕ) → write-loop-lts.Need-returns (write-loop-claims t) (write-loop-at t) write-loop.Post
 write-loop-returns t c =
     let at-write-block = c .before .before .before .before .before .before .before .before .before in
@@ -622,23 +509,14 @@ step-begun : (t : ℕ) (c : write-statement-lts.After-put-skip (write-statement-
     (c .before .before .before .before .record-at .ensures) (c .before .before .if1 .left) (c .put-skip .last .0) (c .put-skip .result)
 step-begun t c F = begun F (c .before .before .before .before .record-at .ensures) (c .before .before .if1 .left) (c .put-skip .ensures)
 
-write-statement-record-at-requires : (t : ℕ) → write-statement-lts.Need-record-at-requires (write-statement-claims t) (write-statement-at t) write-statement.Post
-write-statement-record-at-requires t c κs = omega arith
-
 write-statement-add-wait : (t : ℕ) → write-statement-lts.Need-add-wait (write-statement-claims t) (write-statement-at t) write-statement.Post
 write-statement-add-wait t c = omega (arith, skip-short (c .before .before .before .before .before .before .pre .1) (c .before .before .before .record-at .ensures) (c .before .if1 .taken))
-
-write-statement-add-t12 : (t : ℕ) → write-statement-lts.Need-add-t12 (write-statement-claims t) (write-statement-at t) write-statement.Post
-write-statement-add-t12 t c = omega arith
 
 write-statement-returns : (t : ℕ) → write-statement-lts.Need-returns (write-statement-claims t) (write-statement-at t) write-statement.Post
 write-statement-returns t c = record { right = λ F. skip-written F (c .before .before .before .record-at .ensures) (c .before .if1 .taken) }
 
 write-statement-put-skip-requires : (t : ℕ) → write-statement-lts.Need-put-skip-requires (write-statement-claims t) (write-statement-at t) write-statement.Post
 write-statement-put-skip-requires t c κs = skip-fits (c .before .before .before .before .before .before .pre .1) (c .before .before .before .record-at .ensures) (c .before .if1 .left)
-
-write-statement-opens-requires : (t : ℕ) → write-statement-lts.Need-opens-requires (write-statement-claims t) (write-statement-at t) write-statement.Post
-write-statement-opens-requires t c κs = search needs
 
 write-statement-sub-write-inner : (t : ℕ) → write-statement-lts.Need-sub-write-inner (write-statement-claims t) (write-statement-at t) write-statement.Post
 write-statement-sub-write-inner t c =
@@ -649,9 +527,6 @@ write-statement-part-write-inner-start : (t : ℕ) → write-statement-lts.Need-
 write-statement-part-write-inner-start t c =
     let start = c .before .before .before .before .before .before .before .before .before .before .before in
     part-at (step-begun t (c .before .before .before .before) (start .pre .1) .part)
-
-write-statement-part-write-inner-end : (t : ℕ) → write-statement-lts.Need-part-write-inner-end (write-statement-claims t) (write-statement-at t) write-statement.Post
-write-statement-part-write-inner-end t c = search needs
 
 write-statement-write-inner-requires : (t : ℕ) → write-statement-lts.Need-write-inner-requires (write-statement-claims t) (write-statement-at t) write-statement.Post
 write-statement-write-inner-requires t c κs =
@@ -678,9 +553,6 @@ write-statement-add-t17 t c =
       start .good .1 .1 .1 .1 .1 .0 .0,
     )
 
-write-statement-same-length : (t : ℕ) → write-statement-lts.Need-same-length (write-statement-claims t) (write-statement-at t) write-statement.Post
-write-statement-same-length t c = search needs
-
 write-statement-returns-2 : (t : ℕ) → write-statement-lts.Need-returns-2 (write-statement-claims t) (write-statement-at t) write-statement.Post
 write-statement-returns-2 t c =
     let at-put-skip = c .before .before .before .before .before .before .before .before .before in
@@ -700,18 +572,12 @@ write-statement-part-put-record-start t c =
     let start = c .before .before .before .before .before .before .before .before .before .before .before in
     part-at (step-begun t (c .before .before .before .before) (start .pre .1) .part)
 
-write-statement-part-put-record-end : (t : ℕ) → write-statement-lts.Need-part-put-record-end (write-statement-claims t) (write-statement-at t) write-statement.Post
-write-statement-part-put-record-end t c = search needs
-
 write-statement-put-record-requires : (t : ℕ) → write-statement-lts.Need-put-record-requires (write-statement-claims t) (write-statement-at t) write-statement.Post
 write-statement-put-record-requires t c κs =
     let at-record-at = c .before .before .before .before .before .before .before .before .before in
     let start = at-record-at .before .before .before in
     act-fits (start .pre .1) (at-record-at .record-at .ensures) (c .before .before .before .before .before .before .before .if1 .left)
     (step-begun t (c .before .before .before .before .before) (start .pre .1)) (sym (c .before .before .opens .ensures) ∙ c .before .if2 .left)
-
-write-statement-add-t22 : (t : ℕ) → write-statement-lts.Need-add-t22 (write-statement-claims t) (write-statement-at t) write-statement.Post
-write-statement-add-t22 t c = omega arith
 
 write-statement-add-t25 : (t : ℕ) → write-statement-lts.Need-add-t25 (write-statement-claims t) (write-statement-at t) write-statement.Post
 write-statement-add-t25 t c =
@@ -725,9 +591,6 @@ write-statement-add-t25 t c =
           .good .1 .1 .1 .1 .1 .0 .0,
     )
 
-write-statement-same-length-2 : (t : ℕ) → write-statement-lts.Need-same-length-2 (write-statement-claims t) (write-statement-at t) write-statement.Post
-write-statement-same-length-2 t c = search needs
-
 write-statement-returns-3 : (t : ℕ) → write-statement-lts.Need-returns-3 (write-statement-claims t) (write-statement-at t) write-statement.Post
 write-statement-returns-3 t c =
     let at-put-skip = c .before .before .before .before .before .before .before .before in
@@ -737,117 +600,35 @@ write-statement-returns-3 t c =
           (c .before .before .put-record .ensures);
     }
 
-pub +write-block+write-branch+write-inner+write-loop+write-statement-spec :
-    {M : Type 1} → statement M
+pub +write-block+write-branch+write-inner+write-loop+write-statement-spec : {M : Type 1} → statement M
 +write-block+write-branch+write-inner+write-loop+write-statement-spec =
-    close
-    μ-write-block
-    μ-write-branch
-    μ-write-inner
-    μ-write-loop
-    μ-write-statement
-    (λ t. write-block-lts.spec (write-block-claims t) (write-block-at t)
-    write-block.Post
-    write-block-Inv-loop
-    write-block-μ-loop
-    (write-block-loop-holds t)
-    (write-block-kind-at-requires t)
-    (write-block-closes-requires t)
-    (write-block-sub-write-statement t)
-    (write-block-part-write-statement-start t)
-    (write-block-part-write-statement-end t)
-    (write-block-write-statement-requires t)
-    (write-block-add-at t)
-    (write-block-loop-less t)
-    (write-block-loop-again t)
-    (write-block-sub-put-skip t)
-    (write-block-part-put-skip-start t)
-    (write-block-part-put-skip-end t)
-    (write-block-add-put-skip t)
-    (write-block-put-skip-requires t)
-    (write-block-add-bytes t)
-    (write-block-same-length t)
-    (write-block-returns t))
-    (λ t. write-branch-lts.spec (write-branch-claims t) (write-branch-at t)
-    write-branch.Post
-    (write-branch-put-record-requires t)
-    (write-branch-add-write-block t)
-    (write-branch-mul-write-block t)
-    (write-branch-element-copy-out-write-block t)
-    (write-branch-sub-write-block t)
-    (write-branch-part-write-block-start t)
-    (write-branch-part-write-block-end t)
-    (write-branch-write-block-requires t)
-    (write-branch-add-middle t)
-    (write-branch-sub-put-bare t)
-    (write-branch-part-put-bare-start t)
-    (write-branch-part-put-bare-end t)
-    (write-branch-put-bare-requires t)
-    (write-branch-add-start t)
-    (write-branch-add-write-block-2 t)
-    (write-branch-add-write-block-3 t)
-    (write-branch-mul-write-block-2 t)
-    (write-branch-element-copy-out-write-block-2 t)
-    (write-branch-sub-write-block-2 t)
-    (write-branch-part-write-block-start-2 t)
-    (write-branch-part-write-block-end-2 t)
-    (write-branch-write-block-requires-2 t)
-    (write-branch-add-last t)
-    (write-branch-sub-put-bare-2 t)
-    (write-branch-part-put-bare-start-2 t)
-    (write-branch-part-put-bare-end-2 t)
-    (write-branch-put-bare-requires-2 t)
-    (write-branch-add-t15 t)
-    (write-branch-add-t30 t)
-    (write-branch-same-length t)
+    close μ-write-block μ-write-branch μ-write-inner μ-write-loop μ-write-statement
+    (λ t. write-block-lts.spec (write-block-claims t) (write-block-at t) write-block.Post write-block-Inv-loop write-block-μ-loop
+    (λ c. λ F. writing-start F) (omega arith) (search needs) (write-block-sub-write-statement t) (write-block-part-write-statement-start t)
+    (search needs) (write-block-write-statement-requires t) (write-block-add-at t) (write-block-loop-less t) (λ c. λ F. turned t c F)
+    (λ c. part-at (c .before .loop .inv (c .before .before .before .before .pre .1) .part))
+    (λ c. part-at (c .before .loop .inv (c .before .before .before .before .pre .1) .part)) (search needs)
+    (λ c. omega (arith, c .before .before .loop .inv (c .before .before .before .before .before .pre .1) .within))
+    (write-block-put-skip-requires t) (write-block-add-bytes t) (write-block-same-length t) (write-block-returns t))
+    (λ t. write-branch-lts.spec (write-branch-claims t) (write-branch-at t) write-branch.Post (write-branch-put-record-requires t)
+    (omega arith) (omega arith) (omega arith) (write-branch-sub-write-block t) (write-branch-part-write-block-start t) (search needs)
+    (write-branch-write-block-requires t) (write-branch-add-middle t) (write-branch-sub-put-bare t) (write-branch-part-put-bare-start t)
+    (search needs) (write-branch-put-bare-requires t) (write-branch-add-start t) (write-branch-add-write-block-2 t) (omega arith)
+    (omega arith) (omega arith) (write-branch-sub-write-block-2 t) (write-branch-part-write-block-start-2 t) (search needs)
+    (write-branch-write-block-requires-2 t) (write-branch-add-last t) (write-branch-sub-put-bare-2 t) (write-branch-part-put-bare-start-2 t)
+    (search needs) (write-branch-put-bare-requires-2 t) (write-branch-add-t15 t) (write-branch-add-t30 t) (write-branch-same-length t)
     (write-branch-returns t))
-    (λ t. write-inner-lts.spec (write-inner-claims t) (write-inner-at t)
-    write-inner.Post
-    (write-inner-write-branch-requires t)
-    (write-inner-same-length t)
-    (write-inner-returns t)
-    (write-inner-write-loop-requires t)
-    (write-inner-same-length-2 t)
-    (write-inner-returns-2 t))
-    (λ t. write-loop-lts.spec (write-loop-claims t) (write-loop-at t)
-    write-loop.Post
-    (write-loop-put-loop-head-requires t)
-    (write-loop-add-write-block t)
-    (write-loop-sub-write-block t)
-    (write-loop-part-write-block-start t)
-    (write-loop-part-write-block-end t)
-    (write-loop-write-block-requires t)
-    (write-loop-add-at t)
-    (write-loop-sub-put-loop-tail t)
-    (write-loop-part-put-loop-tail-start t)
-    (write-loop-part-put-loop-tail-end t)
-    (write-loop-mul-put-loop-tail t)
-    (write-loop-element-copy-out-put-loop-tail t)
-    (write-loop-put-loop-tail-requires t)
-    (write-loop-add-bytes t)
-    (write-loop-add-t13 t)
-    (write-loop-same-length t)
+    (λ t. write-inner-lts.spec (write-inner-claims t) (write-inner-at t) write-inner.Post (write-inner-write-branch-requires t)
+    (search needs) (λ c. c .before .before .write-branch .ensures) (write-inner-write-loop-requires t) (search needs)
+    (λ c. c .before .before .write-loop .ensures))
+    (λ t. write-loop-lts.spec (write-loop-claims t) (write-loop-at t) write-loop.Post (write-loop-put-loop-head-requires t) (omega arith)
+    (write-loop-sub-write-block t) (write-loop-part-write-block-start t) (search needs) (write-loop-write-block-requires t)
+    (write-loop-add-at t) (write-loop-sub-put-loop-tail t) (write-loop-part-put-loop-tail-start t) (search needs) (omega arith)
+    (omega arith) (write-loop-put-loop-tail-requires t) (write-loop-add-bytes t) (write-loop-add-t13 t) (search needs)
     (write-loop-returns t))
-    λ t. write-statement-lts.spec (write-statement-claims t) (write-statement-at t)
-    write-statement.Post
-    (write-statement-record-at-requires t)
-    (write-statement-add-wait t)
-    (write-statement-add-t12 t)
-    (write-statement-returns t)
-    (write-statement-put-skip-requires t)
-    (write-statement-opens-requires t)
-    (write-statement-sub-write-inner t)
-    (write-statement-part-write-inner-start t)
-    (write-statement-part-write-inner-end t)
-    (write-statement-write-inner-requires t)
-    (write-statement-add-t17 t)
-    (write-statement-same-length t)
-    (write-statement-returns-2 t)
-    (write-statement-sub-put-record t)
-    (write-statement-part-put-record-start t)
-    (write-statement-part-put-record-end t)
-    (write-statement-put-record-requires t)
-    (write-statement-add-t22 t)
-    (write-statement-add-t25 t)
-    (write-statement-same-length-2 t)
-    (write-statement-returns-3 t)
+    λ t. write-statement-lts.spec (write-statement-claims t) (write-statement-at t) write-statement.Post (omega arith)
+    (write-statement-add-wait t) (omega arith) (write-statement-returns t) (write-statement-put-skip-requires t) (search needs)
+    (write-statement-sub-write-inner t) (write-statement-part-write-inner-start t) (search needs) (write-statement-write-inner-requires t)
+    (write-statement-add-t17 t) (search needs) (write-statement-returns-2 t) (write-statement-sub-put-record t)
+    (write-statement-part-put-record-start t) (search needs) (write-statement-put-record-requires t) (omega arith)
+    (write-statement-add-t25 t) (search needs) (write-statement-returns-3 t)

@@ -46,12 +46,8 @@ use Rattle.placing.proofs.clock.stepped.Reads as stepped-reads
 use Rattle.reading.proofs.blocks.closes.Reads as closes-reads
 use Rattle.records.proofs.kind_at.Reads as kind-at-reads
 use Rattle.records.proofs.record_at.Reads as record-at-reads
-use Rattle.layout.proofs.measure.+measure_block+measure_branch+measure_inner+measure_rounds+measure_side.{
-  statement,
-}
-use Rattle.layout.proofs.measure.+measure_block+measure_branch+measure_inner+measure_rounds+measure_side.Tie.{
-  close,
-}
+use Rattle.layout.proofs.measure.+measure_block+measure_branch+measure_inner+measure_rounds+measure_side.{statement}
+use Rattle.layout.proofs.measure.+measure_block+measure_branch+measure_inner+measure_rounds+measure_side.Tie.{close}
 
 abbrev μ-measure-block : Measures 4 measure-block-kinds.ps ℕ
 μ-measure-block κs a = 6 * (a .1 .1 .0 - a .1 .0) + 4
@@ -69,72 +65,34 @@ abbrev μ-measure-side : Measures 4 measure-side-kinds.ps ℕ
 μ-measure-side κs a = 6 * (a .1 .1 .0 - a .1 .0) + 5
 
 abbrev measure-block-at : ℕ → In 4 measure-block-kinds.ps
-measure-block-at t =
-    and 4 measure-block-kinds.ps (is 4 measure-block-kinds.ps μ-measure-block t) measure-block.Pre
+measure-block-at t = and 4 measure-block-kinds.ps (is 4 measure-block-kinds.ps μ-measure-block t) measure-block.Pre
 
 abbrev measure-block-below : ℕ → In 4 measure-block-kinds.ps
-measure-block-below t =
-    and
-    4
-    measure-block-kinds.ps
-    (falls 4 measure-block-kinds.ps _<_ μ-measure-block t)
-    measure-block.Pre
+measure-block-below t = and 4 measure-block-kinds.ps (falls 4 measure-block-kinds.ps _<_ μ-measure-block t) measure-block.Pre
 
 abbrev measure-branch-at : ℕ → In 4 measure-branch-kinds.ps
-measure-branch-at t =
-    and
-    4
-    measure-branch-kinds.ps
-    (is 4 measure-branch-kinds.ps μ-measure-branch t)
-    measure-branch.Pre
+measure-branch-at t = and 4 measure-branch-kinds.ps (is 4 measure-branch-kinds.ps μ-measure-branch t) measure-branch.Pre
 
 abbrev measure-branch-below : ℕ → In 4 measure-branch-kinds.ps
-measure-branch-below t =
-    and
-    4
-    measure-branch-kinds.ps
-    (falls 4 measure-branch-kinds.ps _<_ μ-measure-branch t)
-    measure-branch.Pre
+measure-branch-below t = and 4 measure-branch-kinds.ps (falls 4 measure-branch-kinds.ps _<_ μ-measure-branch t) measure-branch.Pre
 
 abbrev measure-inner-at : ℕ → In 4 measure-inner-kinds.ps
-measure-inner-at t =
-    and 4 measure-inner-kinds.ps (is 4 measure-inner-kinds.ps μ-measure-inner t) measure-inner.Pre
+measure-inner-at t = and 4 measure-inner-kinds.ps (is 4 measure-inner-kinds.ps μ-measure-inner t) measure-inner.Pre
 
 abbrev measure-inner-below : ℕ → In 4 measure-inner-kinds.ps
-measure-inner-below t =
-    and
-    4
-    measure-inner-kinds.ps
-    (falls 4 measure-inner-kinds.ps _<_ μ-measure-inner t)
-    measure-inner.Pre
+measure-inner-below t = and 4 measure-inner-kinds.ps (falls 4 measure-inner-kinds.ps _<_ μ-measure-inner t) measure-inner.Pre
 
 abbrev measure-rounds-at : ℕ → In 4 measure-rounds-kinds.ps
-measure-rounds-at t =
-    and
-    4
-    measure-rounds-kinds.ps
-    (is 4 measure-rounds-kinds.ps μ-measure-rounds t)
-    measure-rounds.Pre
+measure-rounds-at t = and 4 measure-rounds-kinds.ps (is 4 measure-rounds-kinds.ps μ-measure-rounds t) measure-rounds.Pre
 
 abbrev measure-rounds-below : ℕ → In 4 measure-rounds-kinds.ps
-measure-rounds-below t =
-    and
-    4
-    measure-rounds-kinds.ps
-    (falls 4 measure-rounds-kinds.ps _<_ μ-measure-rounds t)
-    measure-rounds.Pre
+measure-rounds-below t = and 4 measure-rounds-kinds.ps (falls 4 measure-rounds-kinds.ps _<_ μ-measure-rounds t) measure-rounds.Pre
 
 abbrev measure-side-at : ℕ → In 4 measure-side-kinds.ps
-measure-side-at t =
-    and 4 measure-side-kinds.ps (is 4 measure-side-kinds.ps μ-measure-side t) measure-side.Pre
+measure-side-at t = and 4 measure-side-kinds.ps (is 4 measure-side-kinds.ps μ-measure-side t) measure-side.Pre
 
 abbrev measure-side-below : ℕ → In 4 measure-side-kinds.ps
-measure-side-below t =
-    and
-    4
-    measure-side-kinds.ps
-    (falls 4 measure-side-kinds.ps _<_ μ-measure-side t)
-    measure-side.Pre
+measure-side-below t = and 4 measure-side-kinds.ps (falls 4 measure-side-kinds.ps _<_ μ-measure-side t) measure-side.Pre
 
 abbrev measure-block-Inv-loop : measure-block-lts.InvT-loop
 measure-block-Inv-loop s from to t clock₀ meets₀ state₀ next₀ clock meets state next = Clocking s from to t clock₀ clock state next meets₀ meets
@@ -217,33 +175,12 @@ measure-rounds-claims t = (
 abbrev measure-side-claims : ℕ → measure-side-lts.Claims
 measure-side-claims t = (kind-at-reads.Asked, kind-at-reads.Learnt, closes-reads.Asked, closes-reads.Learnt, measure-block-below t, measure-block.Post)
 
-measure-block-load-requires : (t : ℕ) → measure-block-lts.Need-load-requires (measure-block-claims t) (measure-block-at t) measure-block.Post measure-block-Inv-loop measure-block-μ-loop
-measure-block-load-requires t c κs = search needs
-
-measure-block-loop-holds : (t : ℕ) → measure-block-lts.Need-loop-holds (measure-block-claims t) (measure-block-at t) measure-block.Post measure-block-Inv-loop measure-block-μ-loop
-measure-block-loop-holds t c = clocking-start ((c .before .before .before .pre) .1) ((c .load) .ensures)
-
-measure-block-record-at-requires : (t : ℕ) → measure-block-lts.Need-record-at-requires (measure-block-claims t) (measure-block-at t) measure-block.Post measure-block-Inv-loop measure-block-μ-loop
-measure-block-record-at-requires t c κs = omega (arith, (c .before .loop) .inv .measuring .passing .rest .file .inside)
-
-measure-block-closes-requires : (t : ℕ) → measure-block-lts.Need-closes-requires (measure-block-claims t) (measure-block-at t) measure-block.Post measure-block-Inv-loop measure-block-μ-loop
-measure-block-closes-requires t c κs = search needs
-
-measure-block-store-requires : (t : ℕ) → measure-block-lts.Need-store-requires (measure-block-claims t) (measure-block-at t) measure-block.Post measure-block-Inv-loop measure-block-μ-loop
-measure-block-store-requires t c κs = store-fits ((c .before .before .before .before .before .loop) .inv)
-
 measure-block-returns : (t : ℕ) → measure-block-lts.Need-returns (measure-block-claims t) (measure-block-at t) measure-block.Post measure-block-Inv-loop measure-block-μ-loop
 measure-block-returns t c =
     let at-loop = c .before .before .before .before .before .before in
     clocking-closed ((at-loop .loop) .inv) ((c .store) .ensures)
     (closing-told (ap (λ (y : Rec). y .kind) ((c .before .before .before .before .record-at) .ensures)) ((c .before .before .before .closes) .ensures)
     ((c .before .before .if1) .taken))
-
-measure-block-nests-requires : (t : ℕ) → measure-block-lts.Need-nests-requires (measure-block-claims t) (measure-block-at t) measure-block.Post measure-block-Inv-loop measure-block-μ-loop
-measure-block-nests-requires t c κs = search needs
-
-measure-block-store-requires-2 : (t : ℕ) → measure-block-lts.Need-store-requires-2 (measure-block-claims t) (measure-block-at t) measure-block.Post measure-block-Inv-loop measure-block-μ-loop
-measure-block-store-requires-2 t c κs = store-fits ((c .before .before .before .before .before .before .before .loop) .inv)
 
 measure-block-measure-inner-requires : (t : ℕ) → measure-block-lts.Need-measure-inner-requires (measure-block-claims t) (measure-block-at t) measure-block.Post measure-block-Inv-loop measure-block-μ-loop
 measure-block-measure-inner-requires t c κs =
@@ -259,12 +196,6 @@ measure-block-measure-inner-requires t c κs =
             ((c .before .before .before .before .if2) .taken)),
       ),
     )
-
-measure-block-load-requires-2 : (t : ℕ) → measure-block-lts.Need-load-requires-2 (measure-block-claims t) (measure-block-at t) measure-block.Post measure-block-Inv-loop measure-block-μ-loop
-measure-block-load-requires-2 t c κs = search needs
-
-measure-block-element-copy-out-if3 : (t : ℕ) → measure-block-lts.Need-element-copy-out-if3 (measure-block-claims t) (measure-block-at t) measure-block.Post measure-block-Inv-loop measure-block-μ-loop
-measure-block-element-copy-out-if3 t c = search needs
 
 measure-block-returns-2 : (t : ℕ) → measure-block-lts.Need-returns-2 (measure-block-claims t) (measure-block-at t) measure-block.Post measure-block-Inv-loop measure-block-μ-loop
 unfolding settingsIn
@@ -316,9 +247,6 @@ measure-block-add-next t c =
       (at-loop-test .before .before .before .before .before .good) .0 .0,
     )
 
-measure-block-element-copy-out-if4 : (t : ℕ) → measure-block-lts.Need-element-copy-out-if4 (measure-block-claims t) (measure-block-at t) measure-block.Post measure-block-Inv-loop measure-block-μ-loop
-measure-block-element-copy-out-if4 t c = search needs
-
 measure-block-store-requires-3 : (t : ℕ) → measure-block-lts.Need-store-requires-3 (measure-block-claims t) (measure-block-at t) measure-block.Post measure-block-Inv-loop measure-block-μ-loop
 measure-block-store-requires-3 t c κs =
     let at-nests = c .before .before .before .before .before .before in
@@ -341,9 +269,6 @@ measure-block-returns-3 t c =
     ((at-if2 .before .before .if1) .left)) ((at-record-at .record-at) .ensures) (sym ((at-if2 .before .nests) .ensures) ∙ (at-if2 .if2) .left)
     ((c .before .before .before .before .before .measure-step) .ensures) ((c .before .before .if4) .taken) ((c .store3) .ensures)
 
-measure-block-loop-less-2 : (t : ℕ) → measure-block-lts.Need-loop-less-2 (measure-block-claims t) (measure-block-at t) measure-block.Post measure-block-Inv-loop measure-block-μ-loop
-measure-block-loop-less-2 t c = omega (arith, (c .before .before .before .before .before .before .before .before .before .loop-test) .taken)
-
 measure-block-loop-again-2 : (t : ℕ) → measure-block-lts.Need-loop-again-2 (measure-block-claims t) (measure-block-at t) measure-block.Post measure-block-Inv-loop measure-block-μ-loop
 unfolding settingsIn
 measure-block-loop-again-2 t c =
@@ -354,17 +279,8 @@ measure-block-loop-again-2 t c =
     ((at-record-at .record-at) .ensures) (sym ((c .before .before .before .before .before .nests) .ensures) ∙ (c .before .before .before .before .if2) .left)
     ((c .before .before .before .measure-step) .ensures) ((c .if4) .left)
 
-measure-block-store-requires-4 : (t : ℕ) → measure-block-lts.Need-store-requires-4 (measure-block-claims t) (measure-block-at t) measure-block.Post measure-block-Inv-loop measure-block-μ-loop
-measure-block-store-requires-4 t c κs = store-fits ((c .before .before .loop) .inv)
-
 measure-block-returns-4 : (t : ℕ) → measure-block-lts.Need-returns-4 (measure-block-claims t) (measure-block-at t) measure-block.Post measure-block-Inv-loop measure-block-μ-loop
 measure-block-returns-4 t c = clocking-ended ((c .before .before .before .loop) .inv) ((c .store4) .ensures) ((c .before .before .loop-test) .left)
-
-measure-branch-settings-in-requires : (t : ℕ) → measure-branch-lts.Need-settings-in-requires (measure-branch-claims t) (measure-branch-at t) measure-branch.Post
-measure-branch-settings-in-requires t c κs = search needs
-
-measure-branch-load-requires : (t : ℕ) → measure-branch-lts.Need-load-requires (measure-branch-claims t) (measure-branch-at t) measure-branch.Post
-measure-branch-load-requires t c κs = search needs
 
 measure-branch-stepped-requires : (t : ℕ) → measure-branch-lts.Need-stepped-requires (measure-branch-claims t) (measure-branch-at t) measure-branch.Post
 measure-branch-stepped-requires t c κs =
@@ -376,9 +292,6 @@ measure-branch-store-requires t c κs =
     let start = c .before .before .before .before .before .before in
     test-few ((start .pre) .1 .0) ((c .before .before .before .before .settings-in) .ensures) ((c .before .before .load) .ensures) ((start .pre) .1 .1)
     ((c .before .stepped) .ensures)
-
-measure-branch-element-copy-out-if1 : (t : ℕ) → measure-branch-lts.Need-element-copy-out-if1 (measure-branch-claims t) (measure-branch-at t) measure-branch.Post
-measure-branch-element-copy-out-if1 t c = search needs
 
 measure-branch-returns : (t : ℕ) → measure-branch-lts.Need-returns (measure-branch-claims t) (measure-branch-at t) measure-branch.Post
 unfolding settingsIn
@@ -417,12 +330,6 @@ measure-branch-measure-side-requires t c κs =
       ),
     )
 
-measure-branch-load-requires-2 : (t : ℕ) → measure-branch-lts.Need-load-requires-2 (measure-branch-claims t) (measure-branch-at t) measure-branch.Post
-measure-branch-load-requires-2 t c κs = search needs
-
-measure-branch-element-copy-out-if2 : (t : ℕ) → measure-branch-lts.Need-element-copy-out-if2 (measure-branch-claims t) (measure-branch-at t) measure-branch.Post
-measure-branch-element-copy-out-if2 t c = search needs
-
 measure-branch-returns-2 : (t : ℕ) → measure-branch-lts.Need-returns-2 (measure-branch-claims t) (measure-branch-at t) measure-branch.Post
 unfolding settingsIn
 measure-branch-returns-2 t c =
@@ -432,9 +339,6 @@ measure-branch-returns-2 t c =
     one-late ((start .pre) .1 .0) ((at-stepped .before .before .before .settings-in) .ensures) ((at-stepped .before .load) .ensures) ((start .pre) .1 .1)
     ((at-stepped .stepped) .ensures) ((at-place .before .before .before .before .before .store) .ensures) ((at-place .before .before .if1) .left)
     ((at-place .place) .ensures .1) ((c .before .before .before .before .before .measure-side) .ensures) ((c .before .before .before .load2) .ensures) ((c .if2) .taken)
-
-measure-branch-back-requires : (t : ℕ) → measure-branch-lts.Need-back-requires (measure-branch-claims t) (measure-branch-at t) measure-branch.Post
-measure-branch-back-requires t c κs = search needs
 
 measure-branch-store-requires-2 : (t : ℕ) → measure-branch-lts.Need-store-requires-2 (measure-branch-claims t) (measure-branch-at t) measure-branch.Post
 unfolding settingsIn
@@ -535,12 +439,6 @@ measure-branch-measure-side-requires-2 t c κs = (
   ),
 )
 
-measure-branch-load-requires-3 : (t : ℕ) → measure-branch-lts.Need-load-requires-3 (measure-branch-claims t) (measure-branch-at t) measure-branch.Post
-measure-branch-load-requires-3 t c κs = search needs
-
-measure-branch-element-copy-out-if3 : (t : ℕ) → measure-branch-lts.Need-element-copy-out-if3 (measure-branch-claims t) (measure-branch-at t) measure-branch.Post
-measure-branch-element-copy-out-if3 t c = search needs
-
 measure-branch-returns-3 : (t : ℕ) → measure-branch-lts.Need-returns-3 (measure-branch-claims t) (measure-branch-at t) measure-branch.Post
 unfolding settingsIn
 measure-branch-returns-3 t c =
@@ -554,9 +452,6 @@ measure-branch-returns-3 t c =
     ((at-load2 .before .before .before .before .before .place) .ensures .1) ((at-load2 .before .before .measure-side) .ensures) ((at-load2 .load2) .ensures)
     ((at-store2 .before .before .before .if2) .left) ((at-store2 .before .before .back) .ensures) ((at-store2 .store2) .ensures)
     ((c .before .before .before .before .before .measure-side2) .ensures) ((c .before .before .before .load3) .ensures) ((c .if3) .taken)
-
-measure-branch-settings-in-requires-2 : (t : ℕ) → measure-branch-lts.Need-settings-in-requires-2 (measure-branch-claims t) (measure-branch-at t) measure-branch.Post
-measure-branch-settings-in-requires-2 t c κs = search needs
 
 measure-branch-meet-requires : (t : ℕ) → measure-branch-lts.Need-meet-requires (measure-branch-claims t) (measure-branch-at t) measure-branch.Post
 unfolding settingsIn
@@ -586,9 +481,6 @@ measure-branch-store-requires-3 t c κs =
     ((at-measure-side .measure-side) .ensures) ((at-back .before .before .before .before .load2) .ensures) ((at-back .before .if2) .left) ((at-back .back) .ensures)
     ((at-load3 .before .before .before .before .before .store2) .ensures) ((at-load3 .before .before .measure-side2) .ensures) ((at-load3 .load3) .ensures)
     ((c .before .before .before .if3) .left) ((c .before .before .settings-in2) .ensures) ((c .before .meet) .ensures)
-
-measure-branch-note-requires : (t : ℕ) → measure-branch-lts.Need-note-requires (measure-branch-claims t) (measure-branch-at t) measure-branch.Post
-measure-branch-note-requires t c κs = search needs
 
 measure-branch-add-result : (t : ℕ) → measure-branch-lts.Need-add-result (measure-branch-claims t) (measure-branch-at t) measure-branch.Post
 unfolding settingsIn
@@ -644,23 +536,14 @@ measure-inner-measure-branch-requires t c κs =
       ),
     )
 
-measure-inner-returns : (t : ℕ) → measure-inner-lts.Need-returns (measure-inner-claims t) (measure-inner-at t) measure-inner.Post
-measure-inner-returns t c = (c .measure-branch) .ensures
-
 measure-inner-add-idle-rounds : (t : ℕ) → measure-inner-lts.Need-add-idle-rounds (measure-inner-claims t) (measure-inner-at t) measure-inner.Post
 measure-inner-add-idle-rounds t c = omega (arith, c .before .before .before .before .pre .1 .0 .statement .early, c .before .before .before .before .pre .1 .0 .statement .entered .file .inside)
-
-measure-inner-element-copy-out-idle-rounds : (t : ℕ) → measure-inner-lts.Need-element-copy-out-idle-rounds (measure-inner-claims t) (measure-inner-at t) measure-inner.Post
-measure-inner-element-copy-out-idle-rounds t c = search needs
 
 measure-inner-idle-rounds-requires : (t : ℕ) → measure-inner-lts.Need-idle-rounds-requires (measure-inner-claims t) (measure-inner-at t) measure-inner.Post
 unfolding settingsIn
 measure-inner-idle-rounds-requires t c κs =
     let S = c .before .before .before .before .before .pre .1 .0 .statement in
     (record { order = omega (arith, S .early); inside = S .entered .file .inside }, S .entered .laying .settings .short)
-
-measure-inner-load-requires : (t : ℕ) → measure-inner-lts.Need-load-requires (measure-inner-claims t) (measure-inner-at t) measure-inner.Post
-measure-inner-load-requires t c κs = search needs
 
 measure-inner-measure-idle-requires : (t : ℕ) → measure-inner-lts.Need-measure-idle-requires (measure-inner-claims t) (measure-inner-at t) measure-inner.Post
 measure-inner-measure-idle-requires t c κs = idle-laying (c .before .before .before .before .before .before .before .before .before .before .pre .1 .0) (c .load .ensures)
@@ -708,9 +591,6 @@ measure-inner-measure-rounds-requires t c κs = (
   ),
 )
 
-measure-inner-returns-3 : (t : ℕ) → measure-inner-lts.Need-returns-3 (measure-inner-claims t) (measure-inner-at t) measure-inner.Post
-measure-inner-returns-3 t c = (c .measure-rounds) .ensures
-
 abbrev measure-rounds-Inv-loop : measure-rounds-lts.InvT-loop
 measure-rounds-Inv-loop s i to count t clock₀ meets₀ body next₀ round₀ clock meets next round = ClockingRounds s i to t clock₀ count clock next round meets₀ meets
 
@@ -720,19 +600,10 @@ measure-rounds-μ-loop s i to count t clock₀ meets₀ body next₀ round₀ cl
 measure-rounds-add-body : (t : ℕ) → measure-rounds-lts.Need-add-body (measure-rounds-claims t) (measure-rounds-at t) measure-rounds.Post measure-rounds-Inv-loop measure-rounds-μ-loop
 measure-rounds-add-body t c = omega (arith, (c .before .pre) .1 .0 .statement .early, (c .before .pre) .1 .0 .statement .entered .file .inside)
 
-measure-rounds-loop-holds : (t : ℕ) → measure-rounds-lts.Need-loop-holds (measure-rounds-claims t) (measure-rounds-at t) measure-rounds.Post measure-rounds-Inv-loop measure-rounds-μ-loop
-measure-rounds-loop-holds t c = rounds-start ((c .before .pre) .1 .0) ((c .before .pre) .1 .1) ((c .before .pre) .1 .2)
-
 measure-rounds-measure-block-requires : (t : ℕ) → measure-rounds-lts.Need-measure-block-requires (measure-rounds-claims t) (measure-rounds-at t) measure-rounds.Post measure-rounds-Inv-loop measure-rounds-μ-loop
 measure-rounds-measure-block-requires t c κs =
     let start = c .before .before .before .before .before in
     (omega (arith, (start .pre) .0, (start .pre) .1 .0 .statement .early), body-lent ((c .before .before .before .loop) .inv))
-
-measure-rounds-element-copy-out-if1 : (t : ℕ) → measure-rounds-lts.Need-element-copy-out-if1 (measure-rounds-claims t) (measure-rounds-at t) measure-rounds.Post measure-rounds-Inv-loop measure-rounds-μ-loop
-measure-rounds-element-copy-out-if1 t c = search needs
-
-measure-rounds-element-copy-out-if1-2 : (t : ℕ) → measure-rounds-lts.Need-element-copy-out-if1-2 (measure-rounds-claims t) (measure-rounds-at t) measure-rounds.Post measure-rounds-Inv-loop measure-rounds-μ-loop
-measure-rounds-element-copy-out-if1-2 t c = search needs
 
 measure-rounds-returns : (t : ℕ) → measure-rounds-lts.Need-returns (measure-rounds-claims t) (measure-rounds-at t) measure-rounds.Post measure-rounds-Inv-loop measure-rounds-μ-loop
 unfolding settingsIn
@@ -740,23 +611,11 @@ measure-rounds-returns t c =
     let at-loop-test = c .before .before .before .before .before .before in
     rounds-late ((at-loop-test .before .loop) .inv) ((at-loop-test .loop-test) .taken) ((c .before .before .before .measure-block) .ensures) ((c .if1) .taken)
 
-measure-rounds-add-round : (t : ℕ) → measure-rounds-lts.Need-add-round (measure-rounds-claims t) (measure-rounds-at t) measure-rounds.Post measure-rounds-Inv-loop measure-rounds-μ-loop
-measure-rounds-add-round t c = omega arith
-
-measure-rounds-loop-less : (t : ℕ) → measure-rounds-lts.Need-loop-less (measure-rounds-claims t) (measure-rounds-at t) measure-rounds.Post measure-rounds-Inv-loop measure-rounds-μ-loop
-measure-rounds-loop-less t c = omega arith
-
 measure-rounds-loop-again : (t : ℕ) → measure-rounds-lts.Need-loop-again (measure-rounds-claims t) (measure-rounds-at t) measure-rounds.Post measure-rounds-Inv-loop measure-rounds-μ-loop
 unfolding settingsIn
 measure-rounds-loop-again t c =
     let at-loop-test = c .before .before .before .before .before .before in
     rounds-next ((at-loop-test .before .loop) .inv) ((at-loop-test .loop-test) .taken) ((c .before .before .before .measure-block) .ensures) ((c .if1) .left)
-
-measure-rounds-settings-in-requires : (t : ℕ) → measure-rounds-lts.Need-settings-in-requires (measure-rounds-claims t) (measure-rounds-at t) measure-rounds.Post measure-rounds-Inv-loop measure-rounds-μ-loop
-measure-rounds-settings-in-requires t c κs = search needs
-
-measure-rounds-load-requires : (t : ℕ) → measure-rounds-lts.Need-load-requires (measure-rounds-claims t) (measure-rounds-at t) measure-rounds.Post measure-rounds-Inv-loop measure-rounds-μ-loop
-measure-rounds-load-requires t c κs = search needs
 
 measure-rounds-stepped-requires : (t : ℕ) → measure-rounds-lts.Need-stepped-requires (measure-rounds-claims t) (measure-rounds-at t) measure-rounds.Post measure-rounds-Inv-loop measure-rounds-μ-loop
 measure-rounds-stepped-requires t c κs =
@@ -789,122 +648,39 @@ measure-rounds-returns-2 t c =
     rounds-clocked ((at-loop-test .before .loop) .inv) ((c .before .before .before .before .before .settings-in) .ensures) ((c .before .before .before .load) .ensures)
     ((at-loop-test .loop-test) .left) ((c .before .before .stepped) .ensures) ((c .store) .ensures)
 
-measure-side-kind-at-requires : (t : ℕ) → measure-side-lts.Need-kind-at-requires (measure-side-claims t) (measure-side-at t) measure-side.Post
-measure-side-kind-at-requires t c κs = omega (arith, (c .before .pre) .1 .1, (c .before .pre) .1 .0 .entered .file .inside)
-
-measure-side-closes-requires : (t : ℕ) → measure-side-lts.Need-closes-requires (measure-side-claims t) (measure-side-at t) measure-side.Post
-measure-side-closes-requires t c κs = search needs
-
 measure-side-returns : (t : ℕ) → measure-side-lts.Need-returns (measure-side-claims t) (measure-side-at t) measure-side.Post
 measure-side-returns t c = clocking-empty ((c .before .before .before .before .pre) .1 .0) (closing-told ((c .before .before .kind-at) .ensures) ((c .before .closes) .ensures) ((c .if1) .taken))
 
-measure-side-measure-block-requires : (t : ℕ) → measure-side-lts.Need-measure-block-requires (measure-side-claims t) (measure-side-at t) measure-side.Post
-measure-side-measure-block-requires t c κs = (omega arith, (c .before .before .before .before .before .before .pre) .1 .0)
-
-measure-side-returns-2 : (t : ℕ) → measure-side-lts.Need-returns-2 (measure-side-claims t) (measure-side-at t) measure-side.Post
-measure-side-returns-2 t c = (c .measure-block) .ensures
-
-pub +measure-block+measure-branch+measure-inner+measure-rounds+measure-side-spec :
-    {M : Type 1} → statement M
+pub +measure-block+measure-branch+measure-inner+measure-rounds+measure-side-spec : {M : Type 1} → statement M
 +measure-block+measure-branch+measure-inner+measure-rounds+measure-side-spec =
-    close
-    μ-measure-block
-    μ-measure-branch
-    μ-measure-inner
-    μ-measure-rounds
-    μ-measure-side
-    (λ t. measure-block-lts.spec (measure-block-claims t) (measure-block-at t)
-    measure-block.Post
-    measure-block-Inv-loop
-    measure-block-μ-loop
-    (measure-block-load-requires t)
-    (measure-block-loop-holds t)
-    (measure-block-record-at-requires t)
-    (measure-block-closes-requires t)
-    (measure-block-store-requires t)
-    (measure-block-returns t)
-    (measure-block-nests-requires t)
-    (measure-block-store-requires-2 t)
-    (measure-block-measure-inner-requires t)
-    (measure-block-load-requires-2 t)
-    (measure-block-element-copy-out-if3 t)
-    (measure-block-returns-2 t)
-    (measure-block-loop-less t)
-    (measure-block-loop-again t)
-    (measure-block-measure-step-requires t)
-    (measure-block-add-next t)
-    (measure-block-element-copy-out-if4 t)
-    (measure-block-store-requires-3 t)
+    close μ-measure-block μ-measure-branch μ-measure-inner μ-measure-rounds μ-measure-side
+    (λ t. measure-block-lts.spec (measure-block-claims t) (measure-block-at t) measure-block.Post measure-block-Inv-loop
+    measure-block-μ-loop (search needs) (λ c. clocking-start ((c .before .before .before .pre) .1) ((c .load) .ensures))
+    (λ c κs. omega (arith, (c .before .loop) .inv .measuring .passing .rest .file .inside)) (search needs)
+    (λ c κs. store-fits ((c .before .before .before .before .before .loop) .inv)) (measure-block-returns t) (search needs)
+    (λ c κs. store-fits ((c .before .before .before .before .before .before .before .loop) .inv)) (measure-block-measure-inner-requires t)
+    (search needs) (search needs) (measure-block-returns-2 t) (measure-block-loop-less t) (measure-block-loop-again t)
+    (measure-block-measure-step-requires t) (measure-block-add-next t) (search needs) (measure-block-store-requires-3 t)
     (measure-block-returns-3 t)
-    (measure-block-loop-less-2 t)
-    (measure-block-loop-again-2 t)
-    (measure-block-store-requires-4 t)
-    (measure-block-returns-4 t))
-    (λ t. measure-branch-lts.spec (measure-branch-claims t) (measure-branch-at t)
-    measure-branch.Post
-    (measure-branch-settings-in-requires t)
-    (measure-branch-load-requires t)
-    (measure-branch-stepped-requires t)
-    (measure-branch-store-requires t)
-    (measure-branch-element-copy-out-if1 t)
-    (measure-branch-returns t)
-    (measure-branch-place-requires t)
-    (measure-branch-add-measure-side t)
-    (measure-branch-measure-side-requires t)
-    (measure-branch-load-requires-2 t)
-    (measure-branch-element-copy-out-if2 t)
-    (measure-branch-returns-2 t)
-    (measure-branch-back-requires t)
-    (measure-branch-store-requires-2 t)
-    (measure-branch-add-measure-side-2 t)
-    (measure-branch-measure-side-requires-2 t)
-    (measure-branch-load-requires-3 t)
-    (measure-branch-element-copy-out-if3 t)
-    (measure-branch-returns-3 t)
-    (measure-branch-settings-in-requires-2 t)
-    (measure-branch-meet-requires t)
-    (measure-branch-store-requires-3 t)
-    (measure-branch-note-requires t)
-    (measure-branch-add-result t)
+    (λ c. omega (arith, (c .before .before .before .before .before .before .before .before .before .loop-test) .taken))
+    (measure-block-loop-again-2 t) (λ c κs. store-fits ((c .before .before .loop) .inv)) (measure-block-returns-4 t))
+    (λ t. measure-branch-lts.spec (measure-branch-claims t) (measure-branch-at t) measure-branch.Post (search needs) (search needs)
+    (measure-branch-stepped-requires t) (measure-branch-store-requires t) (search needs) (measure-branch-returns t)
+    (measure-branch-place-requires t) (measure-branch-add-measure-side t) (measure-branch-measure-side-requires t) (search needs)
+    (search needs) (measure-branch-returns-2 t) (search needs) (measure-branch-store-requires-2 t) (measure-branch-add-measure-side-2 t)
+    (measure-branch-measure-side-requires-2 t) (search needs) (search needs) (measure-branch-returns-3 t) (search needs)
+    (measure-branch-meet-requires t) (measure-branch-store-requires-3 t) (search needs) (measure-branch-add-result t)
     (measure-branch-returns-4 t))
-    (λ t. measure-inner-lts.spec (measure-inner-claims t) (measure-inner-at t)
-    measure-inner.Post
-    (measure-inner-record-at-requires t)
-    (measure-inner-measure-branch-requires t)
-    (measure-inner-returns t)
-    (measure-inner-add-idle-rounds t)
-    (measure-inner-element-copy-out-idle-rounds t)
-    (measure-inner-idle-rounds-requires t)
-    (measure-inner-load-requires t)
-    (measure-inner-measure-idle-requires t)
-    (measure-inner-store-requires t)
-    (measure-inner-add-result t)
-    (measure-inner-returns-2 t)
-    (measure-inner-measure-rounds-requires t)
-    (measure-inner-returns-3 t))
-    (λ t. measure-rounds-lts.spec (measure-rounds-claims t) (measure-rounds-at t)
-    measure-rounds.Post
-    measure-rounds-Inv-loop
-    measure-rounds-μ-loop
-    (measure-rounds-add-body t)
-    (measure-rounds-loop-holds t)
-    (measure-rounds-measure-block-requires t)
-    (measure-rounds-element-copy-out-if1 t)
-    (measure-rounds-element-copy-out-if1-2 t)
-    (measure-rounds-returns t)
-    (measure-rounds-add-round t)
-    (measure-rounds-loop-less t)
-    (measure-rounds-loop-again t)
-    (measure-rounds-settings-in-requires t)
-    (measure-rounds-load-requires t)
-    (measure-rounds-stepped-requires t)
-    (measure-rounds-store-requires t)
-    (measure-rounds-add-result t)
+    (λ t. measure-inner-lts.spec (measure-inner-claims t) (measure-inner-at t) measure-inner.Post (measure-inner-record-at-requires t)
+    (measure-inner-measure-branch-requires t) (λ c. (c .measure-branch) .ensures) (measure-inner-add-idle-rounds t) (search needs)
+    (measure-inner-idle-rounds-requires t) (search needs) (measure-inner-measure-idle-requires t) (measure-inner-store-requires t)
+    (measure-inner-add-result t) (measure-inner-returns-2 t) (measure-inner-measure-rounds-requires t) (λ c. (c .measure-rounds) .ensures))
+    (λ t. measure-rounds-lts.spec (measure-rounds-claims t) (measure-rounds-at t) measure-rounds.Post measure-rounds-Inv-loop
+    measure-rounds-μ-loop (measure-rounds-add-body t)
+    (λ c. rounds-start ((c .before .pre) .1 .0) ((c .before .pre) .1 .1) ((c .before .pre) .1 .2)) (measure-rounds-measure-block-requires t)
+    (search needs) (search needs) (measure-rounds-returns t) (omega arith) (omega arith) (measure-rounds-loop-again t) (search needs)
+    (search needs) (measure-rounds-stepped-requires t) (measure-rounds-store-requires t) (measure-rounds-add-result t)
     (measure-rounds-returns-2 t))
-    λ t. measure-side-lts.spec (measure-side-claims t) (measure-side-at t)
-    measure-side.Post
-    (measure-side-kind-at-requires t)
-    (measure-side-closes-requires t)
-    (measure-side-returns t)
-    (measure-side-measure-block-requires t)
-    (measure-side-returns-2 t)
+    λ t. measure-side-lts.spec (measure-side-claims t) (measure-side-at t) measure-side.Post
+    (λ c κs. omega (arith, (c .before .pre) .1 .1, (c .before .pre) .1 .0 .entered .file .inside)) (search needs) (measure-side-returns t)
+    (λ c κs. (omega arith, (c .before .before .before .before .before .before .pre) .1 .0)) (λ c. (c .measure-block) .ensures)

@@ -6,17 +6,8 @@ use Rattle.timing.specs.Times.{settingsIn}
 use Rattle.layout.proofs.measure.measure_file.Statement.{statement}
 use Rattle.layout.proofs.measure.measure_file.Tie as tie
 
-settings-in-requires : tie.Need-settings-in-requires
-settings-in-requires c κs = search needs
-
-start-requires : tie.Need-start-requires
-start-requires c κs = search needs
-
 commanded-requires : tie.Need-commanded-requires
 commanded-requires c κs = clock-laying (c .before .before .before .args .t .now) (c .before .before .before .pre .1) ((c .before .settings-in) .ensures) ((c .start) .ensures)
-
-element-copy-out-if1 : tie.Need-element-copy-out-if1
-element-copy-out-if1 c = search needs
 
 returns : tie.Need-returns
 unfolding settingsIn
@@ -25,9 +16,6 @@ returns c =
     clock-late (start .args .t .now) (start .pre .1) ((c .before .before .before .before .before .settings-in) .ensures)
     ((c .before .before .before .before .start) .ensures) ((c .before .before .before .commanded) .ensures .0) (c .if1 .taken)
 
-store-requires : tie.Need-store-requires
-store-requires c κs = search needs
-
 measure-block-requires : tie.Need-measure-block-requires
 unfolding settingsIn
 measure-block-requires c κs =
@@ -35,9 +23,6 @@ measure-block-requires c κs =
     let start = at-commanded .before .before .before .before in
     clock-lent (start .args .t .now) (start .pre .1) ((at-commanded .before .before .settings-in) .ensures) ((at-commanded .before .start) .ensures)
     ((at-commanded .commanded) .ensures .0) ((start .pre) .0) ((c .before .before .before .before .if1) .left) _ refl ((c .before .before .store) .ensures)
-
-load-requires : tie.Need-load-requires
-load-requires c κs = search needs
 
 returns-2 : tie.Need-returns-2
 unfolding settingsIn
@@ -50,14 +35,5 @@ returns-2 c =
 
 pub measure-file-spec : {M : Type 1} → statement M
 measure-file-spec =
-    tie.close
-    (tie.spec
-    settings-in-requires
-    start-requires
-    commanded-requires
-    element-copy-out-if1
-    returns
-    store-requires
-    measure-block-requires
-    load-requires
-    returns-2)
+    tie.close (tie.spec (search needs) (search needs) commanded-requires (search needs) returns (search needs) measure-block-requires
+    (search needs) returns-2)

@@ -3,17 +3,8 @@ use borrow.Author.Needs.{needs}
 use Rattle.layout.proofs.measure.measure_step.Statement.{statement}
 use Rattle.layout.proofs.measure.measure_step.Tie as tie
 
-settings-in-requires : tie.Need-settings-in-requires
-settings-in-requires c κs = search needs
-
-filled-requires : tie.Need-filled-requires
-filled-requires c κs = step-laying ((c .before .before .settings-in) .ensures) (c .before .before .before .pre)
-
 returns : tie.Need-returns
 returns c = step-skipped ((c .before .before .before .settings-in) .ensures) ((c .before .if1) .taken) (c .filled .ensures)
-
-step-ticks-requires : tie.Need-step-ticks-requires
-step-ticks-requires c κs = search needs
 
 stepped-requires : tie.Need-stepped-requires
 stepped-requires c κs =
@@ -25,11 +16,5 @@ returns-2 c = step-stepped ((c .before .before .before .before .settings-in) .en
 
 pub measure-step-spec : {M : Type 1} → statement M
 measure-step-spec =
-    tie.close
-    (tie.spec
-    settings-in-requires
-    filled-requires
-    returns
-    step-ticks-requires
-    stepped-requires
-    returns-2)
+    tie.close (tie.spec (search needs) (λ c κs. step-laying ((c .before .before .settings-in) .ensures) (c .before .before .before .pre))
+    returns (search needs) stepped-requires returns-2)

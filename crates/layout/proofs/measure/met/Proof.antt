@@ -33,5 +33,4 @@ returns c = met-is ((c .before .before .before .args) .late) _ _ ((c .before .be
 
 pub met-spec : {M : Type 1} → statement M
 met-spec =
-    tie.close
-    (tie.spec cast-skip-records skip-records-requires add-counted counted-requires returns)
+    tie.close (tie.spec cast-skip-records skip-records-requires add-counted counted-requires returns)

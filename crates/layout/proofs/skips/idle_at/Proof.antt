@@ -5,18 +5,6 @@ use Rattle.layout.proofs.IdleLoops.{at-skip, at-other, at-loop}
 use Rattle.layout.proofs.skips.idle_at.Statement.{statement}
 use Rattle.layout.proofs.skips.idle_at.Tie as tie
 
-add-t8 : tie.Need-add-t8
-add-t8 c = search needs
-
-returns : tie.Need-returns
-returns c = at-skip (c .if1 .taken) refl refl refl
-
-returns-2 : tie.Need-returns-2
-returns-2 c = at-other (c .before .before .if1 .left) refl
-
-add-idle-rounds : tie.Need-add-idle-rounds
-add-idle-rounds c = search needs
-
 idle-rounds-requires : tie.Need-idle-rounds-requires
 idle-rounds-requires c κs =
     let p = c .before .before .before .before .before .pre in
@@ -32,12 +20,5 @@ returns-3 c = at-loop (c .before .before .before .before .if1 .left) (c .before 
 
 pub idle-at-spec : {M : Type 1} → statement M
 idle-at-spec =
-    tie.close
-    (tie.spec
-    add-t8
-    returns
-    returns-2
-    add-idle-rounds
-    idle-rounds-requires
-    add-t9
-    returns-3)
+    tie.close (tie.spec (search needs) (λ c. at-skip (c .if1 .taken) refl refl refl) (λ c. at-other (c .before .before .if1 .left) refl)
+    (search needs) idle-rounds-requires add-t9 returns-3)

@@ -5,20 +5,11 @@ use Rattle.layout.proofs.IdleLoops.{skips-laying, check-left, idle-chec
 use Rattle.layout.proofs.skips.write_idle.Statement.{statement}
 use Rattle.layout.proofs.skips.write_idle.Tie as tie
 
-put-skips-requires : tie.Need-put-skips-requires
-put-skips-requires c κs = let F = c .before .before .pre in (F .laying, F .within, F .room)
-
-same-length : tie.Need-same-length
-same-length c = search needs
-
 returns : tie.Need-returns
 returns c = record { skips = λ h. c .before .before .before .before .put-skips .ensures; check = λ h. absurd (h (c .if1 .taken)) }
 
 written-requires : tie.Need-written-requires
 written-requires c κs = writing-upto (check-left (c .before .before .before .before .before .before .before .pre .check (c .if1 .left)) (c .before .before .before .before .put-skips .ensures))
-
-check-of-requires : tie.Need-check-of-requires
-check-of-requires c κs = search needs
 
 sub-put-step : tie.Need-sub-put-step
 sub-put-step c =
@@ -32,18 +23,12 @@ part-put-step-start c =
     rw (c .before .written .ensures) (writing-at
     (check-left (at-put-skips .before .before .before .pre .check (c .before .before .if1 .left)) (at-put-skips .put-skips .ensures)))
 
-part-put-step-end : tie.Need-part-put-step-end
-part-put-step-end c = search needs
-
 put-step-requires : tie.Need-put-step-requires
 put-step-requires c κs =
     let F = c .before .before .before .before .before .before .before .before .before .before .pre .check (c .before .before .before .if1 .left) in
     let L = c .before .before .before .before .before .before .before .put-skips .ensures in
     let y = skips-laying F L in
     (y, omega arith, omega (arith, y .settings .fits .positive .set-lasts), idle-check-fits F L (c .before .check-of .ensures) (c .before .before .written .ensures))
-
-same-length-2 : tie.Need-same-length-2
-same-length-2 c = search needs
 
 returns-2 : tie.Need-returns-2
 returns-2 c =
@@ -57,16 +42,5 @@ returns-2 c =
 
 pub write-idle-spec : {M : Type 1} → statement M
 write-idle-spec =
-    tie.close
-    (tie.spec
-    put-skips-requires
-    same-length
-    returns
-    written-requires
-    check-of-requires
-    sub-put-step
-    part-put-step-start
-    part-put-step-end
-    put-step-requires
-    same-length-2
-    returns-2)
+    tie.close (tie.spec (λ c κs. let F = c .before .before .pre in (F .laying, F .within, F .room)) (search needs) returns written-requires
+    (search needs) sub-put-step part-put-step-start (search needs) put-step-requires (search needs) returns-2)

@@ -44,12 +44,8 @@ use Rattle.reading.proofs.blocks.closes.Reads as closes-reads
 use Rattle.records.proofs.kind_at.Reads as kind-at-reads
 use Rattle.records.proofs.record_at.Reads as record-at-reads
 use Rattle.timing.proofs.ticks.step_ticks.Reads as step-ticks-reads
-use Rattle.layout.proofs.write.+write_block+write_branch+write_rounds+write_side+write_statement.{
-  statement,
-}
-use Rattle.layout.proofs.write.+write_block+write_branch+write_rounds+write_side+write_statement.Tie.{
-  close,
-}
+use Rattle.layout.proofs.write.+write_block+write_branch+write_rounds+write_side+write_statement.{statement}
+use Rattle.layout.proofs.write.+write_block+write_branch+write_rounds+write_side+write_statement.Tie.{close}
 
 abbrev μ-write-block : Measures 3 write-block-kinds.ps ℕ
 μ-write-block κs a = 5 * (a .1 .1 .0 - a .1 .0) + 3
@@ -67,60 +63,34 @@ abbrev μ-write-statement : Measures 3 write-statement-kinds.ps ℕ
 μ-write-statement κs a = 5 * (a .1 .1 .0 - a .1 .0) + 2
 
 abbrev write-block-at : ℕ → In 3 write-block-kinds.ps
-write-block-at t =
-    and 3 write-block-kinds.ps (is 3 write-block-kinds.ps μ-write-block t) write-block.Pre
+write-block-at t = and 3 write-block-kinds.ps (is 3 write-block-kinds.ps μ-write-block t) write-block.Pre
 
 abbrev write-block-below : ℕ → In 3 write-block-kinds.ps
-write-block-below t =
-    and 3 write-block-kinds.ps (falls 3 write-block-kinds.ps _<_ μ-write-block t) write-block.Pre
+write-block-below t = and 3 write-block-kinds.ps (falls 3 write-block-kinds.ps _<_ μ-write-block t) write-block.Pre
 
 abbrev write-branch-at : ℕ → In 3 write-branch-kinds.ps
-write-branch-at t =
-    and 3 write-branch-kinds.ps (is 3 write-branch-kinds.ps μ-write-branch t) write-branch.Pre
+write-branch-at t = and 3 write-branch-kinds.ps (is 3 write-branch-kinds.ps μ-write-branch t) write-branch.Pre
 
 abbrev write-branch-below : ℕ → In 3 write-branch-kinds.ps
-write-branch-below t =
-    and
-    3
-    write-branch-kinds.ps
-    (falls 3 write-branch-kinds.ps _<_ μ-write-branch t)
-    write-branch.Pre
+write-branch-below t = and 3 write-branch-kinds.ps (falls 3 write-branch-kinds.ps _<_ μ-write-branch t) write-branch.Pre
 
 abbrev write-rounds-at : ℕ → In 3 write-rounds-kinds.ps
-write-rounds-at t =
-    and 3 write-rounds-kinds.ps (is 3 write-rounds-kinds.ps μ-write-rounds t) write-rounds.Pre
+write-rounds-at t = and 3 write-rounds-kinds.ps (is 3 write-rounds-kinds.ps μ-write-rounds t) write-rounds.Pre
 
 abbrev write-rounds-below : ℕ → In 3 write-rounds-kinds.ps
-write-rounds-below t =
-    and
-    3
-    write-rounds-kinds.ps
-    (falls 3 write-rounds-kinds.ps _<_ μ-write-rounds t)
-    write-rounds.Pre
+write-rounds-below t = and 3 write-rounds-kinds.ps (falls 3 write-rounds-kinds.ps _<_ μ-write-rounds t) write-rounds.Pre
 
 abbrev write-side-at : ℕ → In 3 write-side-kinds.ps
-write-side-at t =
-    and 3 write-side-kinds.ps (is 3 write-side-kinds.ps μ-write-side t) write-side.Pre
+write-side-at t = and 3 write-side-kinds.ps (is 3 write-side-kinds.ps μ-write-side t) write-side.Pre
 
 abbrev write-side-below : ℕ → In 3 write-side-kinds.ps
-write-side-below t =
-    and 3 write-side-kinds.ps (falls 3 write-side-kinds.ps _<_ μ-write-side t) write-side.Pre
+write-side-below t = and 3 write-side-kinds.ps (falls 3 write-side-kinds.ps _<_ μ-write-side t) write-side.Pre
 
 abbrev write-statement-at : ℕ → In 3 write-statement-kinds.ps
-write-statement-at t =
-    and
-    3
-    write-statement-kinds.ps
-    (is 3 write-statement-kinds.ps μ-write-statement t)
-    write-statement.Pre
+write-statement-at t = and 3 write-statement-kinds.ps (is 3 write-statement-kinds.ps μ-write-statement t) write-statement.Pre
 
 abbrev write-statement-below : ℕ → In 3 write-statement-kinds.ps
-write-statement-below t =
-    and
-    3
-    write-statement-kinds.ps
-    (falls 3 write-statement-kinds.ps _<_ μ-write-statement t)
-    write-statement.Pre
+write-statement-below t = and 3 write-statement-kinds.ps (falls 3 write-statement-kinds.ps _<_ μ-write-statement t) write-statement.Pre
 
 abbrev write-block-Inv-loop : write-block-lts.InvT-loop
 write-block-Inv-loop s from to n at ifs meets out₀ state₀ next₀ k₀ out state next k = WritingBlock s from to n at state next ifs k meets out₀ out
@@ -158,32 +128,8 @@ write-statement-claims t = (
   put-step-reads.Learnt,
 )
 
-write-block-loop-holds : (t : ℕ) → write-block-lts.Need-loop-holds (write-block-claims t) (write-block-at t) write-block.Post write-block-Inv-loop write-block-μ-loop
-write-block-loop-holds t c = block-start ((c .before .before .pre) .1)
-
-write-block-kind-at-requires : (t : ℕ) → write-block-lts.Need-kind-at-requires (write-block-claims t) (write-block-at t) write-block.Post write-block-Inv-loop write-block-μ-loop
-write-block-kind-at-requires t c κs = omega (arith, (c .before .loop) .inv .passing .rest .file .inside)
-
-write-block-closes-requires : (t : ℕ) → write-block-lts.Need-closes-requires (write-block-claims t) (write-block-at t) write-block.Post write-block-Inv-loop write-block-μ-loop
-write-block-closes-requires t c κs = search needs
-
-write-block-same-length : (t : ℕ) → write-block-lts.Need-same-length (write-block-claims t) (write-block-at t) write-block.Post write-block-Inv-loop write-block-μ-loop
-write-block-same-length t c = part-length ((c .before .before .before .before .loop) .inv .writing .part)
-
 write-block-returns : (t : ℕ) → write-block-lts.Need-returns (write-block-claims t) (write-block-at t) write-block.Post write-block-Inv-loop write-block-μ-loop
 write-block-returns t c = block-closed ((c .before .before .before .before .loop) .inv) (closing-told ((c .before .before .kind-at) .ensures) ((c .before .closes) .ensures) ((c .if1) .taken))
-
-write-block-written-requires : (t : ℕ) → write-block-lts.Need-written-requires (write-block-claims t) (write-block-at t) write-block.Post write-block-Inv-loop write-block-μ-loop
-write-block-written-requires t c κs = writing-upto ((c .before .before .before .before .loop) .inv .writing)
-
-write-block-sub-write-statement : (t : ℕ) → write-block-lts.Need-sub-write-statement (write-block-claims t) (write-block-at t) write-block.Post write-block-Inv-loop write-block-μ-loop
-write-block-sub-write-statement t c = rw (c .written .ensures) (writing-at ((c .before .before .before .before .before .loop) .inv .writing))
-
-write-block-part-write-statement-start : (t : ℕ) → write-block-lts.Need-part-write-statement-start (write-block-claims t) (write-block-at t) write-block.Post write-block-Inv-loop write-block-μ-loop
-write-block-part-write-statement-start t c = rw (c .written .ensures) (writing-at ((c .before .before .before .before .before .loop) .inv .writing))
-
-write-block-part-write-statement-end : (t : ℕ) → write-block-lts.Need-part-write-statement-end (write-block-claims t) (write-block-at t) write-block.Post write-block-Inv-loop write-block-μ-loop
-write-block-part-write-statement-end t c = search needs
 
 write-block-write-statement-requires : (t : ℕ) → write-block-lts.Need-write-statement-requires (write-block-claims t) (write-block-at t) write-block.Post write-block-Inv-loop write-block-μ-loop
 write-block-write-statement-requires t c κs =
@@ -210,12 +156,6 @@ write-block-loop-again t c =
     block-next ((at-if1 .before .before .before .before .loop) .inv) ((at-if1 .before .before .before .loop-test) .taken)
     (closing-told ((at-if1 .before .before .kind-at) .ensures) ((at-if1 .before .closes) .ensures) ((at-if1 .if1) .left))
     ((c .before .before .before .before .before .written) .ensures) ((c .before .before .before .write-statement) .ensures)
-
-write-block-same-length-2 : (t : ℕ) → write-block-lts.Need-same-length-2 (write-block-claims t) (write-block-at t) write-block.Post write-block-Inv-loop write-block-μ-loop
-write-block-same-length-2 t c = part-length ((c .before .loop) .inv .writing .part)
-
-write-block-returns-2 : (t : ℕ) → write-block-lts.Need-returns-2 (write-block-claims t) (write-block-at t) write-block.Post write-block-Inv-loop write-block-μ-loop
-write-block-returns-2 t c = block-ended ((c .before .loop) .inv) ((c .loop-test) .left)
 
 write-branch-put-step-requires : (t : ℕ) → write-branch-lts.Need-put-step-requires (write-branch-claims t) (write-branch-at t) write-branch.Post
 write-branch-put-step-requires t c κs =
@@ -255,9 +195,6 @@ write-branch-part-write-side-start t c =
     let start = c .before .before .before .before .before .before .before .before in
     test-at ((start .pre) .1 .0) ((start .pre) .1 .2) ((start .pre) .1 .1) ((c .before .before .before .before .put-step) .ensures) refl ((c .before .written) .ensures)
 
-write-branch-part-write-side-end : (t : ℕ) → write-branch-lts.Need-part-write-side-end (write-branch-claims t) (write-branch-at t) write-branch.Post
-write-branch-part-write-side-end t c = search needs
-
 write-branch-write-side-requires : (t : ℕ) → write-branch-lts.Need-write-side-requires (write-branch-claims t) (write-branch-at t) write-branch.Post
 write-branch-write-side-requires t c κs =
     let start = c .before .before .before .before .before .before .before .before .before in (
@@ -289,9 +226,6 @@ write-branch-add-write-side-3 t c =
       (c .before .before .before .before .before .before .before .before .before .before .before .before .before .before .before .good) .0 .0,
     )
 
-write-branch-back-requires : (t : ℕ) → write-branch-lts.Need-back-requires (write-branch-claims t) (write-branch-at t) write-branch.Post
-write-branch-back-requires t c κs = search needs
-
 write-branch-sub-write-side-2 : (t : ℕ) → write-branch-lts.Need-sub-write-side-2 (write-branch-claims t) (write-branch-at t) write-branch.Post
 write-branch-sub-write-side-2 t c =
     let at-write-side = c .before .before .before .before .before .before in
@@ -307,9 +241,6 @@ write-branch-part-write-side-start-2 t c =
     let start = at-put-step .before .before .before .before in
     one-at ((start .pre) .1 .0) ((start .pre) .1 .2) ((start .pre) .1 .1) ((at-put-step .put-step) .ensures) refl
     ((at-write-side .before .before .before .written) .ensures) ((at-write-side .write-side) .ensures) ((c .before .before .written2) .ensures)
-
-write-branch-part-write-side-end-2 : (t : ℕ) → write-branch-lts.Need-part-write-side-end-2 (write-branch-claims t) (write-branch-at t) write-branch.Post
-write-branch-part-write-side-end-2 t c = search needs
 
 write-branch-write-side-requires-2 : (t : ℕ) → write-branch-lts.Need-write-side-requires-2 (write-branch-claims t) (write-branch-at t) write-branch.Post
 write-branch-write-side-requires-2 t c κs =
@@ -386,18 +317,6 @@ write-rounds-loop-holds t c =
     let R = count-there (p .0 .statement) (p .1) in
     record { loop = p .0; kind = p .2; count-is = R; turn = rounds-start (p .0) (p .2) R }
 
-write-rounds-written-requires : (t : ℕ) → write-rounds-lts.Need-written-requires (write-rounds-claims t) (write-rounds-at t) write-rounds.Post write-rounds-Inv-loop write-rounds-μ-loop
-write-rounds-written-requires t c κs = writing-upto ((c .before .loop) .inv .turn .writing)
-
-write-rounds-sub-write-block : (t : ℕ) → write-rounds-lts.Need-sub-write-block (write-rounds-claims t) (write-rounds-at t) write-rounds.Post write-rounds-Inv-loop write-rounds-μ-loop
-write-rounds-sub-write-block t c = rw (c .written .ensures) (writing-at ((c .before .before .loop) .inv .turn .writing))
-
-write-rounds-part-write-block-start : (t : ℕ) → write-rounds-lts.Need-part-write-block-start (write-rounds-claims t) (write-rounds-at t) write-rounds.Post write-rounds-Inv-loop write-rounds-μ-loop
-write-rounds-part-write-block-start t c = rw (c .written .ensures) (writing-at ((c .before .before .loop) .inv .turn .writing))
-
-write-rounds-part-write-block-end : (t : ℕ) → write-rounds-lts.Need-part-write-block-end (write-rounds-claims t) (write-rounds-at t) write-rounds.Post write-rounds-Inv-loop write-rounds-μ-loop
-write-rounds-part-write-block-end t c = search needs
-
 write-rounds-write-block-requires : (t : ℕ) → write-rounds-lts.Need-write-block-requires (write-rounds-claims t) (write-rounds-at t) write-rounds.Post write-rounds-Inv-loop write-rounds-μ-loop
 write-rounds-write-block-requires t c κs =
     let at-loop = c .before .before .before in
@@ -410,9 +329,6 @@ write-rounds-write-block-requires t c κs =
 write-rounds-add-round : (t : ℕ) → write-rounds-lts.Need-add-round (write-rounds-claims t) (write-rounds-at t) write-rounds.Post write-rounds-Inv-loop write-rounds-μ-loop
 write-rounds-add-round t c = omega (arith, c .before .before .before .before .before .before .before .before .before .before .good .1 .1 .1 .0)
 
-write-rounds-loop-less : (t : ℕ) → write-rounds-lts.Need-loop-less (write-rounds-claims t) (write-rounds-at t) write-rounds.Post write-rounds-Inv-loop write-rounds-μ-loop
-write-rounds-loop-less t c = omega arith
-
 write-rounds-loop-again : (t : ℕ) → write-rounds-lts.Need-loop-again (write-rounds-claims t) (write-rounds-at t) write-rounds.Post write-rounds-Inv-loop write-rounds-μ-loop
 write-rounds-loop-again t c =
     let l = (c .before .before .before .before .before .before .before .loop) .inv in
@@ -423,21 +339,6 @@ write-rounds-loop-again t c =
       turn = rounds-next (l .loop) (l .kind) (l .count-is) (l .turn) ((c .before .before .before .before .before .before .loop-test) .taken)
           ((c .before .before .before .before .before .written) .ensures) ((c .before .before .before .write-block) .ensures);
     }
-
-write-rounds-written-requires-2 : (t : ℕ) → write-rounds-lts.Need-written-requires-2 (write-rounds-claims t) (write-rounds-at t) write-rounds.Post write-rounds-Inv-loop write-rounds-μ-loop
-write-rounds-written-requires-2 t c κs = writing-upto ((c .before .loop) .inv .turn .writing)
-
-write-rounds-check-of-requires : (t : ℕ) → write-rounds-lts.Need-check-of-requires (write-rounds-claims t) (write-rounds-at t) write-rounds.Post write-rounds-Inv-loop write-rounds-μ-loop
-write-rounds-check-of-requires t c κs = search needs
-
-write-rounds-sub-put-step : (t : ℕ) → write-rounds-lts.Need-sub-put-step (write-rounds-claims t) (write-rounds-at t) write-rounds.Post write-rounds-Inv-loop write-rounds-μ-loop
-write-rounds-sub-put-step t c = rw (c .before .written2 .ensures) (writing-at ((c .before .before .before .loop) .inv .turn .writing))
-
-write-rounds-part-put-step-start : (t : ℕ) → write-rounds-lts.Need-part-put-step-start (write-rounds-claims t) (write-rounds-at t) write-rounds.Post write-rounds-Inv-loop write-rounds-μ-loop
-write-rounds-part-put-step-start t c = rw (c .before .written2 .ensures) (writing-at ((c .before .before .before .loop) .inv .turn .writing))
-
-write-rounds-part-put-step-end : (t : ℕ) → write-rounds-lts.Need-part-put-step-end (write-rounds-claims t) (write-rounds-at t) write-rounds.Post write-rounds-Inv-loop write-rounds-μ-loop
-write-rounds-part-put-step-end t c = search needs
 
 write-rounds-put-step-requires : (t : ℕ) → write-rounds-lts.Need-put-step-requires (write-rounds-claims t) (write-rounds-at t) write-rounds.Post write-rounds-Inv-loop write-rounds-μ-loop
 write-rounds-put-step-requires t c κs = (
@@ -472,9 +373,6 @@ write-rounds-returns t c =
     (c .before .before .before .before .check-of .ensures ∙ ap checkRec (at-loop .before .before .before .pre .1 .1))
     ((c .before .before .before .before .before .written2) .ensures) ((c .before .before .put-step) .ensures)
 
-write-side-write-block-requires : (t : ℕ) → write-side-lts.Need-write-block-requires (write-side-claims t) (write-side-at t) write-side.Post
-write-side-write-block-requires t c κs = (omega arith, side-fits ((c .before .before .before .pre) .1))
-
 write-side-written-requires : (t : ℕ) → write-side-lts.Need-written-requires (write-side-claims t) (write-side-at t) write-side.Post
 write-side-written-requires t c κs = side-upto ((c .before .before .before .before .before .before .before .pre) .1) ((c .before .before .before .write-block) .ensures)
 
@@ -487,9 +385,6 @@ write-side-part-close-side-start : (t : ℕ) → write-side-lts.Need-part-close-
 write-side-part-close-side-start t c =
     let start = c .before .before .before .before .before .before .before .before in
     side-at ((start .pre) .1) ((c .before .before .before .before .write-block) .ensures) ((c .written) .ensures)
-
-write-side-part-close-side-end : (t : ℕ) → write-side-lts.Need-part-close-side-end (write-side-claims t) (write-side-at t) write-side.Post
-write-side-part-close-side-end t c = search needs
 
 write-side-close-side-requires : (t : ℕ) → write-side-lts.Need-close-side-requires (write-side-claims t) (write-side-at t) write-side.Post
 write-side-close-side-requires t c κs =
@@ -524,12 +419,6 @@ write-statement-write-branch-requires t c κs =
       ),
     )
 
-write-statement-same-length : (t : ℕ) → write-statement-lts.Need-same-length (write-statement-claims t) (write-statement-at t) write-statement.Post
-write-statement-same-length t c = search needs
-
-write-statement-returns : (t : ℕ) → write-statement-lts.Need-returns (write-statement-claims t) (write-statement-at t) write-statement.Post
-write-statement-returns t c = (c .before .before .write-branch) .ensures
-
 write-statement-idle-at-requires : (t : ℕ) → write-statement-lts.Need-idle-at-requires (write-statement-claims t) (write-statement-at t) write-statement.Post
 write-statement-idle-at-requires t c κs =
     let S = c .before .before .before .before .before .pre .1 .statement in
@@ -539,9 +428,6 @@ write-statement-write-idle-requires : (t : ℕ) → write-statement-lts.Need-wri
 write-statement-write-idle-requires t c κs =
     let start = c .before .before .before .before .before .before .before .before in
     skips-fit (start .pre .1) (c .before .before .before .before .before .record-at .ensures) (c .before .before .idle-at .ensures) (c .before .if2 .taken)
-
-write-statement-same-length-2 : (t : ℕ) → write-statement-lts.Need-same-length-2 (write-statement-claims t) (write-statement-at t) write-statement.Post
-write-statement-same-length-2 t c = search needs
 
 write-statement-returns-2 : (t : ℕ) → write-statement-lts.Need-returns-2 (write-statement-claims t) (write-statement-at t) write-statement.Post
 write-statement-returns-2 t c =
@@ -561,15 +447,6 @@ write-statement-write-rounds-requires t c κs =
       ),
     )
 
-write-statement-same-length-3 : (t : ℕ) → write-statement-lts.Need-same-length-3 (write-statement-claims t) (write-statement-at t) write-statement.Post
-write-statement-same-length-3 t c = search needs
-
-write-statement-returns-3 : (t : ℕ) → write-statement-lts.Need-returns-3 (write-statement-claims t) (write-statement-at t) write-statement.Post
-write-statement-returns-3 t c = c .before .before .write-rounds .ensures
-
-write-statement-step-ticks-requires : (t : ℕ) → write-statement-lts.Need-step-ticks-requires (write-statement-claims t) (write-statement-at t) write-statement.Post
-write-statement-step-ticks-requires t c κs = search needs
-
 write-statement-put-step-requires : (t : ℕ) → write-statement-lts.Need-put-step-requires (write-statement-claims t) (write-statement-at t) write-statement.Post
 write-statement-put-step-requires t c κs =
     let F = c .before .before .before .before .before .before .before .before .before .before .before .pre .1 in
@@ -583,9 +460,6 @@ write-statement-add-next t c =
     let start = c .before .before .before .before .before .before .before .before .before .before .before .before .before .before in
     omega (arith, start .pre .1 .statement .early, start .pre .1 .statement .entered .file .inside, start .good .0 .0)
 
-write-statement-same-length-4 : (t : ℕ) → write-statement-lts.Need-same-length-4 (write-statement-claims t) (write-statement-at t) write-statement.Post
-write-statement-same-length-4 t c = search needs
-
 write-statement-returns-4 : (t : ℕ) → write-statement-lts.Need-returns-4 (write-statement-claims t) (write-statement-at t) write-statement.Post
 write-statement-returns-4 t c =
     let F = c .before .before .before .before .before .before .before .before .before .before .before .before .before .before .pre .1 in
@@ -594,103 +468,39 @@ write-statement-returns-4 t c =
     (c .before .before .before .before .before .before .before .if2 .left)) (c .before .before .before .before .before .before .before .before .before .if1 .left)
     (c .before .before .before .before .before .if3 .left) (c .before .before .before .before .step-ticks .ensures) (c .before .before .put-step .ensures)
 
-pub +write-block+write-branch+write-rounds+write-side+write-statement-spec :
-    {M : Type 1} → statement M
+pub +write-block+write-branch+write-rounds+write-side+write-statement-spec : {M : Type 1} → statement M
 +write-block+write-branch+write-rounds+write-side+write-statement-spec =
-    close
-    μ-write-block
-    μ-write-branch
-    μ-write-rounds
-    μ-write-side
-    μ-write-statement
-    (λ t. write-block-lts.spec (write-block-claims t) (write-block-at t)
-    write-block.Post
-    write-block-Inv-loop
-    write-block-μ-loop
-    (write-block-loop-holds t)
-    (write-block-kind-at-requires t)
-    (write-block-closes-requires t)
-    (write-block-same-length t)
-    (write-block-returns t)
-    (write-block-written-requires t)
-    (write-block-sub-write-statement t)
-    (write-block-part-write-statement-start t)
-    (write-block-part-write-statement-end t)
-    (write-block-write-statement-requires t)
-    (write-block-loop-less t)
-    (write-block-loop-again t)
-    (write-block-same-length-2 t)
-    (write-block-returns-2 t))
-    (λ t. write-branch-lts.spec (write-branch-claims t) (write-branch-at t)
-    write-branch.Post
-    (write-branch-put-step-requires t)
-    (write-branch-written-requires t)
-    (write-branch-mul-end t)
-    (write-branch-element-copy-out-end t)
-    (write-branch-add-write-side t)
-    (write-branch-add-write-side-2 t)
-    (write-branch-sub-write-side t)
-    (write-branch-part-write-side-start t)
-    (write-branch-part-write-side-end t)
-    (write-branch-write-side-requires t)
-    (write-branch-written-requires-2 t)
-    (write-branch-add-write-side-3 t)
-    (write-branch-back-requires t)
-    (write-branch-sub-write-side-2 t)
-    (write-branch-part-write-side-start-2 t)
-    (write-branch-part-write-side-end-2 t)
-    (write-branch-write-side-requires-2 t)
-    (write-branch-add-t24 t)
-    (write-branch-same-length t)
-    (write-branch-returns t))
-    (λ t. write-rounds-lts.spec (write-rounds-claims t) (write-rounds-at t)
-    write-rounds.Post
-    write-rounds-Inv-loop
-    write-rounds-μ-loop
-    (write-rounds-add-body t)
-    (write-rounds-loop-holds t)
-    (write-rounds-written-requires t)
-    (write-rounds-sub-write-block t)
-    (write-rounds-part-write-block-start t)
-    (write-rounds-part-write-block-end t)
-    (write-rounds-write-block-requires t)
-    (write-rounds-add-round t)
-    (write-rounds-loop-less t)
-    (write-rounds-loop-again t)
-    (write-rounds-written-requires-2 t)
-    (write-rounds-check-of-requires t)
-    (write-rounds-sub-put-step t)
-    (write-rounds-part-put-step-start t)
-    (write-rounds-part-put-step-end t)
-    (write-rounds-put-step-requires t)
-    (write-rounds-add-t27 t)
-    (write-rounds-same-length t)
-    (write-rounds-returns t))
-    (λ t. write-side-lts.spec (write-side-claims t) (write-side-at t)
-    write-side.Post
-    (write-side-write-block-requires t)
-    (write-side-written-requires t)
-    (write-side-sub-close-side t)
-    (write-side-part-close-side-start t)
-    (write-side-part-close-side-end t)
-    (write-side-close-side-requires t)
-    (write-side-same-length t)
+    close μ-write-block μ-write-branch μ-write-rounds μ-write-side μ-write-statement
+    (λ t. write-block-lts.spec (write-block-claims t) (write-block-at t) write-block.Post write-block-Inv-loop write-block-μ-loop
+    (λ c. block-start ((c .before .before .pre) .1)) (λ c κs. omega (arith, (c .before .loop) .inv .passing .rest .file .inside))
+    (search needs) (λ c. part-length ((c .before .before .before .before .loop) .inv .writing .part)) (write-block-returns t)
+    (λ c κs. writing-upto ((c .before .before .before .before .loop) .inv .writing))
+    (λ c. rw (c .written .ensures) (writing-at ((c .before .before .before .before .before .loop) .inv .writing)))
+    (λ c. rw (c .written .ensures) (writing-at ((c .before .before .before .before .before .loop) .inv .writing))) (search needs)
+    (write-block-write-statement-requires t) (write-block-loop-less t) (write-block-loop-again t)
+    (λ c. part-length ((c .before .loop) .inv .writing .part)) (λ c. block-ended ((c .before .loop) .inv) ((c .loop-test) .left)))
+    (λ t. write-branch-lts.spec (write-branch-claims t) (write-branch-at t) write-branch.Post (write-branch-put-step-requires t)
+    (write-branch-written-requires t) (write-branch-mul-end t) (write-branch-element-copy-out-end t) (write-branch-add-write-side t)
+    (write-branch-add-write-side-2 t) (write-branch-sub-write-side t) (write-branch-part-write-side-start t) (search needs)
+    (write-branch-write-side-requires t) (write-branch-written-requires-2 t) (write-branch-add-write-side-3 t) (search needs)
+    (write-branch-sub-write-side-2 t) (write-branch-part-write-side-start-2 t) (search needs) (write-branch-write-side-requires-2 t)
+    (write-branch-add-t24 t) (write-branch-same-length t) (write-branch-returns t))
+    (λ t. write-rounds-lts.spec (write-rounds-claims t) (write-rounds-at t) write-rounds.Post write-rounds-Inv-loop write-rounds-μ-loop
+    (write-rounds-add-body t) (write-rounds-loop-holds t) (λ c κs. writing-upto ((c .before .loop) .inv .turn .writing))
+    (λ c. rw (c .written .ensures) (writing-at ((c .before .before .loop) .inv .turn .writing)))
+    (λ c. rw (c .written .ensures) (writing-at ((c .before .before .loop) .inv .turn .writing))) (search needs)
+    (write-rounds-write-block-requires t) (write-rounds-add-round t) (omega arith) (write-rounds-loop-again t)
+    (λ c κs. writing-upto ((c .before .loop) .inv .turn .writing)) (search needs)
+    (λ c. rw (c .before .written2 .ensures) (writing-at ((c .before .before .before .loop) .inv .turn .writing)))
+    (λ c. rw (c .before .written2 .ensures) (writing-at ((c .before .before .before .loop) .inv .turn .writing))) (search needs)
+    (write-rounds-put-step-requires t) (write-rounds-add-t27 t) (write-rounds-same-length t) (write-rounds-returns t))
+    (λ t. write-side-lts.spec (write-side-claims t) (write-side-at t) write-side.Post
+    (λ c κs. (omega arith, side-fits ((c .before .before .before .pre) .1))) (write-side-written-requires t) (write-side-sub-close-side t)
+    (write-side-part-close-side-start t) (search needs) (write-side-close-side-requires t) (write-side-same-length t)
     (write-side-returns t))
-    λ t. write-statement-lts.spec (write-statement-claims t) (write-statement-at t)
-    write-statement.Post
-    (write-statement-record-at-requires t)
-    (write-statement-write-branch-requires t)
-    (write-statement-same-length t)
-    (write-statement-returns t)
-    (write-statement-idle-at-requires t)
-    (write-statement-write-idle-requires t)
-    (write-statement-same-length-2 t)
-    (write-statement-returns-2 t)
-    (write-statement-write-rounds-requires t)
-    (write-statement-same-length-3 t)
-    (write-statement-returns-3 t)
-    (write-statement-step-ticks-requires t)
-    (write-statement-put-step-requires t)
-    (write-statement-add-next t)
-    (write-statement-same-length-4 t)
-    (write-statement-returns-4 t)
+    λ t. write-statement-lts.spec (write-statement-claims t) (write-statement-at t) write-statement.Post
+    (write-statement-record-at-requires t) (write-statement-write-branch-requires t) (search needs)
+    (λ c. (c .before .before .write-branch) .ensures) (write-statement-idle-at-requires t) (write-statement-write-idle-requires t)
+    (search needs) (write-statement-returns-2 t) (write-statement-write-rounds-requires t) (search needs)
+    (λ c. c .before .before .write-rounds .ensures) (search needs) (write-statement-put-step-requires t) (write-statement-add-next t)
+    (search needs) (write-statement-returns-4 t)

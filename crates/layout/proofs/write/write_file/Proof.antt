@@ -60,26 +60,8 @@ blocked c =
     let k = b .before .before .before .before .before .before in
     tail-part (k .before .before .before .before .before .pre) (opened (b .before .before)) (begun k) (b .write-block .ensures) (c .written .ensures)
 
-start-requires : tie.Need-start-requires
-start-requires c κs = search needs
-
-put-commands-requires : tie.Need-put-commands-requires
-put-commands-requires c κs = start-fits (c .before .before .before .before .pre) (c .before .start .ensures)
-
-start-requires-2 : tie.Need-start-requires-2
-start-requires-2 c κs = search needs
-
 commanded-requires : tie.Need-commanded-requires
 commanded-requires c κs = subst (Laying _) (sym (c .start2 .ensures)) (laying-start (c .before .before .before .before .before .before .before .before .pre .settings))
-
-sub-write-block : tie.Need-sub-write-block
-sub-write-block c = part-at (begun (c .before .before .before .before))
-
-part-write-block-start : tie.Need-part-write-block-start
-part-write-block-start c = part-at (begun (c .before .before .before .before))
-
-part-write-block-end : tie.Need-part-write-block-end
-part-write-block-end c = search needs
 
 write-block-requires : tie.Need-write-block-requires
 write-block-requires c κs =
@@ -98,15 +80,6 @@ add-tail c =
     let k = c .before .before .before .before .before .before .before .before .before .before in
     omega (arith, part-room (blocked c), k .before .before .before .before .before .good .1 .1 .1 .0 .0)
 
-sub-put-tail : tie.Need-sub-put-tail
-sub-put-tail c = part-at (blocked c)
-
-part-put-tail-start : tie.Need-part-put-tail-start
-part-put-tail-start c = part-at (blocked c)
-
-part-put-tail-end : tie.Need-part-put-tail-end
-part-put-tail-end c = search needs
-
 put-tail-requires : tie.Need-put-tail-requires
 put-tail-requires c κs =
     let b = c .before .before .before .before .before in
@@ -114,29 +87,10 @@ put-tail-requires c κs =
     let t = tail-laying (k .before .before .before .before .before .pre) (opened (b .before .before)) (begun k) (b .write-block .ensures) in
     (t .0, t .1, part-fits-last (blocked (c .before)))
 
-same-length : tie.Need-same-length
-same-length c = search needs
-
-returns : tie.Need-returns
-returns c = part-last (blocked (c .before .before .before .before)) (c .before .before .put-tail .ensures)
-
 pub write-file-spec : {M : Type 1} → statement M
 write-file-spec =
-    tie.close
-    (tie.spec
-    start-requires
-    put-commands-requires
-    start-requires-2
-    commanded-requires
-    sub-write-block
-    part-write-block-start
-    part-write-block-end
-    write-block-requires
-    written-requires
-    add-tail
-    sub-put-tail
-    part-put-tail-start
-    part-put-tail-end
-    put-tail-requires
-    same-length
-    returns)
+    tie.close (tie.spec (search needs) (λ c κs. start-fits (c .before .before .before .before .pre) (c .before .start .ensures))
+    (search needs) commanded-requires (λ c. part-at (begun (c .before .before .before .before)))
+    (λ c. part-at (begun (c .before .before .before .before))) (search needs) write-block-requires written-requires add-tail
+    (λ c. part-at (blocked c)) (λ c. part-at (blocked c)) (search needs) put-tail-requires (search needs)
+    (λ c. part-last (blocked (c .before .before .before .before)) (c .before .before .put-tail .ensures)))

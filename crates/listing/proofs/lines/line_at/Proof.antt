@@ -19,18 +19,6 @@ returns-2 c =
     let a = c .before .before .before .before .args in
     line-past-table (a .laid .now) (a .starts .now) (a .i) (omega (arith, c .before .if1 .left)) (omega (arith, c .if2 .taken))
 
-mul-tick : tie.Need-mul-tick
-mul-tick c = search needs
-
-shared-slice-read-tick : tie.Need-shared-slice-read-tick
-shared-slice-read-tick c = search needs
-
-record-at-requires : tie.Need-record-at-requires
-record-at-requires c κs = search needs
-
-line-of-requires : tie.Need-line-of-requires
-line-of-requires c κs = search needs
-
 returns-3 : tie.Need-returns-3
 returns-3 c =
     let w = c .before .before .before in
@@ -40,12 +28,4 @@ returns-3 c =
 
 pub line-at-spec : {M : Type 1} → statement M
 line-at-spec =
-    tie.close
-    (tie.spec
-    returns
-    returns-2
-    mul-tick
-    shared-slice-read-tick
-    record-at-requires
-    line-of-requires
-    returns-3)
+    tie.close (tie.spec returns returns-2 (search needs) (search needs) (search needs) (search needs) returns-3)

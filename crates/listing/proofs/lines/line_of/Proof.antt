@@ -4,27 +4,6 @@ use Rattle.listing.proofs.LineLaws.{line-skip, line-beat, line-four, li
 use Rattle.listing.proofs.lines.line_of.Statement.{statement}
 use Rattle.listing.proofs.lines.line_of.Tie as tie
 
-wide-requires : tie.Need-wide-requires
-wide-requires c κs = search needs
-
-wide-requires-2 : tie.Need-wide-requires-2
-wide-requires-2 c κs = search needs
-
-wide-requires-3 : tie.Need-wide-requires-3
-wide-requires-3 c κs = search needs
-
-wide-requires-4 : tie.Need-wide-requires-4
-wide-requires-4 c κs = search needs
-
-wide-requires-5 : tie.Need-wide-requires-5
-wide-requires-5 c κs = search needs
-
-returns : tie.Need-returns
-returns c = line-skip (c .before .args .tick) (recordOf (c .before .args .r)) (c .match .keys1)
-
-returns-2 : tie.Need-returns-2
-returns-2 c = line-beat (c .before .args .tick) (recordOf (c .before .args .r)) (c .match .keys2)
-
 returns-3 : tie.Need-returns-3
 returns-3 c =
     let w = c .before .before .before .before in
@@ -52,16 +31,6 @@ returns-6 c =
 
 pub line-of-spec : {M : Type 1} → statement M
 line-of-spec =
-    tie.close
-    (tie.spec
-    wide-requires
-    wide-requires-2
-    wide-requires-3
-    wide-requires-4
-    wide-requires-5
-    returns
-    returns-2
-    returns-3
-    returns-4
-    returns-5
-    returns-6)
+    tie.close (tie.spec (search needs) (search needs) (search needs) (search needs) (search needs)
+    (λ c. line-skip (c .before .args .tick) (recordOf (c .before .args .r)) (c .match .keys1))
+    (λ c. line-beat (c .before .args .tick) (recordOf (c .before .args .r)) (c .match .keys2)) returns-3 returns-4 returns-5 returns-6)

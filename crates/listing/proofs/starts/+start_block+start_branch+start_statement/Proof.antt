@@ -39,40 +39,22 @@ abbrev μ-start-statement : Measures 2 start-statement-kinds.ps ℕ
 μ-start-statement κs a = 3 * (a .1 .1 .0 - a .1 .0) + 1
 
 abbrev start-block-at : ℕ → In 2 start-block-kinds.ps
-start-block-at t =
-    and 2 start-block-kinds.ps (is 2 start-block-kinds.ps μ-start-block t) start-block.Pre
+start-block-at t = and 2 start-block-kinds.ps (is 2 start-block-kinds.ps μ-start-block t) start-block.Pre
 
 abbrev start-block-below : ℕ → In 2 start-block-kinds.ps
-start-block-below t =
-    and 2 start-block-kinds.ps (falls 2 start-block-kinds.ps _<_ μ-start-block t) start-block.Pre
+start-block-below t = and 2 start-block-kinds.ps (falls 2 start-block-kinds.ps _<_ μ-start-block t) start-block.Pre
 
 abbrev start-branch-at : ℕ → In 2 start-branch-kinds.ps
-start-branch-at t =
-    and 2 start-branch-kinds.ps (is 2 start-branch-kinds.ps μ-start-branch t) start-branch.Pre
+start-branch-at t = and 2 start-branch-kinds.ps (is 2 start-branch-kinds.ps μ-start-branch t) start-branch.Pre
 
 abbrev start-branch-below : ℕ → In 2 start-branch-kinds.ps
-start-branch-below t =
-    and
-    2
-    start-branch-kinds.ps
-    (falls 2 start-branch-kinds.ps _<_ μ-start-branch t)
-    start-branch.Pre
+start-branch-below t = and 2 start-branch-kinds.ps (falls 2 start-branch-kinds.ps _<_ μ-start-branch t) start-branch.Pre
 
 abbrev start-statement-at : ℕ → In 2 start-statement-kinds.ps
-start-statement-at t =
-    and
-    2
-    start-statement-kinds.ps
-    (is 2 start-statement-kinds.ps μ-start-statement t)
-    start-statement.Pre
+start-statement-at t = and 2 start-statement-kinds.ps (is 2 start-statement-kinds.ps μ-start-statement t) start-statement.Pre
 
 abbrev start-statement-below : ℕ → In 2 start-statement-kinds.ps
-start-statement-below t =
-    and
-    2
-    start-statement-kinds.ps
-    (falls 2 start-statement-kinds.ps _<_ μ-start-statement t)
-    start-statement.Pre
+start-statement-below t = and 2 start-statement-kinds.ps (falls 2 start-statement-kinds.ps _<_ μ-start-statement t) start-statement.Pre
 
 abbrev start-block-Inv-loop : start-block-lts.InvT-loop
 start-block-Inv-loop s from to n at out₀ tick₀ next₀ out tick next = Starting s from to n at out₀ out tick next
@@ -88,9 +70,6 @@ start-branch-claims t = (start-block-below t, start-block.Post, later-reads.Aske
 
 abbrev start-statement-claims : ℕ → start-statement-lts.Claims
 start-statement-claims t = (record-at-reads.Asked, record-at-reads.Learnt, start-branch-below t, start-branch.Post, step-ticks-reads.Asked, step-ticks-reads.Learnt)
-
-start-block-loop-holds : (t : ℕ) → start-block-lts.Need-loop-holds (start-block-claims t) (start-block-at t) start-block.Post start-block-Inv-loop start-block-μ-loop
-start-block-loop-holds t c = starting-start (c .before .before .pre .1)
 
 start-block-kind-at-requires : (t : ℕ)
     → start-block-lts.Need-kind-at-requires (start-block-claims t) (start-block-at t) start-block.Post start-block-Inv-loop start-block-μ-loop
@@ -136,21 +115,6 @@ start-block-same-length-2 : (t : ℕ)
     → start-block-lts.Need-same-length-2 (start-block-claims t) (start-block-at t) start-block.Post start-block-Inv-loop start-block-μ-loop
 start-block-same-length-2 t c = omega (arith, c .before .loop .inv .kept)
 
-start-block-returns-2 : (t : ℕ) → start-block-lts.Need-returns-2 (start-block-claims t) (start-block-at t) start-block.Post start-block-Inv-loop start-block-μ-loop
-start-block-returns-2 t c = starting-ended (c .before .loop .inv) (c .loop-test .left)
-
-start-branch-add-inside : (t : ℕ) → start-branch-lts.Need-add-inside (start-branch-claims t) (start-branch-at t) start-branch.Post
-start-branch-add-inside t c = omega (arith, sides-early (c .before .before .pre .1 .0) (c .before .before .pre .1 .1))
-
-start-branch-mul-out : (t : ℕ) → start-branch-lts.Need-mul-out (start-branch-claims t) (start-branch-at t) start-branch.Post
-start-branch-mul-out t c = omega (arith, c .before .before .pre .1 .0 .inside, c .before .before .pre .1 .0 .entered .room)
-
-start-branch-slice-write-out : (t : ℕ) → start-branch-lts.Need-slice-write-out (start-branch-claims t) (start-branch-at t) start-branch.Post
-start-branch-slice-write-out t c = omega (arith, c .before .before .pre .1 .0 .inside, c .before .before .pre .1 .0 .entered .room)
-
-start-branch-add-start-block : (t : ℕ) → start-branch-lts.Need-add-start-block (start-branch-claims t) (start-branch-at t) start-branch.Post
-start-branch-add-start-block t c = omega (arith, c .before .before .pre .1 .0 .inside, c .before .before .pre .1 .0 .entered .room)
-
 start-branch-start-block-requires : (t : ℕ) → start-branch-lts.Need-start-block-requires (start-branch-claims t) (start-branch-at t) start-branch.Post
 start-branch-start-block-requires t c κs =
     let w = c .before .before .before in
@@ -178,9 +142,6 @@ start-branch-start-block-requires-2 t c κs =
     let i = middle-after (w .pre .1 .0) (w .pre .1 .1) e in
     let j = middle-inside (w .pre .1 .0) (w .pre .1 .1) e in
     (omega (arith, w .pre .0, w .pre .1 .0 .inside), two-entered (w .pre .1 .0) (w .pre .1 .1) e (simp length-set))
-
-start-branch-later-requires : (t : ℕ) → start-branch-lts.Need-later-requires (start-branch-claims t) (start-branch-at t) start-branch.Post
-start-branch-later-requires t c κs = search needs
 
 start-branch-mul-out-3 : (t : ℕ) → start-branch-lts.Need-mul-out-3 (start-branch-claims t) (start-branch-at t) start-branch.Post
 start-branch-mul-out-3 t c =
@@ -213,19 +174,10 @@ start-branch-returns t c =
     let v = w .before .before .before .before in
     branch-started (v .pre .1 .0) (v .pre .1 .1) (w .start-block .ensures) (simp length-set) (c .before .before .before .start-block2 .ensures) refl (c .later .ensures)
 
-start-statement-record-at-requires : (t : ℕ) → start-statement-lts.Need-record-at-requires (start-statement-claims t) (start-statement-at t) start-statement.Post
-start-statement-record-at-requires t c κs = omega (arith, c .before .before .pre .1 .inside, c .before .before .pre .1 .entered .file .inside)
-
 start-statement-start-branch-requires : (t : ℕ) → start-statement-lts.Need-start-branch-requires (start-statement-claims t) (start-statement-at t) start-statement.Post
 start-statement-start-branch-requires t c κs =
     let w = c .before .before .before .before .before .before in
     (omega (arith, w .pre .0), (w .pre .1, ap (λ (x : Rec). x .kind) (sym (c .before .before .before .record-at .ensures)) ∙ c .before .if1 .taken))
-
-start-statement-same-length : (t : ℕ) → start-statement-lts.Need-same-length (start-statement-claims t) (start-statement-at t) start-statement.Post
-start-statement-same-length t c = search needs
-
-start-statement-returns : (t : ℕ) → start-statement-lts.Need-returns (start-statement-claims t) (start-statement-at t) start-statement.Post
-start-statement-returns t c = c .before .before .start-branch .ensures
 
 start-statement-mul-out : (t : ℕ) → start-statement-lts.Need-mul-out (start-statement-claims t) (start-statement-at t) start-statement.Post
 start-statement-mul-out t c =
@@ -237,9 +189,6 @@ start-statement-slice-write-out t c =
     let w = c .before .before .before .before .before in
     omega (arith, w .pre .1 .inside, w .pre .1 .entered .room)
 
-start-statement-step-ticks-requires : (t : ℕ) → start-statement-lts.Need-step-ticks-requires (start-statement-claims t) (start-statement-at t) start-statement.Post
-start-statement-step-ticks-requires t c κs = search needs
-
 start-statement-add-t14 : (t : ℕ) → start-statement-lts.Need-add-t14 (start-statement-claims t) (start-statement-at t) start-statement.Post
 start-statement-add-t14 t c =
     let w = c .before .before .before .before .before .before in
@@ -250,9 +199,6 @@ start-statement-add-t11 t c =
     let w = c .before .before .before .before .before .before in
     omega (arith, w .pre .1 .inside, w .pre .1 .entered .room)
 
-start-statement-same-length-2 : (t : ℕ) → start-statement-lts.Need-same-length-2 (start-statement-claims t) (start-statement-at t) start-statement.Post
-start-statement-same-length-2 t c = simp length-set
-
 start-statement-returns-2 : (t : ℕ) → start-statement-lts.Need-returns-2 (start-statement-claims t) (start-statement-at t) start-statement.Post
 start-statement-returns-2 t c =
     let w = c .before .before .before .before .before .before in
@@ -261,46 +207,20 @@ start-statement-returns-2 t c =
 pub +start-block+start-branch+start-statement-spec : {M : Type 1} → statement M
 +start-block+start-branch+start-statement-spec =
     close μ-start-block μ-start-branch μ-start-statement (λ t. start-block-lts.spec (start-block-claims t) (start-block-at t)
-    start-block.Post
-    start-block-Inv-loop
-    start-block-μ-loop
-    (start-block-loop-holds t)
-    (start-block-kind-at-requires t)
-    (start-block-closes-requires t)
-    (start-block-same-length t)
-    (start-block-returns t)
-    (start-block-start-statement-requires t)
-    (start-block-loop-less t)
-    (start-block-loop-again t)
-    (start-block-same-length-2 t)
-    (start-block-returns-2 t))
-    (λ t. start-branch-lts.spec (start-branch-claims t) (start-branch-at t)
-    start-branch.Post
-    (start-branch-add-inside t)
-    (start-branch-mul-out t)
-    (start-branch-slice-write-out t)
-    (start-branch-add-start-block t)
-    (start-branch-start-block-requires t)
-    (start-branch-mul-out-2 t)
-    (start-branch-slice-write-out-2 t)
-    (start-branch-add-start-block-2 t)
-    (start-branch-start-block-requires-2 t)
-    (start-branch-later-requires t)
-    (start-branch-mul-out-3 t)
-    (start-branch-slice-write-out-3 t)
-    (start-branch-add-t13 t)
-    (start-branch-same-length t)
-    (start-branch-returns t))
-    λ t. start-statement-lts.spec (start-statement-claims t) (start-statement-at t)
-    start-statement.Post
-    (start-statement-record-at-requires t)
-    (start-statement-start-branch-requires t)
-    (start-statement-same-length t)
-    (start-statement-returns t)
-    (start-statement-mul-out t)
-    (start-statement-slice-write-out t)
-    (start-statement-step-ticks-requires t)
-    (start-statement-add-t14 t)
-    (start-statement-add-t11 t)
-    (start-statement-same-length-2 t)
+    start-block.Post start-block-Inv-loop start-block-μ-loop (λ c. starting-start (c .before .before .pre .1))
+    (start-block-kind-at-requires t) (start-block-closes-requires t) (start-block-same-length t) (start-block-returns t)
+    (start-block-start-statement-requires t) (start-block-loop-less t) (start-block-loop-again t) (start-block-same-length-2 t)
+    (λ c. starting-ended (c .before .loop .inv) (c .loop-test .left)))
+    (λ t. start-branch-lts.spec (start-branch-claims t) (start-branch-at t) start-branch.Post
+    (λ c. omega (arith, sides-early (c .before .before .pre .1 .0) (c .before .before .pre .1 .1)))
+    (λ c. omega (arith, c .before .before .pre .1 .0 .inside, c .before .before .pre .1 .0 .entered .room))
+    (λ c. omega (arith, c .before .before .pre .1 .0 .inside, c .before .before .pre .1 .0 .entered .room))
+    (λ c. omega (arith, c .before .before .pre .1 .0 .inside, c .before .before .pre .1 .0 .entered .room))
+    (start-branch-start-block-requires t) (start-branch-mul-out-2 t) (start-branch-slice-write-out-2 t) (start-branch-add-start-block-2 t)
+    (start-branch-start-block-requires-2 t) (search needs) (start-branch-mul-out-3 t) (start-branch-slice-write-out-3 t)
+    (start-branch-add-t13 t) (start-branch-same-length t) (start-branch-returns t))
+    λ t. start-statement-lts.spec (start-statement-claims t) (start-statement-at t) start-statement.Post
+    (λ c κs. omega (arith, c .before .before .pre .1 .inside, c .before .before .pre .1 .entered .file .inside))
+    (start-statement-start-branch-requires t) (search needs) (λ c. c .before .before .start-branch .ensures) (start-statement-mul-out t)
+    (start-statement-slice-write-out t) (search needs) (start-statement-add-t14 t) (start-statement-add-t11 t) (λ c. simp length-set)
     (start-statement-returns-2 t)

@@ -54,40 +54,28 @@ abbrev run-loop-at : ℕ → In 5 run-loop-kinds.ps
 run-loop-at t = and 5 run-loop-kinds.ps (is 5 run-loop-kinds.ps μ-run-loop t) run-loop.Pre
 
 abbrev run-loop-below : ℕ → In 5 run-loop-kinds.ps
-run-loop-below t =
-    and 5 run-loop-kinds.ps (falls 5 run-loop-kinds.ps _<_ μ-run-loop t) run-loop.Pre
+run-loop-below t = and 5 run-loop-kinds.ps (falls 5 run-loop-kinds.ps _<_ μ-run-loop t) run-loop.Pre
 
 abbrev run-records-at : ℕ → In 5 run-records-kinds.ps
-run-records-at t =
-    and 5 run-records-kinds.ps (is 5 run-records-kinds.ps μ-run-records t) run-records.Pre
+run-records-at t = and 5 run-records-kinds.ps (is 5 run-records-kinds.ps μ-run-records t) run-records.Pre
 
 abbrev run-records-below : ℕ → In 5 run-records-kinds.ps
-run-records-below t =
-    and 5 run-records-kinds.ps (falls 5 run-records-kinds.ps _<_ μ-run-records t) run-records.Pre
+run-records-below t = and 5 run-records-kinds.ps (falls 5 run-records-kinds.ps _<_ μ-run-records t) run-records.Pre
 
 abbrev run-times-at : ℕ → In 5 run-times-kinds.ps
 run-times-at t = and 5 run-times-kinds.ps (is 5 run-times-kinds.ps μ-run-times t) run-times.Pre
 
 abbrev run-times-below : ℕ → In 5 run-times-kinds.ps
-run-times-below t =
-    and 5 run-times-kinds.ps (falls 5 run-times-kinds.ps _<_ μ-run-times t) run-times.Pre
+run-times-below t = and 5 run-times-kinds.ps (falls 5 run-times-kinds.ps _<_ μ-run-times t) run-times.Pre
 
 abbrev run-while-at : ℕ → In 5 run-while-kinds.ps
 run-while-at t = and 5 run-while-kinds.ps (is 5 run-while-kinds.ps μ-run-while t) run-while.Pre
 
 abbrev run-while-below : ℕ → In 5 run-while-kinds.ps
-run-while-below t =
-    and 5 run-while-kinds.ps (falls 5 run-while-kinds.ps _<_ μ-run-while t) run-while.Pre
+run-while-below t = and 5 run-while-kinds.ps (falls 5 run-while-kinds.ps _<_ μ-run-while t) run-while.Pre
 
 abbrev run-loop-claims : ℕ → run-loop-lts.Claims
-run-loop-claims t = (
-  record-at-reads.Asked,
-  record-at-reads.Learnt,
-  run-while-below t,
-  run-while.Post,
-  run-times-below t,
-  run-times.Post,
-)
+run-loop-claims t = (record-at-reads.Asked, record-at-reads.Learnt, run-while-below t, run-while.Post, run-times-below t, run-times.Post)
 
 abbrev run-records-claims : ℕ → run-records-lts.Claims
 run-records-claims t = (
@@ -141,23 +129,11 @@ run-loop-run-while-requires t c κs =
     let w = c .before .before .before .before .before .before .before .before in
     (omega (arith, w .pre .0), (w .pre .1 .0, c .before .before .before .record-at .ensures, kind-there (c .before .before .before .record-at .ensures) (c .before .if1 .taken)))
 
-run-loop-same-length : (t : ℕ) → run-loop-lts.Need-same-length (run-loop-claims t) (run-loop-at t) run-loop.Post
-run-loop-same-length t c = search needs
-
-run-loop-returns : (t : ℕ) → run-loop-lts.Need-returns (run-loop-claims t) (run-loop-at t) run-loop.Post
-run-loop-returns t c = (c .before .before .run-while) .ensures
-
 run-loop-run-times-requires : (t : ℕ) → run-loop-lts.Need-run-times-requires (run-loop-claims t) (run-loop-at t) run-loop.Post
 run-loop-run-times-requires t c κs =
     let w = c .before .before .before .before .before .before .before .before in
     let kind = ap (λ (x : Rec). x .kind) (c .before .before .before .record-at .ensures) in
     (omega (arith, w .pre .0), (w .pre .1 .0, c .before .before .before .record-at .ensures, loop-times _ (w .pre .1 .1) (λ e. (c .before .if1) .left (kind ∙ e))))
-
-run-loop-same-length-2 : (t : ℕ) → run-loop-lts.Need-same-length-2 (run-loop-claims t) (run-loop-at t) run-loop.Post
-run-loop-same-length-2 t c = search needs
-
-run-loop-returns-2 : (t : ℕ) → run-loop-lts.Need-returns-2 (run-loop-claims t) (run-loop-at t) run-loop.Post
-run-loop-returns-2 t c = (c .before .before .run-times) .ensures
 
 abbrev run-records-Inv-loop : run-records-lts.InvT-loop
 run-records-Inv-loop s from to ends table inputs limit tick cells₀ at₀ next₀ cells at next = Running s from to ends (settingsIn table) inputs limit at₀ cells₀ cells at next
@@ -170,25 +146,10 @@ run-records-loop-holds t c =
     let w = c .before .before .before .before in
     running-start (w .pre .1)
 
-run-records-run-steps-requires : (t : ℕ) → run-records-lts.Need-run-steps-requires (run-records-claims t) (run-records-at t) run-records.Post run-records-Inv-loop run-records-μ-loop
-run-records-run-steps-requires t c κs = (c .before .before .loop) .inv .rest
-
-run-records-ended-requires : (t : ℕ) → run-records-lts.Need-ended-requires (run-records-claims t) (run-records-at t) run-records.Post run-records-Inv-loop run-records-μ-loop
-run-records-ended-requires t c κs = search needs
-
-run-records-same-length : (t : ℕ) → run-records-lts.Need-same-length (run-records-claims t) (run-records-at t) run-records.Post run-records-Inv-loop run-records-μ-loop
-run-records-same-length t c = search needs
-
 run-records-returns : (t : ℕ) → run-records-lts.Need-returns (run-records-claims t) (run-records-at t) run-records.Post run-records-Inv-loop run-records-μ-loop
 run-records-returns t c =
     let w = c .before .before .before .before in
     running-ran (w .before .before .before .loop .inv) (w .run-steps .ensures .moved .halts (sym (c .before .ended .ensures) ∙ c .if1 .taken))
-
-run-records-going-requires : (t : ℕ) → run-records-lts.Need-going-requires (run-records-claims t) (run-records-at t) run-records.Post run-records-Inv-loop run-records-μ-loop
-run-records-going-requires t c κs = search needs
-
-run-records-same-length-2 : (t : ℕ) → run-records-lts.Need-same-length-2 (run-records-claims t) (run-records-at t) run-records.Post run-records-Inv-loop run-records-μ-loop
-run-records-same-length-2 t c = search needs
 
 run-records-returns-2 : (t : ℕ) → run-records-lts.Need-returns-2 (run-records-claims t) (run-records-at t) run-records.Post run-records-Inv-loop run-records-μ-loop
 run-records-returns-2 t c =
@@ -207,12 +168,6 @@ run-records-run-loop-requires t c κs =
       omega (arith, v .pre .0, w .before .before .before .loop .inv .on, moved .on, running-inside (moved .rest), c .before .if2 .left, moved .rest .given .few),
       (statement-next (running-then (w .before .before .before .loop .inv) moved) (c .before .if2 .left) goes, w .run-steps .ensures .stops on (c .before .if2 .left)),
     )
-
-run-records-ended-requires-2 : (t : ℕ) → run-records-lts.Need-ended-requires-2 (run-records-claims t) (run-records-at t) run-records.Post run-records-Inv-loop run-records-μ-loop
-run-records-ended-requires-2 t c κs = search needs
-
-run-records-same-length-3 : (t : ℕ) → run-records-lts.Need-same-length-3 (run-records-claims t) (run-records-at t) run-records.Post run-records-Inv-loop run-records-μ-loop
-run-records-same-length-3 t c = search needs
 
 run-records-returns-3 : (t : ℕ) → run-records-lts.Need-returns-3 (run-records-claims t) (run-records-at t) run-records.Post run-records-Inv-loop run-records-μ-loop
 run-records-returns-3 t c =
@@ -250,15 +205,6 @@ run-records-loop-again t c =
     let past = past-ran (running-start (moved .rest)) (w .before .before .if2 .left) goes (w .run-loop .ensures) (search needs) in
     running-then (running-then (u .loop .inv) moved) (past .moved .goes (sym (c .before .ended2 .ensures) ∙ c .if3 .left))
 
-run-records-going-requires-2 : (t : ℕ) → run-records-lts.Need-going-requires-2 (run-records-claims t) (run-records-at t) run-records.Post run-records-Inv-loop run-records-μ-loop
-run-records-going-requires-2 t c κs = search needs
-
-run-records-same-length-4 : (t : ℕ) → run-records-lts.Need-same-length-4 (run-records-claims t) (run-records-at t) run-records.Post run-records-Inv-loop run-records-μ-loop
-run-records-same-length-4 t c = search needs
-
-run-records-returns-4 : (t : ℕ) → run-records-lts.Need-returns-4 (run-records-claims t) (run-records-at t) run-records.Post run-records-Inv-loop run-records-μ-loop
-run-records-returns-4 t c = running-ended ((c .before .before .loop) .inv) ((c .before .loop-test) .left) ((c .going2) .ensures)
-
 abbrev run-times-Inv-loop : run-times-lts.InvT-loop
 run-times-Inv-loop s i ends r table inputs limit tick cells₀ body to next at₀ round₀ cells at round =
     Looping s i ends (recordOf r) (settingsIn table) inputs limit at₀ cells₀ cells at to (r .count) round next (turning i)
@@ -277,17 +223,11 @@ run-times-last-requires t c κs =
     let w = c .before .before .before .before in
     record { before = w .pre .1 .0 .reached .inside; few = w .pre .1 .0 .reached .given .few; table = w .pre .1 .0 .reached .given .table }
 
-run-times-add-next : (t : ℕ) → run-times-lts.Need-add-next (run-times-claims t) (run-times-at t) run-times.Post run-times-Inv-loop run-times-μ-loop
-run-times-add-next t c = record { fits = omega (arith, (c .last) .ensures .1) }
-
 run-times-run-last-test-requires : (t : ℕ) → run-times-lts.Need-run-last-test-requires (run-times-claims t) (run-times-at t) run-times.Post run-times-Inv-loop run-times-μ-loop
 run-times-run-last-test-requires t c κs =
     let w = c .before .before .before .before .before .before .before in
     let fits = test-there (w .pre .1 .0) (w .pre .1 .1) (ap opensBlock (w .pre .1 .2)) in
     (w .pre .1 .0 .reached .given .lent .cells, fits, w .pre .1 .0 .reached .given .early)
-
-run-times-same-length : (t : ℕ) → run-times-lts.Need-same-length (run-times-claims t) (run-times-at t) run-times.Post run-times-Inv-loop run-times-μ-loop
-run-times-same-length t c = search needs
 
 run-times-returns : (t : ℕ) → run-times-lts.Need-returns (run-times-claims t) (run-times-at t) run-times.Post run-times-Inv-loop run-times-μ-loop
 run-times-returns t c =
@@ -304,24 +244,12 @@ run-times-run-records-requires t c κs =
     let w = c .before .before .before .before .before .before .before .before .before .before in
     (omega (arith, w .pre .0, w .pre .1 .0 .reached .inside, w .pre .1 .0 .reached .given .few), loop-entered (c .before .before .before .loop .inv) (c .before .before .before .loop .inv .early))
 
-run-times-ended-requires : (t : ℕ) → run-times-lts.Need-ended-requires (run-times-claims t) (run-times-at t) run-times.Post run-times-Inv-loop run-times-μ-loop
-run-times-ended-requires t c κs = search needs
-
-run-times-same-length-2 : (t : ℕ) → run-times-lts.Need-same-length-2 (run-times-claims t) (run-times-at t) run-times.Post run-times-Inv-loop run-times-μ-loop
-run-times-same-length-2 t c = search needs
-
 run-times-returns-2 : (t : ℕ) → run-times-lts.Need-returns-2 (run-times-claims t) (run-times-at t) run-times.Post run-times-Inv-loop run-times-μ-loop
 run-times-returns-2 t c =
     let w = c .before .before .before .before in
     let v = w .before .before .before .before in
     let inv = v .loop .inv in
     loop-halted inv (w .before .before .if2 .taken) (inv .early) (turning-turned inv) (w .run-records .ensures) (sym (c .before .ended .ensures) ∙ c .if3 .taken)
-
-run-times-add-round : (t : ℕ) → run-times-lts.Need-add-round (run-times-claims t) (run-times-at t) run-times.Post run-times-Inv-loop run-times-μ-loop
-run-times-add-round t c = search needs
-
-run-times-loop-less : (t : ℕ) → run-times-lts.Need-loop-less (run-times-claims t) (run-times-at t) run-times.Post run-times-Inv-loop run-times-μ-loop
-run-times-loop-less t c = search needs
 
 run-times-loop-again : (t : ℕ) → run-times-lts.Need-loop-again (run-times-claims t) (run-times-at t) run-times.Post run-times-Inv-loop run-times-μ-loop
 run-times-loop-again t c =
@@ -335,9 +263,6 @@ run-times-run-last-test-requires-2 t c κs =
     let w = c .before .before .before .before .before .before .before .before .before .before in
     let fits = test-there (w .pre .1 .0) (w .pre .1 .1) (ap opensBlock (w .pre .1 .2)) in
     (c .before .before .before .loop .inv .lent, fits, c .before .before .before .loop .inv .early)
-
-run-times-same-length-3 : (t : ℕ) → run-times-lts.Need-same-length-3 (run-times-claims t) (run-times-at t) run-times.Post run-times-Inv-loop run-times-μ-loop
-run-times-same-length-3 t c = search needs
 
 run-times-returns-3 : (t : ℕ) → run-times-lts.Need-returns-3 (run-times-claims t) (run-times-at t) run-times.Post run-times-Inv-loop run-times-μ-loop
 run-times-returns-3 t c =
@@ -362,27 +287,15 @@ run-while-last-requires t c κs =
     let w = c .before .before .before .before in
     record { before = w .pre .1 .0 .reached .inside; few = w .pre .1 .0 .reached .given .few; table = w .pre .1 .0 .reached .given .table }
 
-run-while-add-next : (t : ℕ) → run-while-lts.Need-add-next (run-while-claims t) (run-while-at t) run-while.Post run-while-Inv-loop run-while-μ-loop
-run-while-add-next t c = record { fits = omega (arith, (c .last) .ensures .1) }
-
 run-while-loop-holds : (t : ℕ) → run-while-lts.Need-loop-holds (run-while-claims t) (run-while-at t) run-while.Post run-while-Inv-loop run-while-μ-loop
 run-while-loop-holds t c =
     let w = c .before .before .before .before .before in
     spinning-start (w .pre .1 .0) (w .pre .1 .2) (w .pre .1 .1) (c .last .ensures .0) refl
 
-run-while-cut-off-requires : (t : ℕ) → run-while-lts.Need-cut-off-requires (run-while-claims t) (run-while-at t) run-while.Post run-while-Inv-loop run-while-μ-loop
-run-while-cut-off-requires t c κs = search needs
-
-run-while-same-length : (t : ℕ) → run-while-lts.Need-same-length (run-while-claims t) (run-while-at t) run-while.Post run-while-Inv-loop run-while-μ-loop
-run-while-same-length t c = search needs
-
 run-while-returns : (t : ℕ) → run-while-lts.Need-returns (run-while-claims t) (run-while-at t) run-while.Post run-while-Inv-loop run-while-μ-loop
 run-while-returns t c =
     let w = c .before .before .before .before in
     spinning-cut (w .loop .inv) (c .before .before .if1 .taken) (c .before .if2 .taken) (c .cut-off .ensures)
-
-run-while-add-at : (t : ℕ) → run-while-lts.Need-add-at (run-while-claims t) (run-while-at t) run-while.Post run-while-Inv-loop run-while-μ-loop
-run-while-add-at t c = search needs
 
 run-while-test-holds-requires : (t : ℕ) → run-while-lts.Need-test-holds-requires (run-while-claims t) (run-while-at t) run-while.Post run-while-Inv-loop run-while-μ-loop
 run-while-test-holds-requires t c κs =
@@ -390,12 +303,6 @@ run-while-test-holds-requires t c κs =
     let v = w .before .before .before .before .before .before in
     let fits = test-there (v .pre .1 .0) (v .pre .1 .1) (ap opensBlock (v .pre .1 .2)) in
     (w .loop .inv .lent, fits)
-
-run-while-going-requires : (t : ℕ) → run-while-lts.Need-going-requires (run-while-claims t) (run-while-at t) run-while.Post run-while-Inv-loop run-while-μ-loop
-run-while-going-requires t c κs = search needs
-
-run-while-same-length-2 : (t : ℕ) → run-while-lts.Need-same-length-2 (run-while-claims t) (run-while-at t) run-while.Post run-while-Inv-loop run-while-μ-loop
-run-while-same-length-2 t c = search needs
 
 run-while-returns-2 : (t : ℕ) → run-while-lts.Need-returns-2 (run-while-claims t) (run-while-at t) run-while.Post run-while-Inv-loop run-while-μ-loop
 run-while-returns-2 t c =
@@ -408,12 +315,6 @@ run-while-run-records-requires t c κs =
     let v = w .before .before .before .before .before .before in
     (omega (arith, v .pre .0, v .pre .1 .0 .reached .inside, v .pre .1 .0 .reached .given .few), loop-entered (w .loop .inv) (search needs))
 
-run-while-ended-requires : (t : ℕ) → run-while-lts.Need-ended-requires (run-while-claims t) (run-while-at t) run-while.Post run-while-Inv-loop run-while-μ-loop
-run-while-ended-requires t c κs = search needs
-
-run-while-same-length-3 : (t : ℕ) → run-while-lts.Need-same-length-3 (run-while-claims t) (run-while-at t) run-while.Post run-while-Inv-loop run-while-μ-loop
-run-while-same-length-3 t c = search needs
-
 run-while-returns-3 : (t : ℕ) → run-while-lts.Need-returns-3 (run-while-claims t) (run-while-at t) run-while.Post run-while-Inv-loop run-while-μ-loop
 run-while-returns-3 t c =
     let w = c .before .before .before .before in
@@ -421,12 +322,6 @@ run-while-returns-3 t c =
     let inv = v .before .before .before .loop .inv in
     let turned = spinning-turned inv (v .before .if1 .taken) (v .if2 .left) (w .before .before .before .test-holds .ensures) (w .before .before .if3 .left) in
     loop-halted inv (v .before .if1 .taken) (omega (arith, v .if2 .left)) turned (w .run-records .ensures) (sym (c .before .ended .ensures) ∙ c .if4 .taken)
-
-run-while-add-round : (t : ℕ) → run-while-lts.Need-add-round (run-while-claims t) (run-while-at t) run-while.Post run-while-Inv-loop run-while-μ-loop
-run-while-add-round t c = search needs
-
-run-while-loop-less : (t : ℕ) → run-while-lts.Need-loop-less (run-while-claims t) (run-while-at t) run-while.Post run-while-Inv-loop run-while-μ-loop
-run-while-loop-less t c = search needs
 
 run-while-loop-again : (t : ℕ) → run-while-lts.Need-loop-again (run-while-claims t) (run-while-at t) run-while.Post run-while-Inv-loop run-while-μ-loop
 run-while-loop-again t c =
@@ -442,9 +337,6 @@ run-while-run-last-test-requires t c κs =
     let fits = test-there (w .pre .1 .0) (w .pre .1 .1) (ap opensBlock (w .pre .1 .2)) in
     (c .before .before .before .loop .inv .lent, fits, c .before .before .before .loop .inv .early)
 
-run-while-same-length-4 : (t : ℕ) → run-while-lts.Need-same-length-4 (run-while-claims t) (run-while-at t) run-while.Post run-while-Inv-loop run-while-μ-loop
-run-while-same-length-4 t c = search needs
-
 run-while-returns-4 : (t : ℕ) → run-while-lts.Need-returns-4 (run-while-claims t) (run-while-at t) run-while.Post run-while-Inv-loop run-while-μ-loop
 run-while-returns-4 t c =
     let w = c .before .before .before .before in
@@ -452,80 +344,21 @@ run-while-returns-4 t c =
 
 pub +run-loop+run-records+run-times+run-while-spec : {M : Type 1} → statement M
 +run-loop+run-records+run-times+run-while-spec =
-    close μ-run-loop μ-run-records μ-run-times μ-run-while (λ t. run-loop-lts.spec (run-loop-claims t) (run-loop-at t)
-    run-loop.Post
-    (run-loop-record-at-requires t)
-    (run-loop-run-while-requires t)
-    (run-loop-same-length t)
-    (run-loop-returns t)
-    (run-loop-run-times-requires t)
-    (run-loop-same-length-2 t)
-    (run-loop-returns-2 t))
-    (λ t. run-records-lts.spec (run-records-claims t) (run-records-at t)
-    run-records.Post
-    run-records-Inv-loop
-    run-records-μ-loop
-    (run-records-loop-holds t)
-    (run-records-run-steps-requires t)
-    (run-records-ended-requires t)
-    (run-records-same-length t)
-    (run-records-returns t)
-    (run-records-going-requires t)
-    (run-records-same-length-2 t)
-    (run-records-returns-2 t)
-    (run-records-run-loop-requires t)
-    (run-records-ended-requires-2 t)
-    (run-records-same-length-3 t)
-    (run-records-returns-3 t)
-    (run-records-loop-less t)
-    (run-records-loop-again t)
-    (run-records-going-requires-2 t)
-    (run-records-same-length-4 t)
-    (run-records-returns-4 t))
-    (λ t. run-times-lts.spec (run-times-claims t) (run-times-at t)
-    run-times.Post
-    run-times-Inv-loop
-    run-times-μ-loop
-    (run-times-add-body t)
-    (run-times-last-requires t)
-    (run-times-add-next t)
-    (run-times-run-last-test-requires t)
-    (run-times-same-length t)
-    (run-times-returns t)
-    (run-times-loop-holds t)
-    (run-times-run-records-requires t)
-    (run-times-ended-requires t)
-    (run-times-same-length-2 t)
-    (run-times-returns-2 t)
-    (run-times-add-round t)
-    (run-times-loop-less t)
-    (run-times-loop-again t)
-    (run-times-run-last-test-requires-2 t)
-    (run-times-same-length-3 t)
+    close μ-run-loop μ-run-records μ-run-times μ-run-while (λ t. run-loop-lts.spec (run-loop-claims t) (run-loop-at t) run-loop.Post
+    (run-loop-record-at-requires t) (run-loop-run-while-requires t) (search needs) (λ c. (c .before .before .run-while) .ensures)
+    (run-loop-run-times-requires t) (search needs) (λ c. (c .before .before .run-times) .ensures))
+    (λ t. run-records-lts.spec (run-records-claims t) (run-records-at t) run-records.Post run-records-Inv-loop run-records-μ-loop
+    (run-records-loop-holds t) (λ c κs. (c .before .before .loop) .inv .rest) (search needs) (search needs) (run-records-returns t)
+    (search needs) (search needs) (run-records-returns-2 t) (run-records-run-loop-requires t) (search needs) (search needs)
+    (run-records-returns-3 t) (run-records-loop-less t) (run-records-loop-again t) (search needs) (search needs)
+    (λ c. running-ended ((c .before .before .loop) .inv) ((c .before .loop-test) .left) ((c .going2) .ensures)))
+    (λ t. run-times-lts.spec (run-times-claims t) (run-times-at t) run-times.Post run-times-Inv-loop run-times-μ-loop (run-times-add-body t)
+    (run-times-last-requires t) (λ c. record { fits = omega (arith, (c .last) .ensures .1) }) (run-times-run-last-test-requires t)
+    (search needs) (run-times-returns t) (run-times-loop-holds t) (run-times-run-records-requires t) (search needs) (search needs)
+    (run-times-returns-2 t) (search needs) (search needs) (run-times-loop-again t) (run-times-run-last-test-requires-2 t) (search needs)
     (run-times-returns-3 t))
-    λ t. run-while-lts.spec (run-while-claims t) (run-while-at t)
-    run-while.Post
-    run-while-Inv-loop
-    run-while-μ-loop
-    (run-while-add-body t)
-    (run-while-last-requires t)
-    (run-while-add-next t)
-    (run-while-loop-holds t)
-    (run-while-cut-off-requires t)
-    (run-while-same-length t)
-    (run-while-returns t)
-    (run-while-add-at t)
-    (run-while-test-holds-requires t)
-    (run-while-going-requires t)
-    (run-while-same-length-2 t)
-    (run-while-returns-2 t)
-    (run-while-run-records-requires t)
-    (run-while-ended-requires t)
-    (run-while-same-length-3 t)
-    (run-while-returns-3 t)
-    (run-while-add-round t)
-    (run-while-loop-less t)
-    (run-while-loop-again t)
-    (run-while-run-last-test-requires t)
-    (run-while-same-length-4 t)
-    (run-while-returns-4 t)
+    λ t. run-while-lts.spec (run-while-claims t) (run-while-at t) run-while.Post run-while-Inv-loop run-while-μ-loop (run-while-add-body t)
+    (run-while-last-requires t) (λ c. record { fits = omega (arith, (c .last) .ensures .1) }) (run-while-loop-holds t) (search needs)
+    (search needs) (run-while-returns t) (search needs) (run-while-test-holds-requires t) (search needs) (search needs)
+    (run-while-returns-2 t) (run-while-run-records-requires t) (search needs) (search needs) (run-while-returns-3 t) (search needs)
+    (search needs) (run-while-loop-again t) (run-while-run-last-test-requires t) (search needs) (run-while-returns-4 t)

@@ -10,32 +10,17 @@ use Rattle.machine.proofs.RunningBranches.{closed-past, branch-cut, bra
 use Rattle.machine.proofs.blocks.run_one.Statement.{statement}
 use Rattle.machine.proofs.blocks.run_one.Tie as tie
 
-add-going : tie.Need-add-going
-add-going c = search needs
-
-going-requires : tie.Need-going-requires
-going-requires c κs = search needs
-
 returns : tie.Need-returns
 returns c =
     let w = c .before .before .before .before .before .before .before in
     let is = kind-there (w .pre .1) (c .before .if1 .taken) in
     record { past = λ to B l. closed-past B l (ap closesBlock is) (past-end (w .args .s .now) (w .args .i) (sym is) (λ e. omega arith)) (c .going .ensures) }
 
-behind-requires : tie.Need-behind-requires
-behind-requires c κs = search needs
-
-going-requires-2 : tie.Need-going-requires-2
-going-requires-2 c κs = search needs
-
 returns-2 : tie.Need-returns-2
 returns-2 c =
     let w = c .before .before .before .before .before .before .before .before .before .before in
     let is = kind-there (w .pre .1) (c .before .before .if2 .taken) in
     record { past = λ to B l. closed-past B l (ap closesBlock is) (past-else (w .args .s .now) (w .args .i) _ (sym is) refl (c .before .behind .ensures)) (c .going2 .ensures) }
-
-cut-off-requires : tie.Need-cut-off-requires
-cut-off-requires c κs = search needs
 
 returns-3 : tie.Need-returns-3
 returns-3 c =
@@ -48,18 +33,6 @@ test-holds-requires c κs =
     let w = c .before .before .before .before .before .before .before .before .before .before .before .before in
     let is = kind-there (w .pre .1) (c .before .before .if3 .taken) in
     (w .pre .0 .given .lent .cells, test-there (reached-statement (w .pre .0) (ap closesBlock is)) (w .pre .1) (ap opensBlock is))
-
-add-going-2 : tie.Need-add-going-2
-add-going-2 c = search needs
-
-side-requires : tie.Need-side-requires
-side-requires c κs = search needs
-
-going-requires-3 : tie.Need-going-requires-3
-going-requires-3 c κs = search needs
-
-same-length : tie.Need-same-length
-same-length c = search needs
 
 returns-4 : tie.Need-returns-4
 returns-4 c =
@@ -76,9 +49,6 @@ run-plain-requires c κs =
     let R = v .pre .0 in
     (R .given .lent, fields-fit (reached-statement R goes) (v .pre .1), omega (arith, R .inside, R .given .few), R .given .early)
 
-same-length-2 : tie.Need-same-length-2
-same-length-2 c = search needs
-
 returns-5 : tie.Need-returns-5
 returns-5 c =
     let w = c .before .before .before .before in
@@ -92,22 +62,5 @@ returns-5 c =
 
 pub run-one-spec : {M : Type 1} → statement M
 run-one-spec =
-    tie.close
-    (tie.spec
-    add-going
-    going-requires
-    returns
-    behind-requires
-    going-requires-2
-    returns-2
-    cut-off-requires
-    returns-3
-    test-holds-requires
-    add-going-2
-    side-requires
-    going-requires-3
-    same-length
-    returns-4
-    run-plain-requires
-    same-length-2
-    returns-5)
+    tie.close (tie.spec (search needs) (search needs) returns (λ c κs. search needs) (search needs) returns-2 (search needs) returns-3
+    test-holds-requires (search needs) (λ c κs. search needs) (search needs) (search needs) returns-4 run-plain-requires (search needs) returns-5)

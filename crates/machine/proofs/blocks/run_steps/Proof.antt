@@ -20,18 +20,6 @@ loop-holds c =
     let w = c .before .before .before .before in
     running-start ((w .pre))
 
-record-at-requires : tie.Need-record-at-requires Inv-loop μ-loop
-record-at-requires c κs = omega (arith, running-inside ((c .before .loop) .inv .rest))
-
-loops-requires : tie.Need-loops-requires Inv-loop μ-loop
-loops-requires c κs = search needs
-
-going-requires : tie.Need-going-requires Inv-loop μ-loop
-going-requires c κs = search needs
-
-same-length : tie.Need-same-length Inv-loop μ-loop
-same-length c = search needs
-
 returns : tie.Need-returns Inv-loop μ-loop
 returns c =
     let w = c .before .before .before .before .before in
@@ -46,12 +34,6 @@ run-one-requires c κs =
       (c .before .before .before .record-at) .ensures,
       sym (c .before .before .loops .ensures) ∙ c .before .if1 .left,
     )
-
-ended-requires : tie.Need-ended-requires Inv-loop μ-loop
-ended-requires c κs = search needs
-
-same-length-2 : tie.Need-same-length-2 Inv-loop μ-loop
-same-length-2 c = search needs
 
 returns-2 : tie.Need-returns-2 Inv-loop μ-loop
 returns-2 c =
@@ -75,34 +57,12 @@ loop-again c =
     let one = w .run-one .ensures .past _ (v .before .loop .inv .rest) (v .loop-test .taken) in
     running-then (v .before .loop .inv) (one .moved .goes (sym (c .before .ended .ensures) ∙ c .if2 .left))
 
-going-requires-2 : tie.Need-going-requires-2 Inv-loop μ-loop
-going-requires-2 c κs = search needs
-
-same-length-3 : tie.Need-same-length-3 Inv-loop μ-loop
-same-length-3 c = search needs
-
 returns-3 : tie.Need-returns-3 Inv-loop μ-loop
 returns-3 c =
     steps-going ((c .before .before .loop) .inv) ((c .going2) .ensures) (λ l. absurd (omega (arith, (c .before .loop-test) .left)))
 
 pub run-steps-spec : {M : Type 1} → statement M
 run-steps-spec =
-    tie.close
-    (tie.spec
-    Inv-loop
-    μ-loop
-    loop-holds
-    record-at-requires
-    loops-requires
-    going-requires
-    same-length
-    returns
-    run-one-requires
-    ended-requires
-    same-length-2
-    returns-2
-    loop-less
-    loop-again
-    going-requires-2
-    same-length-3
-    returns-3)
+    tie.close (tie.spec Inv-loop μ-loop loop-holds (λ c κs. omega (arith, running-inside ((c .before .loop) .inv .rest))) (search needs)
+    (search needs) (search needs) returns run-one-requires (search needs) (search needs) returns-2 loop-less loop-again (search needs)
+    (search needs) returns-3)

@@ -6,26 +6,8 @@ use Rattle.machine.proofs.ReadyLaws.{not-read, over-period, bad-lengths
 use Rattle.machine.proofs.ready.ready.Statement.{statement}
 use Rattle.machine.proofs.ready.ready.Tie as tie
 
-read-requires : tie.Need-read-requires
-read-requires c κs = search needs
-
-enum-known-read : tie.Need-enum-known-read
-enum-known-read c = search needs
-
 enum-told : tie.Need-enum-told
 enum-told c = search needs
-
-returns : tie.Need-returns
-returns c = not-read _ _ _ _ _ (c .enum-told .given .1) (c .before .before .read .ensures)
-
-block-time-requires : tie.Need-block-time-requires
-block-time-requires c κs = search needs
-
-enum-told-2 : tie.Need-enum-told-2
-enum-told-2 c = search needs
-
-enum-told-3 : tie.Need-enum-told-3
-enum-told-3 c = search needs
 
 returns-2 : tie.Need-returns-2
 returns-2 c =
@@ -49,15 +31,6 @@ returns-4 c =
 
 pub ready-spec : {M : Type 1} → statement M
 ready-spec =
-    tie.close
-    (tie.spec
-    read-requires
-    enum-known-read
-    enum-told
-    returns
-    block-time-requires
-    enum-told-2
-    enum-told-3
-    returns-2
-    returns-3
-    returns-4)
+    tie.close (tie.spec (search needs) (search needs) enum-told
+    (λ c. not-read _ _ _ _ _ (c .enum-told .given .1) (c .before .before .read .ensures)) (search needs) (search needs) (search needs)
+    returns-2 returns-3 returns-4)

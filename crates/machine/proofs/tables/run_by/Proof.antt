@@ -9,20 +9,11 @@ fill-requires c κs =
     let w = c .before .before .before .before .before in
     table-fills (w .pre .0) (w .pre .1)
 
-ticks-of-requires : tie.Need-ticks-of-requires
-ticks-of-requires c κs = search needs
-
 run-records-requires : tie.Need-run-records-requires
 run-records-requires c κs =
     let w = c .before .before .before .before .before .before in
     let v = w .before .before .before .before .before .before in
     started-begun (v .pre .0) (w .fill .ensures)
-
-same-length : tie.Need-same-length
-same-length c = search needs
-
-same-length-2 : tie.Need-same-length-2
-same-length-2 c = search needs
 
 returns : tie.Need-returns
 returns c =
@@ -31,11 +22,4 @@ returns c =
 
 pub run-by-spec : {M : Type 1} → statement M
 run-by-spec =
-    tie.close
-    (tie.spec
-    fill-requires
-    ticks-of-requires
-    run-records-requires
-    same-length
-    same-length-2
-    returns)
+    tie.close (tie.spec fill-requires (search needs) run-records-requires (search needs) (search needs) returns)

@@ -11,23 +11,11 @@ Inv-loop n end s₀ s = Filling n end s₀ s
 abbrev μ-loop : tie.MeasureT-loop
 μ-loop n end s₀ s = end - s .tick
 
-loop-holds : tie.Need-loop-holds Inv-loop μ-loop
-loop-holds c = filling-start (c .pre)
-
-sub-if1 : tie.Need-sub-if1 Inv-loop μ-loop
-sub-if1 c = (c .before .loop) .inv .can .reaches
-
-commanded-requires : tie.Need-commanded-requires Inv-loop μ-loop
-commanded-requires c κs = (c .before .before .before .before .loop) .inv .can .laying
-
 loop-less : tie.Need-loop-less Inv-loop μ-loop
 loop-less c = filling-less ((c .before .before .before .before .before .loop) .inv) ((c .before .if1) .taken) (c .commanded .ensures .0) (c .commanded .ensures .1)
 
 loop-again : tie.Need-loop-again Inv-loop μ-loop
 loop-again c = filling-next ((c .before .before .before .before .before .loop) .inv) ((c .before .if1) .taken) (c .commanded .ensures .0) (c .commanded .ensures .1)
-
-sub-skip-records : tie.Need-sub-skip-records Inv-loop μ-loop
-sub-skip-records c = (c .before .before .before .before .before .loop) .inv .can .reaches
 
 add-skip-records : tie.Need-add-skip-records Inv-loop μ-loop
 add-skip-records c =
@@ -41,12 +29,6 @@ add-skip-records c =
           .inv .can .reaches,
     )
 
-cast-skip-records : tie.Need-cast-skip-records Inv-loop μ-loop
-cast-skip-records c = search needs
-
-skip-records-requires : tie.Need-skip-records-requires Inv-loop μ-loop
-skip-records-requires c κs = search needs
-
 add-result : tie.Need-add-result Inv-loop μ-loop
 add-result c =
     let at-loop = c .before .before .before .before .before .before .before .before in
@@ -57,18 +39,7 @@ returns c = filling-counted ((c .before .before .before .before .before .before 
 
 pub fill-count-spec : {M : Type 1} → statement M
 fill-count-spec =
-    tie.close
-    (tie.spec
-    Inv-loop
-    μ-loop
-    loop-holds
-    sub-if1
-    commanded-requires
-    loop-less
-    loop-again
-    sub-skip-records
-    add-skip-records
-    cast-skip-records
-    skip-records-requires
-    add-result
+    tie.close (tie.spec Inv-loop μ-loop (λ c. filling-start (c .pre)) (λ c. (c .before .loop) .inv .can .reaches)
+    (λ c κs. (c .before .before .before .before .loop) .inv .can .laying) loop-less loop-again
+    (λ c. (c .before .before .before .before .before .loop) .inv .can .reaches) add-skip-records (search needs) (search needs) add-result
     returns)

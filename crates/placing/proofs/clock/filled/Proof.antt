@@ -10,23 +10,14 @@ Inv-loop n count s₀ k₀ s k = Skipping n count s₀ s k
 abbrev μ-loop : tie.MeasureT-loop
 μ-loop n count s₀ k₀ s k = n .period + 1 - s .tick
 
-loop-holds : tie.Need-loop-holds Inv-loop μ-loop
-loop-holds c = skipping-start (c .pre)
-
 sub-k : tie.Need-sub-k Inv-loop μ-loop
 sub-k c = omega (arith, skipping-more ((c .before .before .before .before .before .loop) .inv) ((c .before .if1) .taken))
-
-commanded-requires : tie.Need-commanded-requires Inv-loop μ-loop
-commanded-requires c κs = skipping-laying ((c .before .before .before .before .before .loop) .inv) ((c .before .if1) .taken)
 
 loop-less : tie.Need-loop-less Inv-loop μ-loop
 loop-less c = skipping-less ((c .before .before .before .before .before .before .loop) .inv) ((c .before .before .if1) .taken) ((c .commanded) .ensures .0) ((c .commanded) .ensures .1)
 
 loop-again : tie.Need-loop-again Inv-loop μ-loop
 loop-again c = skipping-next ((c .before .before .before .before .before .before .loop) .inv) ((c .before .before .if1) .taken) ((c .commanded) .ensures .0) ((c .commanded) .ensures .1)
-
-returns : tie.Need-returns Inv-loop μ-loop
-returns c = skipping-late ((c .before .before .before .before .before .before .before .loop) .inv) (c .if2 .taken)
 
 idled-requires : tie.Need-idled-requires Inv-loop μ-loop
 idled-requires c κs =
@@ -47,15 +38,6 @@ returns-2 c =
 
 pub filled-spec : {M : Type 1} → statement M
 filled-spec =
-    tie.close
-    (tie.spec
-    Inv-loop
-    μ-loop
-    loop-holds
-    sub-k
-    commanded-requires
-    loop-less
-    loop-again
-    returns
-    idled-requires
-    returns-2)
+    tie.close (tie.spec Inv-loop μ-loop (λ c. skipping-start (c .pre)) sub-k
+    (λ c κs. skipping-laying ((c .before .before .before .before .before .loop) .inv) ((c .before .if1) .taken)) loop-less loop-again
+    (λ c. skipping-late ((c .before .before .before .before .before .before .before .loop) .inv) (c .if2 .taken)) idled-requires returns-2)

@@ -6,25 +6,10 @@ use Rattle.placing.proofs.Moves.{stepped-on}
 use Rattle.placing.proofs.clock.stepped.Statement.{statement}
 use Rattle.placing.proofs.clock.stepped.Tie as tie
 
-readied-requires : tie.Need-readied-requires
-readied-requires c κs = search needs
-
 add-t5 : tie.Need-add-t5
 add-t5 c =
     let s = c .before .before in
     omega (arith, c .before .readied .ensures .after .tick, before-short (s .args .n) (s .args .from .tick) (s .args .d) (s .pre .0 .settings))
-
-sub-t6 : tie.Need-sub-t6
-sub-t6 c = search needs
-
-cast-skip-records : tie.Need-cast-skip-records
-cast-skip-records c = search needs
-
-skip-records-requires : tie.Need-skip-records-requires
-skip-records-requires c κs = search needs
-
-add-counted : tie.Need-add-counted
-add-counted c = omega (arith, c .skip-records .ensures, one-skip (c .before .before .before .before .readied .result .wait))
 
 counted-requires : tie.Need-counted-requires
 counted-requires c κs = omega (arith, c .skip-records .ensures, one-skip (c .before .before .before .before .readied .result .wait))
@@ -34,13 +19,6 @@ returns c = stepped-on _ _ _ (c .before .before .before .before .before .readied
 
 pub stepped-spec : {M : Type 1} → statement M
 stepped-spec =
-    tie.close
-    (tie.spec
-    readied-requires
-    add-t5
-    sub-t6
-    cast-skip-records
-    skip-records-requires
-    add-counted
-    counted-requires
+    tie.close (tie.spec (search needs) add-t5 (search needs) (search needs) (search needs)
+    (λ c. omega (arith, c .skip-records .ensures, one-skip (c .before .before .before .before .readied .result .wait))) counted-requires
     returns)

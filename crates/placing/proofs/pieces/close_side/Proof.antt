@@ -64,41 +64,8 @@ put-filling-requires c κs =
       },
     )
 
-written-requires : tie.Need-written-requires
-written-requires c κs = search needs
-
-sub-put-skip : tie.Need-sub-put-skip
-sub-put-skip c = part-at (filled c)
-
-part-put-skip-start : tie.Need-part-put-skip-start
-part-put-skip-start c = part-at (filled c)
-
-part-put-skip-end : tie.Need-part-put-skip-end
-part-put-skip-end c = search needs
-
 put-skip-requires : tie.Need-put-skip-requires
 put-skip-requires c κs = let w = c .before in part-fits (skipBytes (w .before .before .before .put-filling .result .wait)) _ (filled w)
-
-add-last : tie.Need-add-last
-add-last c = omega (arith, part-room (waited (c .before .before)))
-
-sub-put-bare : tie.Need-sub-put-bare
-sub-put-bare c = part-at (waited (c .before .before))
-
-part-put-bare-start : tie.Need-part-put-bare-start
-part-put-bare-start c = part-at (waited (c .before .before))
-
-part-put-bare-end : tie.Need-part-put-bare-end
-part-put-bare-end c = search needs
-
-put-bare-requires : tie.Need-put-bare-requires
-put-bare-requires c κs = part-fits-last (waited (c .before .before .before))
-
-cast-skip-records : tie.Need-cast-skip-records
-cast-skip-records c = search needs
-
-skip-records-requires : tie.Need-skip-records-requires
-skip-records-requires c κs = search needs
 
 -- the records laid, with the one that waits
 few : (c : tie.After-struct-known2) → (c .before .before .before .before .before .before .before .before .before .before .before .before .before .before .put-filling) .result .records + c .before .skip-records .result ≤ 5461
@@ -107,18 +74,6 @@ few c =
     closing-few (filling (s .args .n) (s .args .s) (s .args .end))
     ((c .before .before .before .before .before .before .before .before .before .before .before .before .before .before .put-filling) .ensures .after) (s .pre .few)
     (c .before .skip-records .ensures)
-
-add-back : tie.Need-add-back
-add-back c = omega (arith, few c)
-
-add-back-2 : tie.Need-add-back-2
-add-back-2 c = omega (arith, few c)
-
-back-requires : tie.Need-back-requires
-back-requires c κs = search needs
-
-same-length : tie.Need-same-length
-same-length c = search needs
 
 returns : tie.Need-returns
 returns c =
@@ -133,23 +88,7 @@ returns c =
 
 pub close-side-spec : {M : Type 1} → statement M
 close-side-spec =
-    tie.close
-    (tie.spec
-    put-filling-requires
-    written-requires
-    sub-put-skip
-    part-put-skip-start
-    part-put-skip-end
-    put-skip-requires
-    add-last
-    sub-put-bare
-    part-put-bare-start
-    part-put-bare-end
-    put-bare-requires
-    cast-skip-records
-    skip-records-requires
-    add-back
-    add-back-2
-    back-requires
-    same-length
-    returns)
+    tie.close (tie.spec put-filling-requires (search needs) (λ c. part-at (filled c)) (λ c. part-at (filled c)) (search needs)
+    put-skip-requires (λ c. omega (arith, part-room (waited (c .before .before)))) (λ c. part-at (waited (c .before .before)))
+    (λ c. part-at (waited (c .before .before))) (search needs) (λ c κs. part-fits-last (waited (c .before .before .before))) (search needs)
+    (search needs) (λ c. omega (arith, few c)) (λ c. omega (arith, few c)) (search needs) (search needs) returns)

@@ -37,71 +37,15 @@ saving : (c : tie.Else1) →
     (back (k .put-skip .last .0) (k .put-skip .result) (b .put-bare .last .0)) (k .put-skip .result + 12)
 saving c = let b = c .before .before .before .before in save-due _ (beaten b) (c .if1 .left)
 
-add-put-skip : tie.Need-add-put-skip
-add-put-skip c = search needs
-
-put-skip-requires : tie.Need-put-skip-requires
-put-skip-requires c κs = let s = c .before .before .before in due-fits (s .pre .0) (s .args .out .now) (s .pre .1)
-
-sub-put-bare : tie.Need-sub-put-bare
-sub-put-bare c = part-at (skipped (c .before .before))
-
-part-put-bare-start : tie.Need-part-put-bare-start
-part-put-bare-start c = part-at (skipped (c .before .before))
-
-part-put-bare-end : tie.Need-part-put-bare-end
-part-put-bare-end c = search needs
-
-put-bare-requires : tie.Need-put-bare-requires
-put-bare-requires c κs = part-fits (recordBytes (actRec (beat 1))) _ (skipped (c .before .before .before))
-
-add-last : tie.Need-add-last
-add-last c = omega (arith, part-room (beaten (c .before .before)))
-
-same-length : tie.Need-same-length
-same-length c = search needs
-
-returns : tie.Need-returns
-returns c = save-none _ (beaten (c .before .before .before .before)) (c .if1 .taken)
-
-sub-put-bare-2 : tie.Need-sub-put-bare-2
-sub-put-bare-2 c = part-at (saving c)
-
-part-put-bare-start-2 : tie.Need-part-put-bare-start-2
-part-put-bare-start-2 c = part-at (saving c)
-
-part-put-bare-end-2 : tie.Need-part-put-bare-end-2
-part-put-bare-end-2 c = search needs
-
-put-bare-requires-2 : tie.Need-put-bare-requires-2
-put-bare-requires-2 c κs = part-fits-last (saving (c .before))
-
-add-result : tie.Need-add-result
-add-result c = omega (arith, part-room (saving (c .before .before .before .before)))
-
-same-length-2 : tie.Need-same-length-2
-same-length-2 c = search needs
-
 returns-2 : tie.Need-returns-2
 returns-2 c = wrote-last (saving (c .before .before .before .before)) (record-wrote (actRec (save 0)) (c .before .before .put-bare2 .ensures))
 
 pub put-commands-spec : {M : Type 1} → statement M
 put-commands-spec =
-    tie.close
-    (tie.spec
-    add-put-skip
-    put-skip-requires
-    sub-put-bare
-    part-put-bare-start
-    part-put-bare-end
-    put-bare-requires
-    add-last
-    same-length
-    returns
-    sub-put-bare-2
-    part-put-bare-start-2
-    part-put-bare-end-2
-    put-bare-requires-2
-    add-result
-    same-length-2
-    returns-2)
+    tie.close (tie.spec (search needs) (λ c κs. let s = c .before .before .before in due-fits (s .pre .0) (s .args .out .now) (s .pre .1))
+    (λ c. part-at (skipped (c .before .before))) (λ c. part-at (skipped (c .before .before))) (search needs)
+    (λ c κs. part-fits (recordBytes (actRec (beat 1))) _ (skipped (c .before .before .before)))
+    (λ c. omega (arith, part-room (beaten (c .before .before)))) (search needs)
+    (λ c. save-none _ (beaten (c .before .before .before .before)) (c .if1 .taken)) (λ c. part-at (saving c)) (λ c. part-at (saving c))
+    (search needs) (λ c κs. part-fits-last (saving (c .before)))
+    (λ c. omega (arith, part-room (saving (c .before .before .before .before)))) (search needs) returns-2)

@@ -13,27 +13,6 @@ Inv-loop n from end out₀ s₀ out s = WritingFilling n end from s out₀ out
 abbrev μ-loop : tie.MeasureT-loop
 μ-loop n from end out₀ s₀ out s = end - s .tick
 
-loop-holds : tie.Need-loop-holds Inv-loop μ-loop
-loop-holds c = filling-start ((c .before .pre) .0) ((c .before .pre) .1)
-
-sub-if1 : tie.Need-sub-if1 Inv-loop μ-loop
-sub-if1 c = (c .before .loop) .inv .can .reaches
-
-written-requires : tie.Need-written-requires Inv-loop μ-loop
-written-requires c κs = writing-upto ((c .before .before .before .loop) .inv .writing)
-
-commanded-requires : tie.Need-commanded-requires Inv-loop μ-loop
-commanded-requires c κs = (c .before .before .before .before .loop) .inv .can .laying
-
-sub-put-commands : tie.Need-sub-put-commands Inv-loop μ-loop
-sub-put-commands c = filling-at ((c .before .before .before .before .before .loop) .inv) ((c .before .written) .ensures)
-
-part-put-commands-start : tie.Need-part-put-commands-start Inv-loop μ-loop
-part-put-commands-start c = filling-at ((c .before .before .before .before .before .loop) .inv) ((c .before .written) .ensures)
-
-part-put-commands-end : tie.Need-part-put-commands-end Inv-loop μ-loop
-part-put-commands-end c = search needs
-
 put-commands-requires : tie.Need-put-commands-requires Inv-loop μ-loop
 put-commands-requires c κs =
     let at-loop = c .before .before .before .before .before .before in (
@@ -54,37 +33,20 @@ loop-again c =
     filling-next ((at-commanded .before .before .before .before .before .loop) .inv) ((at-commanded .before .before .if1) .taken) ((at-commanded .commanded) .ensures .0)
     ((at-commanded .commanded) .ensures .1) ((at-commanded .before .written) .ensures) ((c .before .before .put-commands) .ensures)
 
-sub-idled : tie.Need-sub-idled Inv-loop μ-loop
-sub-idled c = (c .before .before .before .before .loop) .inv .can .reaches
-
 idled-requires : tie.Need-idled-requires Inv-loop μ-loop
 idled-requires c κs =
     let w = (c .before .before .before .before .loop) .inv .can in
     omega (arith, (c .before .if1) .left, w .reaches, w .upto, w .laying .settings .short, w .laying .shows .waited)
-
-same-length : tie.Need-same-length Inv-loop μ-loop
-same-length c = part-length ((c .before .before .before .before .before .loop) .inv .writing .part)
 
 returns : tie.Need-returns Inv-loop μ-loop
 returns c = filling-laid ((c .before .before .before .before .before .loop) .inv) ((c .before .before .if1) .left) (c .idled .ensures)
 
 pub put-filling-spec : {M : Type 1} → statement M
 put-filling-spec =
-    tie.close
-    (tie.spec
-    Inv-loop
-    μ-loop
-    loop-holds
-    sub-if1
-    written-requires
-    commanded-requires
-    sub-put-commands
-    part-put-commands-start
-    part-put-commands-end
-    put-commands-requires
-    loop-less
-    loop-again
-    sub-idled
-    idled-requires
-    same-length
-    returns)
+    tie.close (tie.spec Inv-loop μ-loop (λ c. filling-start ((c .before .pre) .0) ((c .before .pre) .1))
+    (λ c. (c .before .loop) .inv .can .reaches) (λ c κs. writing-upto ((c .before .before .before .loop) .inv .writing))
+    (λ c κs. (c .before .before .before .before .loop) .inv .can .laying)
+    (λ c. filling-at ((c .before .before .before .before .before .loop) .inv) ((c .before .written) .ensures))
+    (λ c. filling-at ((c .before .before .before .before .before .loop) .inv) ((c .before .written) .ensures)) (search needs)
+    put-commands-requires loop-less loop-again (λ c. (c .before .before .before .before .loop) .inv .can .reaches) idled-requires
+    (λ c. part-length ((c .before .before .before .before .before .loop) .inv .writing .part)) returns)

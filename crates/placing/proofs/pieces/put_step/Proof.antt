@@ -40,42 +40,6 @@ put-before-requires c κs =
     let a = s .args in
     (s .pre .0, s .pre .1, s .pre .2, piece-fits (a .from) (before (a .n) (a .from .tick) (a .d)) (recordOf (a .r)) (a .out .now) (s .pre .3))
 
-readied-requires : tie.Need-readied-requires
-readied-requires c κs = search needs
-
-sub-put-skip : tie.Need-sub-put-skip
-sub-put-skip c = part-at (readied c)
-
-part-put-skip-start : tie.Need-part-put-skip-start
-part-put-skip-start c = part-at (readied c)
-
-part-put-skip-end : tie.Need-part-put-skip-end
-part-put-skip-end c = search needs
-
-put-skip-requires : tie.Need-put-skip-requires
-put-skip-requires c κs = part-fits (skipBytes (c .before .readied .result .wait)) _ (readied (c .before))
-
-add-last : tie.Need-add-last
-add-last c = omega (arith, part-room (waited (c .before .before)))
-
-sub-put-record : tie.Need-sub-put-record
-sub-put-record c = part-at (waited (c .before .before))
-
-part-put-record-start : tie.Need-part-put-record-start
-part-put-record-start c = part-at (waited (c .before .before))
-
-part-put-record-end : tie.Need-part-put-record-end
-part-put-record-end c = search needs
-
-put-record-requires : tie.Need-put-record-requires
-put-record-requires c κs = part-fits-last (waited (c .before .before .before))
-
-stepped-requires : tie.Need-stepped-requires
-stepped-requires c κs = search needs
-
-same-length : tie.Need-same-length
-same-length c = search needs
-
 returns : tie.Need-returns
 returns c =
     let p = c .before .before .before in
@@ -83,19 +47,8 @@ returns c =
 
 pub put-step-spec : {M : Type 1} → statement M
 put-step-spec =
-    tie.close
-    (tie.spec
-    put-before-requires
-    readied-requires
-    sub-put-skip
-    part-put-skip-start
-    part-put-skip-end
-    put-skip-requires
-    add-last
-    sub-put-record
-    part-put-record-start
-    part-put-record-end
-    put-record-requires
-    stepped-requires
-    same-length
-    returns)
+    tie.close (tie.spec put-before-requires (search needs) (λ c. part-at (readied c)) (λ c. part-at (readied c)) (search needs)
+    (λ c κs. part-fits (skipBytes (c .before .readied .result .wait)) _ (readied (c .before)))
+    (λ c. omega (arith, part-room (waited (c .before .before)))) (λ c. part-at (waited (c .before .before)))
+    (λ c. part-at (waited (c .before .before))) (search needs) (λ c κs. part-fits-last (waited (c .before .before .before))) (search needs)
+    (search needs) returns)

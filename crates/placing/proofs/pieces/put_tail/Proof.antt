@@ -29,50 +29,17 @@ skipped c =
     let s = c .before .before .before .before .before in
     part-first (skipBytes (s .args .s .wait + s .args .s .left)) (s .pre .2) (c .put-skip .ensures .laid) (c .put-skip .ensures .count)
 
-add-bound : tie.Need-add-bound
-add-bound c = search needs
-
-add-put-skip : tie.Need-add-put-skip
-add-put-skip c = search needs
-
 put-skip-requires : tie.Need-put-skip-requires
 put-skip-requires c κs =
     let s = c .before .before .before .before in
     let a = s .args in
     omega (arith, s .pre .2, length-append (skipBytes (a .s .wait + a .s .left)) (recordBytes (actRec (beat (lastValue (a .n) (a .s .tick + a .s .left))))))
 
-sub-put-bare : tie.Need-sub-put-bare
-sub-put-bare c = part-at (skipped (c .before .before))
-
-part-put-bare-start : tie.Need-part-put-bare-start
-part-put-bare-start c = part-at (skipped (c .before .before))
-
-part-put-bare-end : tie.Need-part-put-bare-end
-part-put-bare-end c = search needs
-
-last-value-requires : tie.Need-last-value-requires
-last-value-requires c κs = search needs
-
-put-bare-requires : tie.Need-put-bare-requires
-put-bare-requires c κs = part-fits-last (skipped (c .before .before .before .before))
-
-same-length : tie.Need-same-length
-same-length c = search needs
-
 returns : tie.Need-returns
 returns c = beat-laid (skipped (c .before .before .before .before .before .before .before)) (c .before .before .before .last-value .ensures) (c .before .before .put-bare .ensures)
 
 pub put-tail-spec : {M : Type 1} → statement M
 put-tail-spec =
-    tie.close
-    (tie.spec
-    add-bound
-    add-put-skip
-    put-skip-requires
-    sub-put-bare
-    part-put-bare-start
-    part-put-bare-end
-    last-value-requires
-    put-bare-requires
-    same-length
-    returns)
+    tie.close (tie.spec (search needs) (search needs) put-skip-requires (λ c. part-at (skipped (c .before .before)))
+    (λ c. part-at (skipped (c .before .before))) (search needs) (search needs)
+    (λ c κs. part-fits-last (skipped (c .before .before .before .before))) (search needs) returns)

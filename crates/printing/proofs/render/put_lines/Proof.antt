@@ -12,10 +12,6 @@ use Rattle.text.proofs.Pieces.{put-none, put-same, put-then}
 use Rattle.printing.proofs.Rendering.{lines-next, shown-line, shown-absent, line-fits}
 use Rattle.printing.proofs.render.put_lines.Statement.{statement}
 use Rattle.printing.proofs.render.put_lines.Tie as tie
-use Rattle.printing.proofs.render.put_lines.Reads as reads
-use Rattle.printing.proofs.render.put_lines.Lts as lts
-use Rattle.listing.proofs.lines.line_at.Reads as line-at-reads
-use Rattle.text.proofs.put_line.Reads as put-line-reads
 
 abbrev Inv-loop : tie.InvT-loop
 Inv-loop page₀ laid starts records to₀ i₀ page to i =
@@ -24,20 +20,8 @@ Inv-loop page₀ laid starts records to₀ i₀ page to i =
 abbrev μ-loop : tie.MeasureT-loop
 μ-loop page₀ laid starts records to₀ i₀ page to i = records - i
 
-loop-holds : tie.Need-loop-holds Inv-loop μ-loop
-loop-holds c = (put-none _ _, omega arith, omega arith, refl)
-
-line-at-requires : tie.Need-line-at-requires Inv-loop μ-loop
-line-at-requires c κs = search needs
-
-enum-known-line : tie.Need-enum-known-line Inv-loop μ-loop
-enum-known-line c = search needs
-
 enum-told : tie.Need-enum-told Inv-loop μ-loop
 enum-told c = search needs
-
-same-length : tie.Need-same-length Inv-loop μ-loop
-same-length c = c .before .before .before .before .loop .inv .3
 
 returns : tie.Need-returns Inv-loop μ-loop
 returns c =
@@ -61,12 +45,6 @@ put-line-requires c κs =
     let e = shown-line laid table i (at-line-at .line-at .ensures) (omega (arith, at-args .pre .file)) (omega (arith, at-args .pre .starts)) (at-line .line .given .1) in
     (omega (arith, at-args .pre .lines), line-fits laid table i e)
 
-add-i : tie.Need-add-i Inv-loop μ-loop
-add-i c = omega arith
-
-loop-less : tie.Need-loop-less Inv-loop μ-loop
-loop-less c = omega arith
-
 loop-again : tie.Need-loop-again Inv-loop μ-loop
 loop-again c =
     let at-put-line = c .before .before in
@@ -82,9 +60,6 @@ loop-again c =
     let f = ap (λ (l : Line). linesText (linesIn laid table 0 i) ++ lineText l) e ∙ lines-next laid table i in
     (put-same f q, omega (arith, at-put-line .put-line .ensures .1), omega arith, omega arith)
 
-same-length-2 : tie.Need-same-length-2 Inv-loop μ-loop
-same-length-2 c = c .before .loop .inv .3
-
 returns-2 : tie.Need-returns-2 Inv-loop μ-loop
 returns-2 c =
     let at-args = c .before .before .before .before .before in
@@ -95,19 +70,6 @@ returns-2 c =
 
 pub put-lines-spec : {M : Type 1} → statement M
 put-lines-spec =
-    tie.close
-    (tie.spec
-    Inv-loop
-    μ-loop
-    loop-holds
-    line-at-requires
-    enum-known-line
-    enum-told
-    same-length
-    returns
-    put-line-requires
-    add-i
-    loop-less
-    loop-again
-    same-length-2
-    returns-2)
+    tie.close (tie.spec Inv-loop μ-loop (λ c. (put-none _ _, omega arith, omega arith, refl)) (search needs) (search needs) enum-told
+    (λ c. c .before .before .before .before .loop .inv .3) returns put-line-requires (omega arith) (omega arith) loop-again
+    (λ c. c .before .loop .inv .3) returns-2)

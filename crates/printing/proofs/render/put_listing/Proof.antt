@@ -4,23 +4,6 @@ use Rattle.listing.specs.Lines.{linesIn}
 use Rattle.printing.proofs.Rendering.{put-total}
 use Rattle.printing.proofs.render.put_listing.Statement.{statement}
 use Rattle.printing.proofs.render.put_listing.Tie as tie
-use Rattle.printing.proofs.render.put_listing.Reads as reads
-use Rattle.printing.proofs.render.put_listing.Lts as lts
-
-put-lines-requires : tie.Need-put-lines-requires
-put-lines-requires c κs = search needs
-
-put-number-requires : tie.Need-put-number-requires
-put-number-requires c κs = search needs
-
-slice-aggregate-put-text : tie.Need-slice-aggregate-put-text
-slice-aggregate-put-text c = search needs
-
-put-text-requires : tie.Need-put-text-requires
-put-text-requires c κs = search needs
-
-same-length : tie.Need-same-length
-same-length c = search needs
 
 returns : tie.Need-returns
 returns c =
@@ -34,11 +17,4 @@ returns c =
 
 pub put-listing-spec : {M : Type 1} → statement M
 put-listing-spec =
-    tie.close
-    (tie.spec
-    put-lines-requires
-    put-number-requires
-    slice-aggregate-put-text
-    put-text-requires
-    same-length
-    returns)
+    tie.close (tie.spec (search needs) (search needs) (search needs) (search needs) (search needs) returns)

@@ -5,20 +5,6 @@ use Rattle.model.specs.Listing.{printed, printedText}
 use Rattle.printing.proofs.Rendering.{text-of-refusal, listed-in, put-whole}
 use Rattle.printing.proofs.render.render.Statement.{statement}
 use Rattle.printing.proofs.render.render.Tie as tie
-use Rattle.printing.proofs.render.render.Reads as reads
-use Rattle.printing.proofs.render.render.Lts as lts
-
-list-task-requires : tie.Need-list-task-requires
-list-task-requires c κs = search needs
-
-enum-known-r : tie.Need-enum-known-r
-enum-known-r c = search needs
-
-put-refusal-requires : tie.Need-put-refusal-requires
-put-refusal-requires c κs = search needs
-
-enum-known-r-2 : tie.Need-enum-known-r-2
-enum-known-r-2 c = search needs
 
 slice-aggregate-put-listing : tie.Need-slice-aggregate-put-listing
 slice-aggregate-put-listing c =
@@ -68,14 +54,5 @@ returns-2 c =
 
 pub render-spec : {M : Type 1} → statement M
 render-spec =
-    tie.close
-    (tie.spec
-    list-task-requires
-    enum-known-r
-    put-refusal-requires
-    enum-known-r-2
-    slice-aggregate-put-listing
-    slice-aggregate-put-listing-2
-    put-listing-requires
-    returns
-    returns-2)
+    tie.close (tie.spec (search needs) (search needs) (search needs) (search needs) slice-aggregate-put-listing
+    slice-aggregate-put-listing-2 put-listing-requires returns returns-2)

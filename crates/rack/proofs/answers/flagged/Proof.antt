@@ -2,8 +2,6 @@ use native.Mathlib.Omega.{arith}
 use borrow.Author.Needs.{needs}
 use Rattle.rack.proofs.answers.flagged.Statement.{statement}
 use Rattle.rack.proofs.answers.flagged.Tie as tie
-use Rattle.rack.proofs.answers.flagged.Reads as reads
-use Rattle.rack.proofs.answers.flagged.Lts as lts
 
 add-result : tie.Need-add-result
 add-result c = search needs

@@ -1,13 +1,7 @@
 use native.Mathlib.Omega.{arith}
-use mathlib.Core.Path.{_∙_}
-use Rattle.rack.specs.Words.{runWord}
 use borrow.Author.Needs.{needs}
 use Rattle.rack.proofs.answers.stopped_word.Statement.{statement}
 use Rattle.rack.proofs.answers.stopped_word.Tie as tie
-use Rattle.rack.proofs.answers.stopped_word.Reads as reads
-use Rattle.rack.proofs.answers.stopped_word.Lts as lts
-use Rattle.rack.proofs.answers.flagged.Reads as flagged-reads
-use Rattle.rack.proofs.words.refused.Reads as refused-reads
 
 enum-known-x : tie.Need-enum-known-x
 enum-known-x c = search needs
@@ -29,5 +23,4 @@ returns-2 c = let y = c .before .before .x2 .given in rw (y .1) (c .refused .ens
 
 pub stopped-word-spec : {M : Type 1} → statement M
 stopped-word-spec =
-    tie.close
-    (tie.spec enum-known-x flagged-requires enum-known-x-2 refused-requires returns returns-2)
+    tie.close (tie.spec enum-known-x flagged-requires enum-known-x-2 refused-requires returns returns-2)

@@ -1,12 +1,7 @@
 use native.Mathlib.Omega.{arith}
-use mathlib.Core.Path.{_∙_}
-use Rattle.rack.specs.Words.{fileWord}
 use borrow.Author.Needs.{needs}
 use Rattle.rack.proofs.answers.time_word.Statement.{statement}
 use Rattle.rack.proofs.answers.time_word.Tie as tie
-use Rattle.rack.proofs.answers.time_word.Reads as reads
-use Rattle.rack.proofs.answers.time_word.Lts as lts
-use Rattle.rack.proofs.words.refused.Reads as refused-reads
 
 enum-known-x : tie.Need-enum-known-x
 enum-known-x c = search needs

@@ -1,8 +1,6 @@
 use borrow.Author.Tests.{ne-eqb}
 use Rattle.rack.proofs.words.form_of.Statement.{statement}
 use Rattle.rack.proofs.words.form_of.Tie as tie
-use Rattle.rack.proofs.words.form_of.Reads as reads
-use Rattle.rack.proofs.words.form_of.Lts as lts
 
 returns : tie.Need-returns
 returns c = rw (c .match .keys1)

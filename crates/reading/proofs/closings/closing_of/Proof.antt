@@ -20,37 +20,10 @@ opener a =
       opens = told-not opensBlock (v .kind-at .ensures) (a .before .opens .ensures) (a .if3 .left);
     }
 
-cast-result : tie.Need-cast-result
-cast-result c = search needs
-
-returns : tie.Need-returns
-returns c = closing-end (c .before .before .before .args .i) (c .before .before .before .pre .0) (c .if1 .taken)
-
-kind-at-requires : tie.Need-kind-at-requires
-kind-at-requires c κs = search needs
-
-closes-requires : tie.Need-closes-requires
-closes-requires c κs = search needs
-
-cast-result-2 : tie.Need-cast-result-2
-cast-result-2 c = search needs
-
 returns-2 : tie.Need-returns-2
 returns-2 c =
     let w = c .before .before .before .before .before .before in
     closing-shut (w .args .i) (w .pre .0) (omega (arith, c .before .before .before .if1 .left)) (told closesBlock (c .before .before .kind-at .ensures) (c .before .closes .ensures) (c .if2 .taken))
-
-add-first : tie.Need-add-first
-add-first c = search needs
-
-mul-first : tie.Need-mul-first
-mul-first c = search needs
-
-shared-slice-read-first : tie.Need-shared-slice-read-first
-shared-slice-read-first c = search needs
-
-opens-requires : tie.Need-opens-requires
-opens-requires c κs = search needs
 
 returns-3 : tie.Need-returns-3
 returns-3 c =
@@ -59,18 +32,6 @@ returns-3 c =
     closing-plain (v .args .i) (v .pre .2) (omega (arith, w .before .before .if1 .left))
     (told closesBlock (w .before .kind-at .ensures) (w .closes .ensures) (c .before .before .before .if2 .left))
     (told-not opensBlock (w .before .kind-at .ensures) (c .before .opens .ensures) (c .if3 .taken))
-
-cast-second : tie.Need-cast-second
-cast-second c = record { fits = omega (arith, first-early (opener c), opener c .fillable .few) }
-
-add-second : tie.Need-add-second
-add-second c = record { fits = omega (arith, first-early (opener c), opener c .fillable .few) }
-
-mul-second : tie.Need-mul-second
-mul-second c = record { fits = omega (arith, first-early (opener c), opener c .fillable .few) }
-
-shared-slice-read-second : tie.Need-shared-slice-read-second
-shared-slice-read-second c = omega (arith, first-early (opener (c .before)), opener (c .before) .fillable .room)
 
 cast-result-3 : tie.Need-cast-result-3
 cast-result-3 c =
@@ -108,26 +69,11 @@ returns-5 c =
 
 pub closing-of-spec : {M : Type 1} → statement M
 closing-of-spec =
-    tie.close
-    (tie.spec
-    cast-result
-    returns
-    kind-at-requires
-    closes-requires
-    cast-result-2
-    returns-2
-    add-first
-    mul-first
-    shared-slice-read-first
-    opens-requires
-    returns-3
-    cast-second
-    add-second
-    mul-second
-    shared-slice-read-second
-    cast-result-3
-    add-result
-    mul-result
-    shared-slice-read-result
-    returns-4
-    returns-5)
+    tie.close (tie.spec (search needs)
+    (λ c. closing-end (c .before .before .before .args .i) (c .before .before .before .pre .0) (c .if1 .taken)) (search needs)
+    (search needs) (search needs) returns-2 (search needs) (search needs) (search needs) (search needs) returns-3
+    (λ c. record { fits = omega (arith, first-early (opener c), opener c .fillable .few) })
+    (λ c. record { fits = omega (arith, first-early (opener c), opener c .fillable .few) })
+    (λ c. record { fits = omega (arith, first-early (opener c), opener c .fillable .few) })
+    (λ c. omega (arith, first-early (opener (c .before)), opener (c .before) .fillable .room)) cast-result-3 add-result mul-result
+    shared-slice-read-result returns-4 returns-5)

@@ -7,27 +7,6 @@ use Rattle.reading.proofs.KindTests.{test-kind, loop-kind, port-kind, b
 use Rattle.reading.proofs.fields.fields_fit.Statement.{statement}
 use Rattle.reading.proofs.fields.fields_fit.Tie as tie
 
-skip-fits-requires : tie.Need-skip-fits-requires
-skip-fits-requires c κs = search needs
-
-set-fits-requires : tie.Need-set-fits-requires
-set-fits-requires c κs = search needs
-
-test-fits-requires : tie.Need-test-fits-requires
-test-fits-requires c κs = search needs
-
-test-fits-requires-2 : tie.Need-test-fits-requires-2
-test-fits-requires-2 c κs = search needs
-
-beat-fits-requires : tie.Need-beat-fits-requires
-beat-fits-requires c κs = search needs
-
-port-fits-requires : tie.Need-port-fits-requires
-port-fits-requires c κs = search needs
-
-bare-fits-requires : tie.Need-bare-fits-requires
-bare-fits-requires c κs = search needs
-
 returns : tie.Need-returns
 unfolding fieldsFit
 returns c = rw (c .before .match .keys1) (c .skip-fits .ensures)
@@ -62,19 +41,5 @@ returns-7 c =
 
 pub fields-fit-spec : {M : Type 1} → statement M
 fields-fit-spec =
-    tie.close
-    (tie.spec
-    skip-fits-requires
-    set-fits-requires
-    test-fits-requires
-    test-fits-requires-2
-    beat-fits-requires
-    port-fits-requires
-    bare-fits-requires
-    returns
-    returns-2
-    returns-3
-    returns-4
-    returns-5
-    returns-6
-    returns-7)
+    tie.close (tie.spec (search needs) (search needs) (search needs) (search needs) (search needs) (search needs) (search needs) returns
+    returns-2 returns-3 returns-4 returns-5 returns-6 returns-7)

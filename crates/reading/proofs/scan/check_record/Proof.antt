@@ -5,32 +5,8 @@ use Rattle.reading.proofs.Scanning.{kind-refused, field-refused, struct
 use Rattle.reading.proofs.scan.check_record.Statement.{statement}
 use Rattle.reading.proofs.scan.check_record.Tie as tie
 
-kind-fits-requires : tie.Need-kind-fits-requires
-kind-fits-requires c κs = search needs
-
-returns : tie.Need-returns
-returns c = kind-refused (cc)
-
-fields-fit-requires : tie.Need-fields-fit-requires
-fields-fit-requires c κs = search needs
-
-returns-2 : tie.Need-returns-2
-returns-2 c = field-refused (cc) (cc)
-
-nest-requires : tie.Need-nest-requires
-nest-requires c κs = search needs
-
-enum-known-nested : tie.Need-enum-known-nested
-enum-known-nested c = search needs
-
 enum-told : tie.Need-enum-told
 enum-told c = search needs
-
-returns-3 : tie.Need-returns-3
-returns-3 c = structure-refused (cc) (cc) (λ os e. sym (c .enum-told .given .1) ∙ c .before .before .nest .ensures os e)
-
-max-depth-requires : tie.Need-max-depth-requires
-max-depth-requires c κs = search needs
 
 returns-4 : tie.Need-returns-4
 returns-4 c =
@@ -44,16 +20,6 @@ returns-5 c =
 
 pub check-record-spec : {M : Type 1} → statement M
 check-record-spec =
-    tie.close
-    (tie.spec
-    kind-fits-requires
-    returns
-    fields-fit-requires
-    returns-2
-    nest-requires
-    enum-known-nested
-    enum-told
-    returns-3
-    max-depth-requires
-    returns-4
-    returns-5)
+    tie.close (tie.spec (search needs) (λ c. kind-refused (cc)) (search needs) (λ c. field-refused (cc) (cc)) (search needs) (search needs)
+    enum-told (λ c. structure-refused (cc) (cc) (λ os e. sym (c .enum-told .given .1) ∙ c .before .before .nest .ensures os e))
+    (search needs) returns-4 returns-5)

@@ -24,5 +24,4 @@ returns-3 c = whole-scanned (omega arith) (omega (arith, c .before .before .max-
 
 pub scan-file-spec : {M : Type 1} → statement M
 scan-file-spec =
-    tie.close
-    (tie.spec returns max-records-requires mul-if2 returns-2 scan-records-requires returns-3)
+    tie.close (tie.spec returns max-records-requires mul-if2 returns-2 scan-records-requires returns-3)

@@ -11,49 +11,9 @@ Inv-loop from to₀ i₀ to i = Copied from to₀ to i
 abbrev μ-loop : tie.MeasureT-loop
 μ-loop from to₀ i₀ to i = length to₀ - i
 
-loop-holds : tie.Need-loop-holds Inv-loop μ-loop
-loop-holds c = copied-start (c .args .from .now) (c .args .to .now)
-
-mul-to : tie.Need-mul-to Inv-loop μ-loop
-mul-to c = search needs
-
-shared-slice-read-to : tie.Need-shared-slice-read-to Inv-loop μ-loop
-shared-slice-read-to c = search needs
-
-mul-to-2 : tie.Need-mul-to-2 Inv-loop μ-loop
-mul-to-2 c = search needs
-
-slice-write-to : tie.Need-slice-write-to Inv-loop μ-loop
-slice-write-to c = search needs
-
-add-i : tie.Need-add-i Inv-loop μ-loop
-add-i c = search needs
-
-loop-less : tie.Need-loop-less Inv-loop μ-loop
-loop-less c = search needs
-
-loop-again : tie.Need-loop-again Inv-loop μ-loop
-loop-again c = copied-step (c .before .before .before .pre) (c .before .before .loop .inv) (search needs)
-
-same-length : tie.Need-same-length Inv-loop μ-loop
-same-length c = c .before .loop .inv .size
-
-returns : tie.Need-returns Inv-loop μ-loop
-returns c = copied-end (c .before .before .pre) (c .before .loop .inv) (search needs)
-
 pub copy-spec : {M : Type 1} → statement M
 copy-spec =
-    tie.close
-    (tie.spec
-    Inv-loop
-    μ-loop
-    loop-holds
-    mul-to
-    shared-slice-read-to
-    mul-to-2
-    slice-write-to
-    add-i
-    loop-less
-    loop-again
-    same-length
-    returns)
+    tie.close (tie.spec Inv-loop μ-loop (λ c. copied-start (c .args .from .now) (c .args .to .now)) (search needs) (search needs)
+    (search needs) (search needs) (search needs) (search needs)
+    (λ c. copied-step (c .before .before .before .pre) (c .before .before .loop .inv) (search needs)) (λ c. c .before .loop .inv .size)
+    (λ c. copied-end (c .before .before .pre) (c .before .loop .inv) (search needs)))

@@ -7,47 +7,8 @@ use Rattle.model.specs.Records.{wordBytes}
 use Rattle.records.proofs.words.put_word.Statement.{statement}
 use Rattle.records.proofs.words.put_word.Tie as tie
 
-cast-out : tie.Need-cast-out
-cast-out c = search needs
-
-slice-write-out : tie.Need-slice-write-out
-slice-write-out c = search needs
-
-cast-out-2 : tie.Need-cast-out-2
-cast-out-2 c = search needs
-
-slice-write-out-2 : tie.Need-slice-write-out-2
-slice-write-out-2 c = simp length-set (omega arith)
-
-cast-out-3 : tie.Need-cast-out-3
-cast-out-3 c = search needs
-
-slice-write-out-3 : tie.Need-slice-write-out-3
-slice-write-out-3 c = simp length-set (omega arith)
-
-cast-out-4 : tie.Need-cast-out-4
-cast-out-4 c = search needs
-
-slice-write-out-4 : tie.Need-slice-write-out-4
-slice-write-out-4 c = search needs
-
-same-length : tie.Need-same-length
-same-length c = search needs
-
-returns : tie.Need-returns
-returns c = sets-eq (wordBytes (c .args .n)) (c .args .out .now) 0 (c .pre)
-
 pub put-word-spec : {M : Type 1} → statement M
 put-word-spec =
-    tie.close
-    (tie.spec
-    cast-out
-    slice-write-out
-    cast-out-2
-    slice-write-out-2
-    cast-out-3
-    slice-write-out-3
-    cast-out-4
-    slice-write-out-4
-    same-length
-    returns)
+    tie.close (tie.spec (search needs) (search needs) (search needs) (λ c. simp length-set (omega arith)) (search needs)
+    (λ c. simp length-set (omega arith)) (search needs) (λ c. search needs) (search needs)
+    (λ c. sets-eq (wordBytes (c .args .n)) (c .args .out .now) 0 (c .pre)))

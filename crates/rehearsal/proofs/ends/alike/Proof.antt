@@ -3,43 +3,16 @@ use Rattle.rehearsal.proofs.Alike.{other-variables, other-levels, other
 use Rattle.rehearsal.proofs.ends.alike.Statement.{statement}
 use Rattle.rehearsal.proofs.ends.alike.Tie as tie
 
-slice-aggregate-same-words : tie.Need-slice-aggregate-same-words
-slice-aggregate-same-words c = search needs
-
-slice-aggregate-same-words-2 : tie.Need-slice-aggregate-same-words-2
-slice-aggregate-same-words-2 c = search needs
-
-same-words-requires : tie.Need-same-words-requires
-same-words-requires c κs = search needs
-
 returns : tie.Need-returns
 returns c =
     let given = c .before .before .before .before .before .before .args in
     other-variables (given .a) (given .b) (c .before .same-words .ensures) (c .if1 .taken)
-
-slice-aggregate-same-words-3 : tie.Need-slice-aggregate-same-words-3
-slice-aggregate-same-words-3 c = search needs
-
-slice-aggregate-same-words-4 : tie.Need-slice-aggregate-same-words-4
-slice-aggregate-same-words-4 c = search needs
-
-same-words-requires-2 : tie.Need-same-words-requires-2
-same-words-requires-2 c κs = search needs
 
 returns-2 : tie.Need-returns-2
 returns-2 c =
     let first = c .before .before .before .before .before .before in
     let given = first .before .before .before .before .before .before .args in
     other-levels (given .a) (given .b) (first .before .same-words .ensures) (c .before .same-words2 .ensures) (c .if2 .taken)
-
-slice-aggregate-same-bytes : tie.Need-slice-aggregate-same-bytes
-slice-aggregate-same-bytes c = search needs
-
-slice-aggregate-same-bytes-2 : tie.Need-slice-aggregate-same-bytes-2
-slice-aggregate-same-bytes-2 c = search needs
-
-same-bytes-requires : tie.Need-same-bytes-requires
-same-bytes-requires c κs = search needs
 
 returns-3 : tie.Need-returns-3
 returns-3 c =
@@ -59,18 +32,5 @@ returns-4 c =
 
 pub alike-spec : {M : Type 1} → statement M
 alike-spec =
-    tie.close
-    (tie.spec
-    slice-aggregate-same-words
-    slice-aggregate-same-words-2
-    same-words-requires
-    returns
-    slice-aggregate-same-words-3
-    slice-aggregate-same-words-4
-    same-words-requires-2
-    returns-2
-    slice-aggregate-same-bytes
-    slice-aggregate-same-bytes-2
-    same-bytes-requires
-    returns-3
-    returns-4)
+    tie.close (tie.spec (search needs) (search needs) (search needs) returns (search needs) (search needs) (search needs) returns-2
+    (search needs) (search needs) (search needs) returns-3 returns-4)

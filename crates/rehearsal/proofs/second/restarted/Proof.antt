@@ -4,33 +4,6 @@ use Rattle.rehearsal.proofs.SecondLaws.{restarted-refused, restarted-en
 use Rattle.rehearsal.proofs.second.restarted.Statement.{statement}
 use Rattle.rehearsal.proofs.second.restarted.Tie as tie
 
-slice-aggregate-copy : tie.Need-slice-aggregate-copy
-slice-aggregate-copy c = search needs
-
-copy-requires : tie.Need-copy-requires
-copy-requires c κs = search needs
-
-slice-aggregate-restart : tie.Need-slice-aggregate-restart
-slice-aggregate-restart c = search needs
-
-slice-aggregate-restart-2 : tie.Need-slice-aggregate-restart-2
-slice-aggregate-restart-2 c = search needs
-
-slice-aggregate-restart-3 : tie.Need-slice-aggregate-restart-3
-slice-aggregate-restart-3 c = search needs
-
-restart-requires : tie.Need-restart-requires
-restart-requires c κs = search needs
-
-enum-known-r : tie.Need-enum-known-r
-enum-known-r c = search needs
-
-enum-known-r-2 : tie.Need-enum-known-r-2
-enum-known-r-2 c = search needs
-
-alike-requires : tie.Need-alike-requires
-alike-requires c κs = search needs
-
 returns : tie.Need-returns
 returns c =
     let w = c .before .before .before .before .before .before in
@@ -51,16 +24,5 @@ returns-2 c =
 
 pub restarted-spec : {M : Type 1} → statement M
 restarted-spec =
-    tie.close
-    (tie.spec
-    slice-aggregate-copy
-    copy-requires
-    slice-aggregate-restart
-    slice-aggregate-restart-2
-    slice-aggregate-restart-3
-    restart-requires
-    enum-known-r
-    enum-known-r-2
-    alike-requires
-    returns
-    returns-2)
+    tie.close (tie.spec (search needs) (search needs) (search needs) (search needs) (search needs) (search needs) (search needs)
+    (search needs) (search needs) returns returns-2)

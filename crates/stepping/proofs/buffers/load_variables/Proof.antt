@@ -25,5 +25,4 @@ returns c =
 
 pub load-variables-spec : {M : Type 1} → statement M
 load-variables-spec =
-    tie.close
-    (tie.spec slice-relend-prefix-copy slice-aggregate-copy copy-requires same-length returns)
+    tie.close (tie.spec slice-relend-prefix-copy slice-aggregate-copy copy-requires same-length returns)

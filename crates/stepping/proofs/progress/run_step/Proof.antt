@@ -29,5 +29,4 @@ returns-2 c = step-acted _ _ _ _ _ _ _ _ _ (c .before .before .act .ensures) (se
 
 pub run-step-spec : {M : Type 1} → statement M
 run-step-spec =
-    tie.close
-    (tie.spec sub-if1 cut-off-requires returns add-next add-end act-requires same-length returns-2)
+    tie.close (tie.spec sub-if1 cut-off-requires returns add-next add-end act-requires same-length returns-2)

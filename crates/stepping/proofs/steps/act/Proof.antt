@@ -6,12 +6,6 @@ use Rattle.stepping.proofs.StepLaws.{set-target, fits-set, fits-check, 
 use Rattle.stepping.proofs.steps.act.Statement.{statement}
 use Rattle.stepping.proofs.steps.act.Tie as tie
 
-cast-target : tie.Need-cast-target
-cast-target c = search needs
-
-cast-left : tie.Need-cast-left
-cast-left c = search needs
-
 set-value-requires : tie.Need-set-value-requires
 set-value-requires c κs =
     let s = c .before .before .before .before .before .before in
@@ -22,9 +16,6 @@ assign-requires c κs =
     let s = c .before .before .before .before .before .before .before .before in
     let r = recordOf (s .args .r) in
     (s .pre .0 .cells, set-target r (fits-set r (s .pre .4 ∙ c .before .before .before .match .keys1) (s .pre .1)))
-
-mul-assign : tie.Need-mul-assign
-mul-assign c = search needs
 
 shared-slice-read-assign : tie.Need-shared-slice-read-assign
 shared-slice-read-assign c =
@@ -52,46 +43,25 @@ test-holds-requires c κs =
     let s = c .before .before .before .before .before .before in
     (s .pre .0 .cells, fits-check (recordOf (s .args .r)) (s .pre .4 ∙ c .before .match .keys4) (s .pre .1))
 
-cast-save : tie.Need-cast-save
-cast-save c = search needs
-
-save-requires : tie.Need-save-requires
-save-requires c κs = search needs
-
-same-length : tie.Need-same-length
-same-length c = search needs
-
 returns : tie.Need-returns
 returns c =
     let s = c .before .before .before .before .before .before .before .before .before .before .before in
     acts-set (s .pre .4 ∙ c .before .before .before .before .before .before .match .keys1) (c .before .before .before .before .set-value .ensures) (c .before .before .assign .ensures)
-
-same-length-2 : tie.Need-same-length-2
-same-length-2 c = search needs
 
 returns-2 : tie.Need-returns-2
 returns-2 c =
     let s = c .before .before .before .before .before .before .before .before .before .before in
     acts-read (s .pre .4 ∙ c .before .before .before .before .before .match .keys2) (c .before .before .assign2 .ensures)
 
-same-length-3 : tie.Need-same-length-3
-same-length-3 c = search needs
-
 returns-3 : tie.Need-returns-3
 returns-3 c =
     let s = c .before .before .before .before .before .before .before .before .before .before .before in
     acts-write (s .pre .4 ∙ c .before .before .before .before .before .before .match .keys3) (c .before .before .before .before .variable .ensures) (c .before .before .output .ensures)
 
-same-length-4 : tie.Need-same-length-4
-same-length-4 c = search needs
-
 returns-4 : tie.Need-returns-4
 returns-4 c =
     let s = c .before .before .before .before .before .before .before in
     acts-check (s .pre .4 ∙ c .before .before .match .keys4) (c .test-holds .ensures)
-
-same-length-5 : tie.Need-same-length-5
-same-length-5 c = search needs
 
 returns-5 : tie.Need-returns-5
 returns-5 c =
@@ -106,28 +76,6 @@ returns-6 c =
 
 pub act-spec : {M : Type 1} → statement M
 act-spec =
-    tie.close
-    (tie.spec
-    cast-target
-    cast-left
-    set-value-requires
-    assign-requires
-    mul-assign
-    shared-slice-read-assign
-    assign-requires-2
-    variable-requires
-    output-requires
-    test-holds-requires
-    cast-save
-    save-requires
-    same-length
-    returns
-    same-length-2
-    returns-2
-    same-length-3
-    returns-3
-    same-length-4
-    returns-4
-    same-length-5
-    returns-5
-    returns-6)
+    tie.close (tie.spec (search needs) (search needs) set-value-requires assign-requires (search needs) shared-slice-read-assign
+    assign-requires-2 variable-requires output-requires test-holds-requires (search needs) (search needs) (search needs) returns
+    (search needs) returns-2 (search needs) returns-3 (search needs) returns-4 (search needs) returns-5 returns-6)

@@ -4,18 +4,6 @@ use Rattle.stepping.proofs.StepLaws.{result-copy, result-add, result-su
 use Rattle.stepping.proofs.steps.compute.Statement.{statement}
 use Rattle.stepping.proofs.steps.compute.Tie as tie
 
-wrapping-add-u32-requires : tie.Need-wrapping-add-u32-requires
-wrapping-add-u32-requires c κs = search needs
-
-wrapping-sub-u32-requires : tie.Need-wrapping-sub-u32-requires
-wrapping-sub-u32-requires c κs = search needs
-
-wrapping-mul-requires : tie.Need-wrapping-mul-requires
-wrapping-mul-requires c κs = search needs
-
-returns : tie.Need-returns
-returns c = result-copy (c .before .args .op) (c .before .args .a) (c .before .args .b) (c .match .keys1)
-
 returns-2 : tie.Need-returns-2
 returns-2 c = let s = c .before .before in result-add (s .args .op) (s .args .a) (s .args .b) (c .before .match .keys2) (c .wrapping-add-u32 .ensures)
 
@@ -32,12 +20,5 @@ returns-4 c =
 
 pub compute-spec : {M : Type 1} → statement M
 compute-spec =
-    tie.close
-    (tie.spec
-    wrapping-add-u32-requires
-    wrapping-sub-u32-requires
-    wrapping-mul-requires
-    returns
-    returns-2
-    returns-3
-    returns-4)
+    tie.close (tie.spec (search needs) (search needs) (search needs)
+    (λ c. result-copy (c .before .args .op) (c .before .args .a) (c .before .args .b) (c .match .keys1)) returns-2 returns-3 returns-4)

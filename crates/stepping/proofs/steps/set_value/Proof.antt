@@ -21,5 +21,4 @@ returns c = rw (c .compute .ensures, c .before .before .right-value .ensures, c 
 
 pub set-value-spec : {M : Type 1} → statement M
 set-value-spec =
-    tie.close
-    (tie.spec cast-variable variable-requires right-value-requires compute-requires returns)
+    tie.close (tie.spec cast-variable variable-requires right-value-requires compute-requires returns)

@@ -23,5 +23,4 @@ returns c = rw (c .compare .ensures, c .before .before .right-value .ensures, c 
 
 pub test-holds-spec : {M : Type 1} → statement M
 test-holds-spec =
-    tie.close
-    (tie.spec cast-variable variable-requires right-value-requires compare-requires returns)
+    tie.close (tie.spec cast-variable variable-requires right-value-requires compare-requires returns)

@@ -39,32 +39,16 @@ abbrev μ-statement-time : Measures 2 statement-time-kinds.ps ℕ
 μ-statement-time κs a = 2 * a .1 .1 .1 .0
 
 abbrev sequence-time-at : ℕ → In 2 sequence-time-kinds.ps
-sequence-time-at t =
-    and 2 sequence-time-kinds.ps (is 2 sequence-time-kinds.ps μ-sequence-time t) sequence-time.Pre
+sequence-time-at t = and 2 sequence-time-kinds.ps (is 2 sequence-time-kinds.ps μ-sequence-time t) sequence-time.Pre
 
 abbrev sequence-time-below : ℕ → In 2 sequence-time-kinds.ps
-sequence-time-below t =
-    and
-    2
-    sequence-time-kinds.ps
-    (falls 2 sequence-time-kinds.ps _<_ μ-sequence-time t)
-    sequence-time.Pre
+sequence-time-below t = and 2 sequence-time-kinds.ps (falls 2 sequence-time-kinds.ps _<_ μ-sequence-time t) sequence-time.Pre
 
 abbrev statement-time-at : ℕ → In 2 statement-time-kinds.ps
-statement-time-at t =
-    and
-    2
-    statement-time-kinds.ps
-    (is 2 statement-time-kinds.ps μ-statement-time t)
-    statement-time.Pre
+statement-time-at t = and 2 statement-time-kinds.ps (is 2 statement-time-kinds.ps μ-statement-time t) statement-time.Pre
 
 abbrev statement-time-below : ℕ → In 2 statement-time-kinds.ps
-statement-time-below t =
-    and
-    2
-    statement-time-kinds.ps
-    (falls 2 statement-time-kinds.ps _<_ μ-statement-time t)
-    statement-time.Pre
+statement-time-below t = and 2 statement-time-kinds.ps (falls 2 statement-time-kinds.ps _<_ μ-statement-time t) statement-time.Pre
 
 abbrev sequence-time-Inv-loop : sequence-time-lts.InvT-loop
 sequence-time-Inv-loop s from to depth table n over sum₀ next₀ sum next = Counted s from to depth (settingsIn table) next sum
@@ -110,31 +94,9 @@ there t c =
       goes-on = closing-told (c .before .before .kind-at .ensures) (c .before .closes .ensures) (c .if1 .left);
     }
 
-sequence-time-settings-in-requires : (t : ℕ) → sequence-time-lts.Need-settings-in-requires (sequence-time-claims t) (sequence-time-at t) sequence-time.Post sequence-time-Inv-loop sequence-time-μ-loop
-sequence-time-settings-in-requires t c κs = search needs
-
-sequence-time-loop-holds : (t : ℕ) → sequence-time-lts.Need-loop-holds (sequence-time-claims t) (sequence-time-at t) sequence-time.Post sequence-time-Inv-loop sequence-time-μ-loop
-sequence-time-loop-holds t c = counted-start (c .before .before .pre .1)
-
-sequence-time-kind-at-requires : (t : ℕ) → sequence-time-lts.Need-kind-at-requires (sequence-time-claims t) (sequence-time-at t) sequence-time.Post sequence-time-Inv-loop sequence-time-μ-loop
-sequence-time-kind-at-requires t c κs = omega arith
-
-sequence-time-closes-requires : (t : ℕ) → sequence-time-lts.Need-closes-requires (sequence-time-claims t) (sequence-time-at t) sequence-time.Post sequence-time-Inv-loop sequence-time-μ-loop
-sequence-time-closes-requires t c κs = search needs
-
 sequence-time-returns : (t : ℕ) → sequence-time-lts.Need-returns (sequence-time-claims t) (sequence-time-at t) sequence-time.Post sequence-time-Inv-loop sequence-time-μ-loop
 sequence-time-returns t c =
     counted-closed (c .before .before .before .before .loop .inv) (closing-told (c .before .before .kind-at .ensures) (c .before .closes .ensures) (c .if1 .taken))
-
-sequence-time-statement-time-requires : (t : ℕ) →
-    sequence-time-lts.Need-statement-time-requires (sequence-time-claims t) (sequence-time-at t) sequence-time.Post sequence-time-Inv-loop sequence-time-μ-loop
-sequence-time-statement-time-requires t c κs = (omega arith, there t c)
-
-sequence-time-enum-known-time : (t : ℕ) → sequence-time-lts.Need-enum-known-time (sequence-time-claims t) (sequence-time-at t) sequence-time.Post sequence-time-Inv-loop sequence-time-μ-loop
-sequence-time-enum-known-time t c = search needs
-
-sequence-time-enum-told : (t : ℕ) → sequence-time-lts.Need-enum-told (sequence-time-claims t) (sequence-time-at t) sequence-time.Post sequence-time-Inv-loop sequence-time-μ-loop
-sequence-time-enum-told t c = search needs
 
 sequence-time-returns-2 : (t : ℕ) → sequence-time-lts.Need-returns-2 (sequence-time-claims t) (sequence-time-at t) sequence-time.Post sequence-time-Inv-loop sequence-time-μ-loop
 sequence-time-returns-2 t c =
@@ -154,18 +116,12 @@ sequence-time-returns-3 t c =
 sequence-time-add-sum : (t : ℕ) → sequence-time-lts.Need-add-sum (sequence-time-claims t) (sequence-time-at t) sequence-time.Post sequence-time-Inv-loop sequence-time-μ-loop
 sequence-time-add-sum t c = omega (arith, period (c .before .before .before .before .before .before .before .before .before .before .before .settings-in .ensures))
 
-sequence-time-loop-less : (t : ℕ) → sequence-time-lts.Need-loop-less (sequence-time-claims t) (sequence-time-at t) sequence-time.Post sequence-time-Inv-loop sequence-time-μ-loop
-sequence-time-loop-less t c = omega arith
-
 sequence-time-loop-again : (t : ℕ) → sequence-time-lts.Need-loop-again (sequence-time-claims t) (sequence-time-at t) sequence-time.Post sequence-time-Inv-loop sequence-time-μ-loop
 sequence-time-loop-again t c =
     let w = c .before .before .before .before .before in
     let k = w .before in
     counted-next (k .before .before .before .before .loop .inv) (there t k) (w .statement-time .ensures) (c .before .before .before .time .given .1)
     (omega (arith, c .if2 .left, period (c .before .before .before .before .before .before .before .before .before .before .before .settings-in .ensures)))
-
-sequence-time-returns-4 : (t : ℕ) → sequence-time-lts.Need-returns-4 (sequence-time-claims t) (sequence-time-at t) sequence-time.Post sequence-time-Inv-loop sequence-time-μ-loop
-sequence-time-returns-4 t c = counted-all (c .before .loop .inv) (c .loop-test .left)
 
 -- the record opens a block
 open-there : (t : ℕ) (c : statement-time-lts.Else1 (statement-time-claims t) (statement-time-at t) statement-time.Post) →
@@ -178,54 +134,12 @@ open-there t c =
       opens = sym (c .before .opens .ensures) ∙ not-false _ (c .if1 .left);
     }
 
-statement-time-settings-in-requires : (t : ℕ) → statement-time-lts.Need-settings-in-requires (statement-time-claims t) (statement-time-at t) statement-time.Post
-statement-time-settings-in-requires t c κs = search needs
-
-statement-time-record-at-requires : (t : ℕ) → statement-time-lts.Need-record-at-requires (statement-time-claims t) (statement-time-at t) statement-time.Post
-statement-time-record-at-requires t c κs = omega arith
-
-statement-time-opens-requires : (t : ℕ) → statement-time-lts.Need-opens-requires (statement-time-claims t) (statement-time-at t) statement-time.Post
-statement-time-opens-requires t c κs = search needs
-
-statement-time-step-ticks-requires : (t : ℕ) → statement-time-lts.Need-step-ticks-requires (statement-time-claims t) (statement-time-at t) statement-time.Post
-statement-time-step-ticks-requires t c κs = search needs
-
-statement-time-cast-up-to : (t : ℕ) → statement-time-lts.Need-cast-up-to (statement-time-claims t) (statement-time-at t) statement-time.Post
-statement-time-cast-up-to t c = search needs
-
-statement-time-up-to-requires : (t : ℕ) → statement-time-lts.Need-up-to-requires (statement-time-claims t) (statement-time-at t) statement-time.Post
-statement-time-up-to-requires t c κs = search needs
-
-statement-time-add-next : (t : ℕ) → statement-time-lts.Need-add-next (statement-time-claims t) (statement-time-at t) statement-time.Post
-statement-time-add-next t c = omega arith
-
 statement-time-returns : (t : ℕ) → statement-time-lts.Need-returns (statement-time-claims t) (statement-time-at t) statement-time.Post
 statement-time-returns t c =
     let k = c .before .before in
     let e = k .before .before .before .settings-in .ensures in
     plain-times _ _ (k .before .before .before .before .before .pre .1) (k .before .before .record-at .ensures) (sym (k .before .opens .ensures) ∙ not-true _ (k .if1 .taken))
     (c .before .step-ticks .ensures ∙ ap (λ (σ : Settings). stepTicks σ (recordOf (k .before .before .record-at .result))) e) (within (period e) (c .up-to .ensures))
-
-statement-time-returns-2 : (t : ℕ) → statement-time-lts.Need-returns-2 (statement-time-claims t) (statement-time-at t) statement-time.Post
-statement-time-returns-2 t c = flat-times (open-there t (c .before)) (c .if2 .taken)
-
-statement-time-add-sequence-time : (t : ℕ) → statement-time-lts.Need-add-sequence-time (statement-time-claims t) (statement-time-at t) statement-time.Post
-statement-time-add-sequence-time t c = omega arith
-
-statement-time-sub-sequence-time : (t : ℕ) → statement-time-lts.Need-sub-sequence-time (statement-time-claims t) (statement-time-at t) statement-time.Post
-statement-time-sub-sequence-time t c = omega arith
-
-statement-time-sequence-time-requires : (t : ℕ) → statement-time-lts.Need-sequence-time-requires (statement-time-claims t) (statement-time-at t) statement-time.Post
-statement-time-sequence-time-requires t c κs = omega arith
-
-statement-time-returns-3 : (t : ℕ) → statement-time-lts.Need-returns-3 (statement-time-claims t) (statement-time-at t) statement-time.Post
-statement-time-returns-3 t c = first-late (open-there t (c .before .before .before)) (c .before .sequence-time .ensures) (c .if3 .taken)
-
-statement-time-loop-time-requires : (t : ℕ) → statement-time-lts.Need-loop-time-requires (statement-time-claims t) (statement-time-at t) statement-time.Post
-statement-time-loop-time-requires t c κs = search needs
-
-statement-time-add-next-2 : (t : ℕ) → statement-time-lts.Need-add-next-2 (statement-time-claims t) (statement-time-at t) statement-time.Post
-statement-time-add-next-2 t c = omega arith
 
 statement-time-returns-4 : (t : ℕ) → statement-time-lts.Need-returns-4 (statement-time-claims t) (statement-time-at t) statement-time.Post
 statement-time-returns-4 t c =
@@ -234,26 +148,11 @@ statement-time-returns-4 t c =
     loop-times (open-there t (w .before .before .before)) (w .before .sequence-time .ensures) (w .if3 .left) _ (c .before .if4 .taken)
     (λ o u g. within (period e) (c .loop-time .ensures o u (within (sym (period e)) g)))
 
-statement-time-add-sequence-time-2 : (t : ℕ) → statement-time-lts.Need-add-sequence-time-2 (statement-time-claims t) (statement-time-at t) statement-time.Post
-statement-time-add-sequence-time-2 t c = omega arith
-
-statement-time-sub-sequence-time-2 : (t : ℕ) → statement-time-lts.Need-sub-sequence-time-2 (statement-time-claims t) (statement-time-at t) statement-time.Post
-statement-time-sub-sequence-time-2 t c = omega arith
-
-statement-time-sequence-time-requires-2 : (t : ℕ) → statement-time-lts.Need-sequence-time-requires-2 (statement-time-claims t) (statement-time-at t) statement-time.Post
-statement-time-sequence-time-requires-2 t c κs = omega arith
-
 statement-time-returns-5 : (t : ℕ) → statement-time-lts.Need-returns-5 (statement-time-claims t) (statement-time-at t) statement-time.Post
 statement-time-returns-5 t c =
     let w = c .before .before .before .before in
     second-late (open-there t (w .before .before .before)) (w .before .sequence-time .ensures) (w .if3 .left) (c .before .before .if4 .left)
     (c .before .sequence-time2 .ensures) (c .if5 .taken)
-
-statement-time-branch-time-requires : (t : ℕ) → statement-time-lts.Need-branch-time-requires (statement-time-claims t) (statement-time-at t) statement-time.Post
-statement-time-branch-time-requires t c κs = search needs
-
-statement-time-add-next-3 : (t : ℕ) → statement-time-lts.Need-add-next-3 (statement-time-claims t) (statement-time-at t) statement-time.Post
-statement-time-add-next-3 t c = omega arith
 
 statement-time-returns-6 : (t : ℕ) → statement-time-lts.Need-returns-6 (statement-time-claims t) (statement-time-at t) statement-time.Post
 statement-time-returns-6 t c =
@@ -266,47 +165,14 @@ statement-time-returns-6 t c =
 
 pub +sequence-time+statement-time-spec : {M : Type 1} → statement M
 +sequence-time+statement-time-spec =
-    close μ-sequence-time μ-statement-time (λ t. sequence-time-lts.spec (sequence-time-claims t) (sequence-time-at t)
-    sequence-time.Post
-    sequence-time-Inv-loop
-    sequence-time-μ-loop
-    (sequence-time-settings-in-requires t)
-    (sequence-time-loop-holds t)
-    (sequence-time-kind-at-requires t)
-    (sequence-time-closes-requires t)
-    (sequence-time-returns t)
-    (sequence-time-statement-time-requires t)
-    (sequence-time-enum-known-time t)
-    (sequence-time-enum-told t)
-    (sequence-time-returns-2 t)
-    (sequence-time-sub-if2 t)
-    (sequence-time-returns-3 t)
-    (sequence-time-add-sum t)
-    (sequence-time-loop-less t)
-    (sequence-time-loop-again t)
-    (sequence-time-returns-4 t))
-    λ t. statement-time-lts.spec (statement-time-claims t) (statement-time-at t)
-    statement-time.Post
-    (statement-time-settings-in-requires t)
-    (statement-time-record-at-requires t)
-    (statement-time-opens-requires t)
-    (statement-time-step-ticks-requires t)
-    (statement-time-cast-up-to t)
-    (statement-time-up-to-requires t)
-    (statement-time-add-next t)
-    (statement-time-returns t)
-    (statement-time-returns-2 t)
-    (statement-time-add-sequence-time t)
-    (statement-time-sub-sequence-time t)
-    (statement-time-sequence-time-requires t)
-    (statement-time-returns-3 t)
-    (statement-time-loop-time-requires t)
-    (statement-time-add-next-2 t)
-    (statement-time-returns-4 t)
-    (statement-time-add-sequence-time-2 t)
-    (statement-time-sub-sequence-time-2 t)
-    (statement-time-sequence-time-requires-2 t)
-    (statement-time-returns-5 t)
-    (statement-time-branch-time-requires t)
-    (statement-time-add-next-3 t)
-    (statement-time-returns-6 t)
+    close μ-sequence-time μ-statement-time (λ t. sequence-time-lts.spec (sequence-time-claims t) (sequence-time-at t) sequence-time.Post
+    sequence-time-Inv-loop sequence-time-μ-loop (search needs) (λ c. counted-start (c .before .before .pre .1)) (omega arith) (search needs)
+    (sequence-time-returns t) (λ c κs. (omega arith, there t c)) (search needs) (search needs) (sequence-time-returns-2 t)
+    (sequence-time-sub-if2 t) (sequence-time-returns-3 t) (sequence-time-add-sum t) (omega arith) (sequence-time-loop-again t)
+    (λ c. counted-all (c .before .loop .inv) (c .loop-test .left)))
+    λ t. statement-time-lts.spec (statement-time-claims t) (statement-time-at t) statement-time.Post (search needs) (omega arith)
+    (search needs) (search needs) (search needs) (search needs) (omega arith) (statement-time-returns t)
+    (λ c. flat-times (open-there t (c .before)) (c .if2 .taken)) (omega arith) (omega arith) (omega arith)
+    (λ c. first-late (open-there t (c .before .before .before)) (c .before .sequence-time .ensures) (c .if3 .taken)) (search needs)
+    (omega arith) (statement-time-returns-4 t) (omega arith) (omega arith) (omega arith) (statement-time-returns-5 t) (search needs)
+    (omega arith) (statement-time-returns-6 t)

@@ -7,9 +7,6 @@ use borrow.Author.Needs.{needs}
 use Rattle.timing.proofs.ticks.loop_time.Statement.{statement}
 use Rattle.timing.proofs.ticks.loop_time.Tie as tie
 
-enum-known-body : tie.Need-enum-known-body
-enum-known-body c = search needs
-
 enum-told : tie.Need-enum-told
 enum-told c = search needs
 
@@ -18,20 +15,11 @@ returns c = λ o t g.
     let r = c .before .before .args .r in
     loop-over _ (r .kind) (r .count) t o (subst (Gives _ t) (c .enum-told .given .1) g)
 
-round-ticks-requires : tie.Need-round-ticks-requires
-round-ticks-requires c κs = search needs
-
-cast-up-to : tie.Need-cast-up-to
-cast-up-to c = search needs
-
 mul-up-to : tie.Need-mul-up-to
 mul-up-to c = omega (arith, c .struct-known .given, mul-le-mul-left (c .before .before .before .before .before .args .r .count) (c .before .round-ticks .ensures .1))
 
 add-up-to : tie.Need-add-up-to
 add-up-to c = omega (arith, c .struct-known .given, mul-le-mul-left (c .before .before .before .before .before .args .r .count) (c .before .round-ticks .ensures .1))
-
-up-to-requires : tie.Need-up-to-requires
-up-to-requires c κs = search needs
 
 returns-2 : tie.Need-returns-2
 returns-2 c = λ o t g.
@@ -40,14 +28,4 @@ returns-2 c = λ o t g.
 
 pub loop-time-spec : {M : Type 1} → statement M
 loop-time-spec =
-    tie.close
-    (tie.spec
-    enum-known-body
-    enum-told
-    returns
-    round-ticks-requires
-    cast-up-to
-    mul-up-to
-    add-up-to
-    up-to-requires
-    returns-2)
+    tie.close (tie.spec (search needs) enum-told returns (search needs) (search needs) mul-up-to add-up-to (search needs) returns-2)

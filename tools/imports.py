@@ -1,0 +1,44 @@
+#!/usr/bin/env python3
+# imports.py FILE..: takes out of a file's `use` lines the names that nothing in it uses.
+import re
+import sys
+
+WORD = r"[^\s(){}\[\],;.\"λ]"
+
+
+def uses(name, rest):
+    """Whether a name, or each part of an operator, stands in the text."""
+    if re.search(r"(?<!%s)%s(?!%s)" % (WORD, re.escape(name), WORD), rest):
+        return True
+    parts = [p for p in name.split("_") if p] if name.startswith("_") or name.endswith("_") else [name]
+    for part in parts:
+        if not re.search(r"(?<!%s)%s(?!%s)" % (WORD, re.escape(part), WORD), rest):
+            return False
+    return True
+
+
+def run(path):
+    text = open(path).read()
+    lines = text.split("\n")
+    rest = "\n".join(line for line in lines if not re.match(r"(ghost )?use ", line))
+    out = []
+    for line in lines:
+        several = re.match(r"((?:ghost )?use \S+?\.)\{([^}]*)\}(;?)$", line)
+        alias = re.match(r"(?:ghost )?use \S+ as (\S+?);?$", line)
+        if several:
+            names = [n.strip() for n in several.group(2).split(",") if n.strip()]
+            kept = [n for n in names if uses(n.split(" as ")[-1], rest)]
+            if not kept:
+                continue
+            line = line if kept == names else several.group(1) + "{" + ", ".join(kept) + "}" + several.group(3)
+        elif alias and not re.search(r"(?<!%s)%s(?!%s)" % (WORD, re.escape(alias.group(1)), WORD), rest):
+            continue
+        out.append(line)
+    new = "\n".join(out)
+    if new != text:
+        open(path, "w").write(new)
+    return text.count("\n") - new.count("\n")
+
+
+if __name__ == "__main__":
+    print(sum(run(path) for path in sys.argv[1:]), "lines fewer")
