@@ -87,7 +87,7 @@ pub fn time(x: &Input) -> Measured {
     measured(
         x,
         nothing,
-        |_| rack::time_file(x.settings, x.form.of_rack(), x.file).map(|t| (t, 0)).map_err(|r| r.number),
+        |_| rack::time_file(x.settings, x.form.of_rack(), x.file).map(|t| (t, 0)).map_err(|r| r.number()),
         |_| second::time_file(x.settings, x.form.of_second(), x.file).map(|t| (t, 0)).map_err(|r| r.number),
     )
 }
@@ -96,7 +96,7 @@ pub fn equalise(x: &Input) -> Measured {
     measured(
         x,
         first_value,
-        |out| rack::equalise(x.settings, x.file, out).map(|w| (w.bytes as u32, w.time)).map_err(|r| r.number),
+        |out| rack::equalise(x.settings, x.file, out).map(|w| (w.bytes as u32, w.time)).map_err(|r| r.number()),
         |out| second::equalise(x.settings, x.file, out).map(|w| (w.bytes as u32, w.time)).map_err(|r| r.number),
     )
 }
@@ -105,7 +105,7 @@ pub fn lay_out(x: &Input) -> Measured {
     measured(
         x,
         first_value,
-        |out| rack::lay_out(x.settings, x.file, out).map(|w| (w.bytes as u32, w.time)).map_err(|r| r.number),
+        |out| rack::lay_out(x.settings, x.file, out).map(|w| (w.bytes as u32, w.time)).map_err(|r| r.number()),
         |out| second::lay_out(x.settings, x.file, out).map(|w| (w.bytes as u32, w.time)).map_err(|r| r.number),
     )
 }
@@ -114,7 +114,7 @@ pub fn prepare(x: &Input) -> Measured {
     measured(
         x,
         first_value,
-        |out| rack::prepare(x.settings, x.file, out).map(|w| (w.bytes as u32, w.time)).map_err(|r| r.number),
+        |out| rack::prepare(x.settings, x.file, out).map(|w| (w.bytes as u32, w.time)).map_err(|r| r.number()),
         |out| second::prepare(x.settings, x.file, out).map(|w| (w.bytes as u32, w.time)).map_err(|r| r.number),
     )
 }
@@ -148,7 +148,7 @@ pub fn run(x: &Input) -> Measured {
             let mut l = Lent::new();
             rack::run(x.settings, x.form.of_rack(), x.file, &mut l.variables, &INPUTS, &mut l.levels, &mut l.marks)
                 .map(|e| (e.tick, u32::from(e.overran)))
-                .map_err(|r| r.number)
+                .map_err(|r| r.number())
         },
         |_| {
             let mut l = Lent::new();
@@ -168,8 +168,8 @@ fn rack_stop(x: &Input, stop: u32) -> Answer {
     let mut l = Lent::new();
     let form = x.form.of_rack();
     let (v, o, m, i) = (&mut l.variables, &mut l.levels, &mut l.marks, &mut l.image);
-    rack::run_until(x.settings, form, x.file, v, &INPUTS, o, m, i, stop).map_err(|r| r.number)?;
-    rack::resume(x.settings, form, x.file, i, v, &INPUTS, o, m).map(|e| (e.tick, u32::from(e.overran))).map_err(|r| r.number)
+    rack::run_until(x.settings, form, x.file, v, &INPUTS, o, m, i, stop).map_err(|r| r.number())?;
+    rack::resume(x.settings, form, x.file, v, &INPUTS, o, m, i).map(|e| (e.tick, u32::from(e.overran))).map_err(|r| r.number())
 }
 
 fn second_stop(x: &Input, stop: u32) -> Answer {
@@ -177,5 +177,5 @@ fn second_stop(x: &Input, stop: u32) -> Answer {
     let form = x.form.of_second();
     let (v, o, m, i) = (&mut l.variables, &mut l.levels, &mut l.marks, &mut l.image);
     second::run_until(x.settings, form, x.file, v, &INPUTS, o, m, i, stop).map_err(|r| r.number)?;
-    second::resume(x.settings, form, x.file, i, v, &INPUTS, o, m).map(|e| (e.tick, u32::from(e.overran))).map_err(|r| r.number)
+    second::resume(x.settings, form, x.file, v, &INPUTS, o, m, i).map(|e| (e.tick, u32::from(e.overran))).map_err(|r| r.number)
 }

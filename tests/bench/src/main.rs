@@ -78,7 +78,7 @@ fn in_period(settings: &[u8; RECORD], shape: Shape, most: u32) -> u32 {
     largest(most, |n| {
         let file = made(shape, n).0;
         let mut room = vec![0; RECORD * LONGEST];
-        rack::lay_out(settings, &file, &mut room).map_or_else(|r| r.number != 8, |_| true)
+        rack::lay_out(settings, &file, &mut room).map_or_else(|r| r.number() != 8, |_| true)
     })
 }
 

@@ -54,7 +54,7 @@ fn on_a_thread(call: &mut (dyn FnMut() + Send)) -> usize {
 extern "C" fn empty() {}
 
 /// The bytes that a call needs beyond those of a call that does nothing. The wrapper's frame, with the arguments, is among them.
-fn used<T>(mut call: impl FnMut() -> Result<T, rack::Refused> + Send) -> usize {
+fn used<T>(mut call: impl FnMut() -> Result<T, rack::Refusal> + Send) -> usize {
     let none = on_a_thread(&mut || black_box(empty as extern "C" fn())());
     on_a_thread(&mut || assert!(black_box(call()).is_ok(), "the call finishes")) - none
 }
@@ -95,7 +95,7 @@ fn last_stop(x: &Input) -> u32 {
     end.expect("the run finishes").tick - 1
 }
 
-fn stop(x: &Input, l: &mut Lent, tick: u32) -> Result<rack::Stopped, rack::Refused> {
+fn stop(x: &Input, l: &mut Lent, tick: u32) -> Result<rack::Stopped, rack::Refusal> {
     let (v, o, m, i) = (&mut l.variables, &mut l.levels, &mut l.marks, &mut l.image);
     rack::run_until(x.settings, x.form.of_rack(), x.file, v, &INPUTS, o, m, i, tick)
 }
@@ -109,7 +109,7 @@ fn resume(x: &Input) -> usize {
     let mut l = Lent::new();
     let stopped = stop(x, &mut l, last_stop(x));
     assert!(stopped.is_ok_and(|s| s.saved), "there is an image");
-    used(|| rack::resume(x.settings, x.form.of_rack(), x.file, &l.image, &mut l.variables, &INPUTS, &mut l.levels, &mut l.marks))
+    used(|| rack::resume(x.settings, x.form.of_rack(), x.file, &mut l.variables, &INPUTS, &mut l.levels, &mut l.marks, &l.image))
 }
 
 /// The inputs, in words, that a call is tried on: blocks as deep as they may be, in each way that they recurse, and the longest files.

@@ -232,18 +232,25 @@ macro_rules! answers {
                 Answer::Stopped { tick, saved }
             }
         }
-
-        impl From<$library::Refused> for Answer {
-            fn from(refused: $library::Refused) -> Answer {
-                let (number, value) = (refused.number, refused.value);
-                Answer::Refused { number, value }
-            }
-        }
     };
 }
 
 answers!(rack);
 answers!(second);
+
+impl From<rack::Refusal> for Answer {
+    fn from(refusal: rack::Refusal) -> Answer {
+        let (number, value) = (refusal.number(), refusal.value());
+        Answer::Refused { number, value }
+    }
+}
+
+impl From<second::Refused> for Answer {
+    fn from(refused: second::Refused) -> Answer {
+        let (number, value) = (refused.number, refused.value);
+        Answer::Refused { number, value }
+    }
+}
 
 macro_rules! implementation {
     ($name:ident, $library:ident, $form:expr) => {
@@ -266,7 +273,7 @@ macro_rules! implementation {
                 )
                 .map(Answer::from),
                 Kind::Resume => $library::resume(
-                    settings, form, file, image, variables, inputs, levels, marks,
+                    settings, form, file, variables, inputs, levels, marks, image,
                 )
                 .map(Answer::from),
                 Kind::Restart => {

@@ -217,11 +217,11 @@ pub fn resume(
     settings: &[u8],
     form: Form,
     file: &[u8],
-    image: &[u8],
     variables: &mut [u32],
     inputs: &[u32],
     levels: &mut [u32],
     marks: &mut [u8],
+    image: &[u8],
 ) -> Result<Ended, Refused> {
     let (settings, program) = read_timed(settings, form, file)?;
     let lent = Lent::new(variables, inputs, levels, marks)?;

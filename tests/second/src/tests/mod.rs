@@ -159,7 +159,7 @@ impl Bench {
     pub fn resume(&mut self, settings: &Raw, form: Form, file: &[Raw]) -> Result<Ended, Refused> {
         let Bench { variables, inputs, levels, marks, image } = self;
         let file = file.as_flattened();
-        resume(settings, form, file, image, variables, inputs, levels, marks)
+        resume(settings, form, file, variables, inputs, levels, marks, image)
     }
 
     pub fn image_word(&self, at: usize) -> u32 {

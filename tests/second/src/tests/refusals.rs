@@ -219,7 +219,7 @@ fn with_lengths(lengths: [usize; 5]) -> Numbers {
         assert!(v.iter().chain(&*l).all(|&value| value == 3));
         assert!(m.iter().chain(&*image).all(|&value| value == 3));
     }
-    let taken_up = resume(&settings, form, &file, image, v, i, l, m).map_err(number);
+    let taken_up = resume(&settings, form, &file, v, i, l, m, image).map_err(number);
     let again = restart(&settings, form, &file, v, i, l, m).map_err(number);
     let whole = run(&settings, form, &file, v, i, l, m).map_err(number);
     [whole.map(drop), again.map(drop), until.map(drop), taken_up.map(drop)]

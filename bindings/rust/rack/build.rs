@@ -20,5 +20,5 @@ fn library_directory() -> PathBuf {
         return PathBuf::from(directory);
     }
     let manifest = env::var_os("CARGO_MANIFEST_DIR").expect("cargo sets CARGO_MANIFEST_DIR");
-    Path::new(&manifest).join("../../target/staticlib")
+    Path::new(&manifest).join("../../../target/staticlib")
 }

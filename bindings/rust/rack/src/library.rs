@@ -1,10 +1,29 @@
-//! The functions of `librack.a`.
+//! The functions of `librack.a`, as `include/rack.h` declares them.
 //!
 //! A slice is a pointer, never null, and a length in elements. The answer is
 //! one word, taken apart in `answer.rs`.
 
-/// The type of the three calls that write a file.
+/// The calls that write a file: `rack_equalise`, `rack_lay_out` and
+/// `rack_prepare`.
 pub type Writes = unsafe extern "C" fn(*const u8, usize, *const u8, usize, *mut u8, usize) -> u64;
+
+/// The calls that run from the first record to the end: `rack_run` and
+/// `rack_restart`.
+pub type Runs = unsafe extern "C" fn(
+    *const u8,
+    usize,
+    u8,
+    *const u8,
+    usize,
+    *mut u32,
+    usize,
+    *const u32,
+    usize,
+    *mut u32,
+    usize,
+    *mut u8,
+    usize,
+) -> u64;
 
 unsafe extern "C" {
     pub fn rack_time(
@@ -83,8 +102,6 @@ unsafe extern "C" {
         form: u8,
         file: *const u8,
         file_length: usize,
-        image: *const u8,
-        image_length: usize,
         variables: *mut u32,
         variables_length: usize,
         inputs: *const u32,
@@ -93,6 +110,8 @@ unsafe extern "C" {
         levels_length: usize,
         marks: *mut u8,
         marks_length: usize,
+        image: *const u8,
+        image_length: usize,
     ) -> u64;
 
     pub fn rack_restart(

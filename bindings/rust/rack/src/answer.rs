@@ -1,0 +1,98 @@
+//! Takes the word that each function of the library answers apart.
+//!
+//! Finished: bit 63 is 0, bits 0 to 23 hold the first value, bits 24 to 55 the
+//! second, bits 56 to 62 the flags. Refused: bit 63 is 1, bits 56 to 62 hold
+//! the refusal's number, bits 0 to 55 the value returned with it.
+
+use crate::Refusal;
+
+const NONE: u8 = 0;
+const OVERRAN: u8 = 1;
+const SAVED: u8 = 2;
+
+/// A file was written.
+#[derive(Clone, Copy, Debug, PartialEq, Eq)]
+pub struct Written {
+    /// The length of the file, which stands at the front of the lent buffer.
+    pub bytes: usize,
+    /// Its time or, of a laid file, its total, in ticks.
+    pub time: u32,
+}
+
+/// A run went to its end.
+#[derive(Clone, Copy, Debug, PartialEq, Eq)]
+pub struct Ended {
+    pub tick: u32,
+    /// Whether a loop's test still held after its last round.
+    pub overran: bool,
+}
+
+/// A run was stopped.
+#[derive(Clone, Copy, Debug, PartialEq, Eq)]
+pub struct Stopped {
+    pub tick: u32,
+    /// Whether a checkpoint was finished, so that there is an image.
+    pub saved: bool,
+}
+
+struct Finished {
+    first: u32,
+    second: u32,
+    flags: u8,
+}
+
+/// The answer of `rack_time`.
+pub fn timed(word: u64) -> Result<u32, Refusal> {
+    Ok(one_value(word, NONE)?.first)
+}
+
+/// The answer of a call that writes a file: two values, and no flag.
+pub fn written(word: u64) -> Result<Written, Refusal> {
+    let finished = read(word)?;
+    assert!(finished.flags == NONE, "a flag in {word:#x}");
+    Ok(Written {
+        bytes: finished.first as usize,
+        time: finished.second,
+    })
+}
+
+/// The answer of a call that runs to the end.
+pub fn ended(word: u64) -> Result<Ended, Refusal> {
+    let finished = one_value(word, OVERRAN)?;
+    Ok(Ended {
+        tick: finished.first,
+        overran: finished.flags != NONE,
+    })
+}
+
+/// The answer of `rack_run_until`.
+pub fn stopped(word: u64) -> Result<Stopped, Refusal> {
+    let finished = one_value(word, SAVED)?;
+    Ok(Stopped {
+        tick: finished.first,
+        saved: finished.flags != NONE,
+    })
+}
+
+/// One value, and no flag but `allowed`.
+fn one_value(word: u64, allowed: u8) -> Result<Finished, Refusal> {
+    let finished = read(word)?;
+    assert!(finished.second == 0, "a second value in {word:#x}");
+    assert!(finished.flags & !allowed == 0, "a flag in {word:#x}");
+    Ok(finished)
+}
+
+fn read(word: u64) -> Result<Finished, Refusal> {
+    let high = (word >> 56) as u8 & 0x7f;
+    if word >> 63 == 1 {
+        return Err(Refusal::new(high, word & 0x00ff_ffff_ffff_ffff));
+    }
+    Ok(Finished {
+        first: word as u32 & 0x00ff_ffff,
+        second: (word >> 24) as u32,
+        flags: high,
+    })
+}
+
+#[cfg(test)]
+mod tests;

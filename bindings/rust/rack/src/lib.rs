@@ -1,0 +1,327 @@
+//! The rack task preparer, called from Rust through its static library.
+//!
+//! Each function lends its slices to one function of `librack.a` for the
+//! length of the call and turns the answered word into a `Result`. Nothing is
+//! copied and nothing is kept, so that calls may be made from any thread at
+//! once. Whatever bytes and lengths they are handed, they end, and a refused
+//! call changes no byte that was lent. A call panics only where the linked
+//! library is not of this version: at a word that `rack.h` does not describe.
+//!
+//! A task is prepared once and then run each period:
+//!
+//! ```
+//! use rack::{Form, LONGEST, PORTS, VARIABLES};
+//!
+//! // SET, READ, WRITE and BEAT take 3 ticks and SAVE 10; every 4th window of
+//! // 20 ticks has a SAVE; the period is 100.
+//! let settings = [3, 3, 3, 3, 10, 4, 20, 0, 100, 0, 0, 0];
+//! let task = [
+//!     3, 0, 0, 0, 0, 0, 0, 0, 0, 0, 0, 0, // READ variable 0 from port 0
+//!     4, 0, 0, 0, 0, 0, 0, 0, 0, 0, 0, 0, // WRITE variable 0 to port 0
+//! ];
+//! let mut out = [0; LONGEST];
+//! let laid = rack::prepare(&settings, &task, &mut out)?;
+//! assert_eq!((laid.bytes, laid.time), (72, 23));
+//! // What follows the file in the buffer is not part of it.
+//! let file = &out[..laid.bytes];
+//!
+//! let (mut variables, mut levels, mut marks) = ([0; VARIABLES], [0; PORTS], [0; PORTS]);
+//! let inputs = [7, 0, 0, 0, 0, 0, 0, 0];
+//! let end = rack::run(
+//!     &settings, Form::Laid, file, &mut variables, &inputs, &mut levels, &mut marks,
+//! )?;
+//! assert_eq!((end.tick, end.overran), (23, false));
+//! assert_eq!((levels[0], marks[0]), (7, 1));
+//! # Ok::<(), rack::Refusal>(())
+//! ```
+//!
+//! Heartbeats, totals and taking up are as promised where a task is prepared,
+//! run and taken up under settings of the same numbers.
+
+mod answer;
+mod library;
+mod refusal;
+
+pub use answer::{Ended, Stopped, Written};
+pub use refusal::Refusal;
+
+use library::{Runs, Writes};
+
+/// The bytes of settings.
+pub const SETTINGS: usize = 12;
+/// The variables of a run.
+pub const VARIABLES: usize = 16;
+/// The ports: so many inputs, levels and marks.
+pub const PORTS: usize = 8;
+/// The bytes of an image.
+pub const IMAGE: usize = 72;
+/// The bytes of the longest file: 5461 records of 12.
+pub const LONGEST: usize = 65_532;
+
+/// Which of the three kinds of file a call is handed.
+#[derive(Clone, Copy, Debug, PartialEq, Eq)]
+#[repr(u8)]
+pub enum Form {
+    Task = 0,
+    Equalised = 1,
+    Laid = 2,
+}
+
+/// The library takes the form as a number; 3 and above count as laid.
+impl From<Form> for u8 {
+    fn from(form: Form) -> u8 {
+        form as u8
+    }
+}
+
+/// The time of a file, in ticks.
+pub fn time_file(settings: &[u8], form: impl Into<u8>, file: &[u8]) -> Result<u32, Refusal> {
+    // SAFETY: every pointer and length is that of a slice borrowed here.
+    let word = unsafe {
+        library::rack_time(
+            settings.as_ptr(),
+            settings.len(),
+            form.into(),
+            file.as_ptr(),
+            file.len(),
+        )
+    };
+    answer::timed(word)
+}
+
+fn write_by(
+    call: Writes,
+    settings: &[u8],
+    file: &[u8],
+    out: &mut [u8],
+) -> Result<Written, Refusal> {
+    // SAFETY: as in `time_file`; `out` is borrowed for writing, so that it
+    // overlaps no other slice.
+    let word = unsafe {
+        call(
+            settings.as_ptr(),
+            settings.len(),
+            file.as_ptr(),
+            file.len(),
+            out.as_mut_ptr(),
+            out.len(),
+        )
+    };
+    answer::written(word)
+}
+
+/// Writes the equalised file of a task over the front of `out`.
+pub fn equalise(settings: &[u8], task: &[u8], out: &mut [u8]) -> Result<Written, Refusal> {
+    write_by(library::rack_equalise, settings, task, out)
+}
+
+/// Writes the laid file of an equalised file over the front of `out`.
+pub fn lay_out(settings: &[u8], equalised: &[u8], out: &mut [u8]) -> Result<Written, Refusal> {
+    write_by(library::rack_lay_out, settings, equalised, out)
+}
+
+/// Writes the laid file of a task, equalised first, over the front of `out`.
+///
+/// ```
+/// # let settings = [3, 3, 3, 3, 10, 4, 20, 0, 100, 0, 0, 0];
+/// let task = [
+///     3, 0, 0, 0, 0, 0, 0, 0, 0, 0, 0, 0, // READ variable 0 from port 0
+///     4, 0, 0, 0, 0, 0, 0, 0, 0, 0, 0, 0, // WRITE variable 0 to port 0
+/// ];
+/// let mut out = [0; rack::LONGEST];
+/// let laid = rack::prepare(&settings, &task, &mut out)?;
+/// assert_eq!((laid.bytes, laid.time), (72, 23));
+///
+/// let refusal = rack::prepare(&settings, &task, &mut out[..71]).unwrap_err();
+/// assert_eq!(refusal, rack::Refusal::NoRoom);
+/// let refusal = rack::prepare(&settings, &task[..23], &mut out).unwrap_err();
+/// assert_eq!((refusal.number(), refusal.value()), (1, Some(23)));
+/// # Ok::<(), rack::Refusal>(())
+/// ```
+pub fn prepare(settings: &[u8], task: &[u8], out: &mut [u8]) -> Result<Written, Refusal> {
+    write_by(library::rack_prepare, settings, task, out)
+}
+
+#[allow(clippy::too_many_arguments)]
+fn run_by(
+    call: Runs,
+    settings: &[u8],
+    form: u8,
+    file: &[u8],
+    variables: &mut [u32],
+    inputs: &[u32],
+    levels: &mut [u32],
+    marks: &mut [u8],
+) -> Result<Ended, Refusal> {
+    // SAFETY: as in `write_by`.
+    let word = unsafe {
+        call(
+            settings.as_ptr(),
+            settings.len(),
+            form,
+            file.as_ptr(),
+            file.len(),
+            variables.as_mut_ptr(),
+            variables.len(),
+            inputs.as_ptr(),
+            inputs.len(),
+            levels.as_mut_ptr(),
+            levels.len(),
+            marks.as_mut_ptr(),
+            marks.len(),
+        )
+    };
+    answer::ended(word)
+}
+
+/// Runs a file from its first record to its end, with levels and marks set to
+/// 0 first. A level counts where its mark is 1; where that is 0, nothing was
+/// written to the port.
+///
+/// ```
+/// # let settings = [3, 3, 3, 3, 10, 4, 20, 0, 100, 0, 0, 0];
+/// let task = [
+///     3, 0, 0, 0, 0, 0, 0, 0, 0, 0, 0, 0, // READ variable 0 from port 0
+///     4, 0, 0, 1, 0, 0, 0, 0, 0, 0, 0, 0, // WRITE variable 0 to port 1
+/// ];
+/// let (mut variables, inputs) = ([0; 16], [7, 0, 0, 0, 0, 0, 0, 0]);
+/// let (mut levels, mut marks) = ([0; 8], [0; 8]);
+/// let form = rack::Form::Task;
+/// let end = rack::run(
+///     &settings, form, &task, &mut variables, &inputs, &mut levels, &mut marks,
+/// )?;
+/// assert_eq!(end.tick, 6);
+/// assert_eq!((levels[1], marks), (7, [0, 1, 0, 0, 0, 0, 0, 0]));
+/// # Ok::<(), rack::Refusal>(())
+/// ```
+pub fn run(
+    settings: &[u8],
+    form: impl Into<u8>,
+    file: &[u8],
+    variables: &mut [u32],
+    inputs: &[u32],
+    levels: &mut [u32],
+    marks: &mut [u8],
+) -> Result<Ended, Refusal> {
+    let (call, form) = (library::rack_run, form.into());
+    run_by(call, settings, form, file, variables, inputs, levels, marks)
+}
+
+/// As [`run`], stopped at the tick `stop`, which lies before the end. Where a
+/// checkpoint was finished by then, `image` has the last one, for [`resume`];
+/// else it is untouched, and [`restart`] takes the run up. That needs the first
+/// variables: keep a copy, since this call writes over them.
+///
+/// ```
+/// # let settings = [3, 3, 3, 3, 10, 4, 20, 0, 100, 0, 0, 0];
+/// # let task = [3, 0, 0, 0, 0, 0, 0, 0, 0, 0, 0, 0, 4, 0, 0, 0, 0, 0, 0, 0, 0, 0, 0, 0];
+/// # let mut out = [0; rack::LONGEST];
+/// # let laid = rack::prepare(&settings, &task, &mut out)?;
+/// // Prepared as above: BEAT, SAVE from tick 3 to 13, READ, WRITE, SKIP, BEAT.
+/// let (form, file) = (rack::Form::Laid, &out[..laid.bytes]);
+/// let (mut variables, inputs) = ([0; 16], [7, 0, 0, 0, 0, 0, 0, 0]);
+/// let (mut levels, mut marks, mut image) = ([0; 8], [0; 8], [0; rack::IMAGE]);
+///
+/// let stop = rack::run_until(
+///     &settings, form, file, &mut variables, &inputs, &mut levels, &mut marks, &mut image, 17,
+/// )?;
+/// assert!(stop.saved);
+/// assert_eq!((variables[0], marks[0]), (7, 0));
+///
+/// // A spare controller has its own variables: the image brings the right ones.
+/// let mut variables = [99; 16];
+/// let end = rack::resume(
+///     &settings, form, file, &mut variables, &inputs, &mut levels, &mut marks, &image,
+/// )?;
+/// assert_eq!((end.tick, levels[0], marks[0]), (23, 7, 1));
+/// # Ok::<(), rack::Refusal>(())
+/// ```
+#[allow(clippy::too_many_arguments)]
+pub fn run_until(
+    settings: &[u8],
+    form: impl Into<u8>,
+    file: &[u8],
+    variables: &mut [u32],
+    inputs: &[u32],
+    levels: &mut [u32],
+    marks: &mut [u8],
+    image: &mut [u8],
+    stop: u32,
+) -> Result<Stopped, Refusal> {
+    // SAFETY: as in `write_by`.
+    let word = unsafe {
+        library::rack_run_until(
+            settings.as_ptr(),
+            settings.len(),
+            form.into(),
+            file.as_ptr(),
+            file.len(),
+            variables.as_mut_ptr(),
+            variables.len(),
+            inputs.as_ptr(),
+            inputs.len(),
+            levels.as_mut_ptr(),
+            levels.len(),
+            marks.as_mut_ptr(),
+            marks.len(),
+            image.as_mut_ptr(),
+            image.len(),
+            stop,
+        )
+    };
+    answer::stopped(word)
+}
+
+/// Takes a stopped run up from its image, with the same settings, file and
+/// inputs, and with levels and marks as the stop left them. Whatever
+/// `variables` held, they begin as the image has them. [`run_until`] has an
+/// example.
+#[allow(clippy::too_many_arguments)]
+pub fn resume(
+    settings: &[u8],
+    form: impl Into<u8>,
+    file: &[u8],
+    variables: &mut [u32],
+    inputs: &[u32],
+    levels: &mut [u32],
+    marks: &mut [u8],
+    image: &[u8],
+) -> Result<Ended, Refusal> {
+    // SAFETY: as in `write_by`.
+    let word = unsafe {
+        library::rack_resume(
+            settings.as_ptr(),
+            settings.len(),
+            form.into(),
+            file.as_ptr(),
+            file.len(),
+            variables.as_mut_ptr(),
+            variables.len(),
+            inputs.as_ptr(),
+            inputs.len(),
+            levels.as_mut_ptr(),
+            levels.len(),
+            marks.as_mut_ptr(),
+            marks.len(),
+            image.as_ptr(),
+            image.len(),
+        )
+    };
+    answer::ended(word)
+}
+
+/// Takes a stopped run up where no checkpoint was finished: from the first
+/// record and the first variables, with the same settings, file and inputs,
+/// and with levels and marks as the stop left them.
+pub fn restart(
+    settings: &[u8],
+    form: impl Into<u8>,
+    file: &[u8],
+    variables: &mut [u32],
+    inputs: &[u32],
+    levels: &mut [u32],
+    marks: &mut [u8],
+) -> Result<Ended, Refusal> {
+    let (call, form) = (library::rack_restart, form.into());
+    run_by(call, settings, form, file, variables, inputs, levels, marks)
+}
