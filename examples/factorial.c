@@ -28,8 +28,7 @@ static const uint8_t task[] = {
 static const uint8_t settings[RACK_SETTINGS] = {3, 3, 3, 3, 10, 4, 20, 0, 200, 0, 0, 0};
 
 struct run {
-    uint32_t variables[RACK_VARIABLES], levels[RACK_PORTS];
-    uint8_t marks[RACK_PORTS];
+    struct rack_state state;
     unsigned overran;
 };
 
@@ -43,36 +42,30 @@ static uint64_t finished(const char *call, uint64_t answer) {
     return answer;
 }
 
+// The state is words and then bytes, with no gap between them.
 static int alike(const struct run *x, const struct run *y) {
-    return memcmp(x->variables, y->variables, sizeof x->variables) == 0 && memcmp(x->levels, y->levels, sizeof x->levels) == 0 &&
-           memcmp(x->marks, y->marks, sizeof x->marks) == 0 && x->overran == y->overran;
+    return memcmp(&x->state, &y->state, sizeof x->state) == 0 && x->overran == y->overran;
 }
 
 static uint32_t whole(uint8_t form, const uint8_t *file, size_t length, struct run *r) {
-    uint64_t end = finished("rack_run", rack_run(settings, sizeof settings, form, file, length, r->variables, RACK_VARIABLES, inputs,
-                                                 RACK_PORTS, r->levels, RACK_PORTS, r->marks, RACK_PORTS));
+    uint64_t end = finished("rack_run", rack_state_run(settings, form, file, length, &r->state, inputs));
     r->overran = rack_flags(end) & RACK_OVERRAN;
     return rack_first(end);
 }
 
 // Stopped at a tick and taken up from the image, or from the start where there is none. Answers the tick that it went on from.
 static uint32_t stopped(const uint8_t *file, size_t length, uint32_t stop, struct run *r) {
-    uint32_t first[RACK_VARIABLES];
+    const struct rack_state first = r->state;
     uint8_t image[RACK_IMAGE];
-    memcpy(first, r->variables, sizeof first);
-    uint64_t at = finished("rack_run_until",
-                           rack_run_until(settings, sizeof settings, RACK_LAID, file, length, r->variables, RACK_VARIABLES, inputs,
-                                          RACK_PORTS, r->levels, RACK_PORTS, r->marks, RACK_PORTS, image, RACK_IMAGE, stop));
+    uint64_t at = finished("rack_run_until", rack_state_run_until(settings, RACK_LAID, file, length, &r->state, inputs, image, stop));
     uint64_t end;
     uint32_t from = 0;
     if (rack_flags(at) & RACK_SAVED) {
-        end = finished("rack_resume", rack_resume(settings, sizeof settings, RACK_LAID, file, length, image, RACK_IMAGE, r->variables,
-                                                  RACK_VARIABLES, inputs, RACK_PORTS, r->levels, RACK_PORTS, r->marks, RACK_PORTS));
+        end = finished("rack_resume", rack_state_resume(settings, RACK_LAID, file, length, &r->state, inputs, image));
         from = image[4] | (uint32_t)image[5] << 8 | (uint32_t)image[6] << 16 | (uint32_t)image[7] << 24;
     } else {
-        memcpy(r->variables, first, sizeof first);
-        end = finished("rack_restart", rack_restart(settings, sizeof settings, RACK_LAID, file, length, r->variables, RACK_VARIABLES,
-                                                    inputs, RACK_PORTS, r->levels, RACK_PORTS, r->marks, RACK_PORTS));
+        memcpy(r->state.variables, first.variables, sizeof first.variables);
+        end = finished("rack_restart", rack_state_restart(settings, RACK_LAID, file, length, &r->state, inputs));
     }
     r->overran = rack_flags(end) & RACK_OVERRAN;
     return from;
@@ -88,7 +81,7 @@ int main(void) {
     struct run written = {0}, prepared = {0};
     whole(RACK_TASK, task, sizeof task, &written);
     uint32_t end = whole(RACK_LAID, laid, rack_first(ready), &prepared);
-    printf("on input %u port 0 shows %u, as written and prepared\n", inputs[0], prepared.levels[0]);
+    printf("on input %u port 0 shows %u, as written and prepared\n", inputs[0], prepared.state.levels[0]);
     if (!alike(&written, &prepared)) return 1;
 
     uint32_t twice = 0;

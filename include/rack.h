@@ -1,21 +1,19 @@
-// The rack task preparer, for C. Link with librack.a.
+// The rack task preparer, for C11 and C++17. Link with librack.a.
 //
-// Document 01 decides what each call does; README.md has the formats and the refusals in tables. A call keeps nothing, uses no heap, and
-// ends whatever it is handed.
+// Document 01 decides what each call does; README.md has the formats and the refusals in tables. A call ends whatever it is handed.
+//
+// Pointers: a slice is a pointer and a number of elements. A pointer is not null, also where the number is 0, leads to as many elements,
+// and is aligned as its type asks: uint32_t to 4 bytes, uint8_t to any. The buffers of one call do not overlap.
+// Threads: there is no global data, and a call keeps nothing and uses no heap. Calls may be made from any threads at once, each with
+// buffers of its own.
+// Stack: measured on files nested as deep as may be, a call needs up to 18,128 bytes, and rack_prepare 27,504.
+// Settings: heartbeats, totals and taking up are as promised where a task is prepared, run and taken up under settings of the same numbers.
+// Other settings are not refused: the file is then run as its records stand.
 //
 // A call answers one number.
 // Finished: bit 63 is 0. Bits 0 to 23 hold the first value, bits 24 to 55 the second, and bits 56 to 62 the flags: RACK_OVERRAN and
 // RACK_SAVED. What a call does not name is 0.
-// Refused: bit 63 is 1, bits 56 to 62 hold the refusal's number, and bits 0 to 55 what is returned with it: the length in bytes (1), 2^56 - 1
-// for any length above that; the record index (2 to 5), or the record count where a block is open at the end of the file (4); else 0. No
-// byte that was lent is changed.
-//
-// Heartbeats, totals and taking up are as promised where a task is prepared, run and taken up under settings of the same numbers. Other
-// settings are not refused: the file is then run as its records stand.
-//
-// Slices are a pointer and a number of elements. A pointer is not null, also where the number is 0, and leads to as many elements. The
-// buffers of one call do not overlap. Measured on files nested as deep as may be, a call needs up to 18,128 bytes of stack, and rack_prepare
-// 27,504.
+// Refused: bit 63 is 1, bits 56 to 62 hold the refusal's number, and bits 0 to 55 what is returned with it. No byte that was lent is changed.
 #ifndef RACK_H
 #define RACK_H
 
@@ -26,14 +24,36 @@
 extern "C" {
 #endif
 
+// Raised with every change of a call, a number or a format.
+#define RACK_VERSION 1
+
 // The form of a file. Any other number is taken as laid.
 enum { RACK_TASK = 0, RACK_EQUALISED = 1, RACK_LAID = 2 };
 
 // The flags of a finished run.
 enum { RACK_OVERRAN = 1, RACK_SAVED = 2 };
 
-// Lengths that the table asks for, and the bytes of the longest file.
-enum { RACK_SETTINGS = 12, RACK_VARIABLES = 16, RACK_PORTS = 8, RACK_IMAGE = 72, RACK_LONGEST = 65532 };
+// The numbers of the refusals, and the value returned with each; 0 where none is named.
+enum {
+    RACK_BAD_LENGTH = 1,     // the length in bytes, 2^56 - 1 for any above that
+    RACK_BAD_KIND = 2,       // the record index
+    RACK_BAD_FIELD = 3,      // the record index
+    RACK_BAD_STRUCTURE = 4,  // the record index, or the record count where a block is open at the end of the file
+    RACK_TOO_DEEP = 5,       // the record index
+    RACK_BAD_SETTINGS = 6,
+    RACK_SHORT_WINDOW = 7,
+    RACK_OVER_PERIOD = 8,
+    RACK_NO_ROOM = 9,
+    RACK_BAD_BUFFERS = 10,
+    RACK_BAD_IMAGE = 11,
+    RACK_LATE_STOP = 12
+};
+
+// Lengths that a call asks for, in elements.
+enum { RACK_SETTINGS = 12, RACK_VARIABLES = 16, RACK_PORTS = 8, RACK_IMAGE = 72 };
+
+// The bytes of a record, the most records of a task and of any file, and the bytes of the longest file.
+enum { RACK_RECORD = 12, RACK_TASK_RECORDS = 256, RACK_RECORDS = 5461, RACK_LONGEST = 65532 };
 
 // The parts of an answer. Ask rack_refused first: a refused one has a number and a value, a finished one first, second and flags.
 static inline int rack_refused(uint64_t answer) { return (int)(answer >> 63); }
@@ -82,14 +102,46 @@ uint64_t rack_run_until(const uint8_t *settings, size_t settings_length, uint8_t
 // variables held before, they begin as the image has them. First value: the end tick, counted on from the image's; flag RACK_OVERRAN.
 // Refusals 6, 1 to 5, 8, 10 and 11.
 uint64_t rack_resume(const uint8_t *settings, size_t settings_length, uint8_t form, const uint8_t *file, size_t file_length,
-                     const uint8_t *image, size_t image_length, uint32_t *variables, size_t variables_length, const uint32_t *inputs,
-                     size_t inputs_length, uint32_t *levels, size_t levels_length, uint8_t *marks, size_t marks_length);
+                     uint32_t *variables, size_t variables_length, const uint32_t *inputs, size_t inputs_length, uint32_t *levels,
+                     size_t levels_length, uint8_t *marks, size_t marks_length, const uint8_t *image, size_t image_length);
 
 // Takes a stopped run up where no checkpoint was finished: from the first record and the first variables, with the same settings, file and
 // inputs and with levels and marks as the stop left them. First value: the end tick; flag RACK_OVERRAN. Refusals 6, 1 to 5, 8 and 10.
 uint64_t rack_restart(const uint8_t *settings, size_t settings_length, uint8_t form, const uint8_t *file, size_t file_length,
                       uint32_t *variables, size_t variables_length, const uint32_t *inputs, size_t inputs_length, uint32_t *levels,
                       size_t levels_length, uint8_t *marks, size_t marks_length);
+
+// What a run is lent and leaves. A port's level counts where its mark is 1.
+struct rack_state {
+    uint32_t variables[RACK_VARIABLES], levels[RACK_PORTS];
+    uint8_t marks[RACK_PORTS];
+};
+
+// The calls above on a state, with the lengths that they ask for: settings of RACK_SETTINGS bytes, RACK_PORTS inputs, and an image of
+// RACK_IMAGE bytes.
+static inline uint64_t rack_state_run(const uint8_t *settings, uint8_t form, const uint8_t *file, size_t file_length,
+                                      struct rack_state *state, const uint32_t *inputs) {
+    return rack_run(settings, RACK_SETTINGS, form, file, file_length, state->variables, RACK_VARIABLES, inputs, RACK_PORTS, state->levels,
+                    RACK_PORTS, state->marks, RACK_PORTS);
+}
+
+static inline uint64_t rack_state_run_until(const uint8_t *settings, uint8_t form, const uint8_t *file, size_t file_length,
+                                            struct rack_state *state, const uint32_t *inputs, uint8_t *image, uint32_t stop) {
+    return rack_run_until(settings, RACK_SETTINGS, form, file, file_length, state->variables, RACK_VARIABLES, inputs, RACK_PORTS,
+                          state->levels, RACK_PORTS, state->marks, RACK_PORTS, image, RACK_IMAGE, stop);
+}
+
+static inline uint64_t rack_state_resume(const uint8_t *settings, uint8_t form, const uint8_t *file, size_t file_length,
+                                         struct rack_state *state, const uint32_t *inputs, const uint8_t *image) {
+    return rack_resume(settings, RACK_SETTINGS, form, file, file_length, state->variables, RACK_VARIABLES, inputs, RACK_PORTS,
+                       state->levels, RACK_PORTS, state->marks, RACK_PORTS, image, RACK_IMAGE);
+}
+
+static inline uint64_t rack_state_restart(const uint8_t *settings, uint8_t form, const uint8_t *file, size_t file_length,
+                                          struct rack_state *state, const uint32_t *inputs) {
+    return rack_restart(settings, RACK_SETTINGS, form, file, file_length, state->variables, RACK_VARIABLES, inputs, RACK_PORTS,
+                        state->levels, RACK_PORTS, state->marks, RACK_PORTS);
+}
 
 #ifdef __cplusplus
 }
