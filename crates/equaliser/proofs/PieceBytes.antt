@@ -3,9 +3,8 @@ use Prim.Native.Nat.{ℕ, _+_, _≤_}
 use mathlib.Core.Path.{_≡_, refl}
 use mathlib.Core.List.{List, _++_}
 use lib.ListN.{length}
-use Rattle.model.specs.Records.{Rec, IF, TIMES, recordBytes}
+use Rattle.model.specs.Records.{Rec, IF, TIMES, recordBytes, over}
 use Rattle.model.specs.Trees.{testRec, elseRec, endRec}
-use Rattle.model.specs.Replies.{over}
 use Rattle.records.specs.Blocks.{skipBytes, Wrote}
 use Rattle.records.proofs.Over.{Part, lent, back, part-first, part-lent, part-last}
 use Rattle.reading.specs.Ranges.{testOf}

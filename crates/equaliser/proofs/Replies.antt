@@ -11,18 +11,19 @@ use Rattle.model.specs.declared.Settings.{Settings}
 use Rattle.model.specs.declared.Form.the-variants.{Task}
 use Rattle.model.specs.declared.Refusal.{Refusal}
 use Rattle.model.specs.declared.Equalised.{Equalised}
-use Rattle.model.specs.Records.{bytes}
+use Rattle.model.specs.Records.{bytes, over}
 use Rattle.model.specs.Trees.{Block, size, linearise, fileTree}
 use Rattle.model.specs.Times.{time}
 use Rattle.model.specs.Equalising.{equalise}
 use Rattle.model.specs.Settings.{settingsOf}
-use Rattle.model.specs.Answers.{Verdict, finished, refusal, equalised}
-use Rattle.model.specs.Replies.{turnDown, noRoom, kept as kept-by, over, equalisedTree, equaliseReply, equaliseOut}
+use Rattle.model.specs.Answers.{Verdict, finished, refusal, equalised, kept as kept-by}
+use Rattle.model.specs.Replies.{turnDown, noRoom, equaliseRows, equalisedTree, equaliseReply, equaliseOut}
 use Rattle.model.proofs.Sound.{sound-file}
 use Rattle.records.specs.declared.settings.Decoded.the-variants.{Valid, Refused}
 use Rattle.records.specs.Blocks.{blockBytes, skipRecords}
 use Rattle.records.proofs.Blocks.{length-block}
 use Rattle.reading.specs.Answers.{Reads}
+use Rattle.reading.specs.Ranges.{SoundFile}
 use Rattle.reading.proofs.Entry.{read-sound}
 use Rattle.reading.proofs.Standing.{stands-file}
 use Rattle.timing.specs.declared.ticks.Time.the-variants.{Ticks, OverPeriod}
@@ -34,14 +35,14 @@ use Rattle.equaliser.specs.Merged.{padded}
 use Rattle.equaliser.specs.Pads.{Kept}
 use Rattle.equaliser.specs.Sizes.{InTask, Small, BlockAsks, BlockDone, IsBlock, BlockSize}
 use Rattle.equaliser.specs.Written.{BlockFits, BlockWritten}
-use Rattle.equaliser.specs.Answers.{SoundTask, sizedReply, EqualisesSound}
+use Rattle.equaliser.specs.Answers.{EqualisesSound}
 use Rattle.equaliser.proofs.Merged.{equalise-padded}
 use Rattle.equaliser.proofs.StatementSizes.{told}
 
 -- A TASK THAT WAS READ
 
 -- its tree stands in it
-abbrev in-task : (task : List ℕ) → SoundTask task → InTask task 0 (length task / 12)
+abbrev in-task : (task : List ℕ) → SoundFile Task task → InTask task 0 (length task / 12)
 in-task task S =
     let F = sound-file Task task (S .sound) in
     record {
@@ -51,17 +52,17 @@ in-task task S =
       inside = omega arith;
     }
 
-pub task-asks : {task pads : List ℕ} → SoundTask task → length pads ≡ 512 → BlockAsks task 0 (length task / 12) pads
+pub task-asks : {task pads : List ℕ} → SoundFile Task task → length pads ≡ 512 → BlockAsks task 0 (length task / 12) pads
 task-asks S l = record { task = in-task _ S; long = l }
 
 -- the first row that refuses decides, and a refusal keeps the buffer
-turned : (task : List ℕ) (σ : Settings) (old : List ℕ) (x : Refusal) → refusal x ≡ sizedReply σ (fileTree task) (length old) → EqualisesSound task σ old old (Equalised.Refused x)
+turned : (task : List ℕ) (σ : Settings) (old : List ℕ) (x : Refusal) → refusal x ≡ equaliseRows σ (fileTree task) (length old) → EqualisesSound task σ old old (Equalised.Refused x)
 turned task σ old x e = record {
   reply = e;
   leaves = ap (λ (v : Verdict). kept-by v (over (bytes (linearise (equalise σ (fileTree task)))) old) old) e;
 }
 
-module _ {task : List ℕ} {σ : Settings} {pads kept : List ℕ} {r : Extent} (S : SoundTask task) (B : BlockSize task 0 (length task / 12) σ pads kept r) where
+module _ {task : List ℕ} {σ : Settings} {pads kept : List ℕ} {r : Extent} (S : SoundFile Task task) (B : BlockSize task 0 (length task / 12) σ pads kept r) where
   measured : IsBlock task 0 (length task / 12) σ kept (fileTree task) r
   measured = B .right (fileTree task) (in-task task S .stands)
 
@@ -82,7 +83,7 @@ module _ {task : List ℕ} {σ : Settings} {pads kept : List ℕ} {r : Extent} (
       counts = ap size (equalise-padded σ (fileTree task)) ∙ in-time .2 .counts 0 ∙ sym c
 
       -- what row 9 says decides
-      sized : (old : List ℕ) → sizedReply σ (fileTree task) (length old) ≡ turnDown 9 (noRoom (length old) n) (finished (12 * n ∷ t ∷ []))
+      sized : (old : List ℕ) → equaliseRows σ (fileTree task) (length old) ≡ turnDown 9 (noRoom (length old) n) (finished (12 * n ∷ t ∷ []))
       sized old = rw (counts, in-time .0, le-ltb (σ .period) t (in-time .1))
 
       pub no-room : (old : List ℕ) → noRoom (length old) n ≡ true → EqualisesSound task σ old old (Equalised.Refused Refusal.NoRoom)
@@ -116,7 +117,7 @@ module _ {task : List ℕ} {σ : Settings} {pads kept : List ℕ} {r : Extent} (
         unfolding blockBytes
         written new {w} W =
             let p = W .right fits .wrote in
-            let reply : finished (w .bytes ∷ t ∷ []) ≡ sizedReply σ (fileTree task) (length old) =
+            let reply : finished (w .bytes ∷ t ∷ []) ≡ equaliseRows σ (fileTree task) (length old) =
             ap (λ (x : ℕ). finished (x ∷ t ∷ [])) (p .count ∙ length-result) ∙ sym (sized old ∙ rw h) in
             record {
               reply = reply;
@@ -126,7 +127,7 @@ module _ {task : List ℕ} {σ : Settings} {pads kept : List ℕ} {r : Extent} (
 
 -- THE CALL
 
-pub sound-task : (s task : List ℕ) (σ : Settings) → Reads s Task task (Valid σ) → SoundTask task
+pub sound-task : (s task : List ℕ) (σ : Settings) → Reads s Task task (Valid σ) → SoundFile Task task
 sound-task s task σ R = record { sound = read-sound s Task task σ R }
 
 module _ (s task old : List ℕ) where
@@ -144,6 +145,6 @@ module _ (s task old : List ℕ) where
   unfolding equaliseReply equaliseOut equalisedTree
   read-equalised σ new r R E =
       let E' = subst (λ (τ : Settings). EqualisesSound task τ old new r) (R .settings σ refl) E in
-      let next = sizedReply (settingsOf s) (fileTree task) (length old) in
+      let next = equaliseRows (settingsOf s) (fileTree task) (length old) in
       let result = over (bytes (linearise (equalise (settingsOf s) (fileTree task)))) old in
       (E' .reply ∙ R .reply next, E' .leaves ∙ ap (λ (v : Verdict). kept-by v result old) (R .reply next))

@@ -7,10 +7,9 @@ use mathlib.Core.List.{List, _++_}
 use lib.ListN.{length, getD}
 use Rattle.model.specs.declared.Settings.{Settings}
 use Rattle.model.specs.declared.Form.the-variants.{Task}
-use Rattle.model.specs.Records.{Rec, kindAt, recordAt, IF}
+use Rattle.model.specs.Records.{Rec, kindAt, recordAt, IF, over}
 use Rattle.model.specs.Trees.{Block, while, size}
 use Rattle.model.specs.Times.{time}
-use Rattle.model.specs.Replies.{over}
 use Rattle.records.specs.declared.Record.{Record}
 use Rattle.records.specs.Records.{recordOf}
 use Rattle.records.specs.Blocks.{blockBytes, Wrote}

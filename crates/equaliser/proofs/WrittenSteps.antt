@@ -7,10 +7,9 @@ use mathlib.Core.List.{List, _++_}
 use lib.ListN.{length, length-append}
 use Rattle.model.specs.declared.Settings.{Settings}
 use Rattle.model.specs.declared.Form.the-variants.{Task}
-use Rattle.model.specs.Records.{Rec, recordBytes, bytes, kindAt, recordAt, SKIP}
+use Rattle.model.specs.Records.{Rec, recordBytes, bytes, kindAt, recordAt, SKIP, over}
 use Rattle.model.specs.Trees.{Block, nil, skip, act, branch, while, times, linearise}
 use Rattle.model.specs.Times.{time}
-use Rattle.model.specs.Replies.{over}
 use Rattle.records.specs.declared.Record.{Record}
 use Rattle.records.specs.Records.{recordOf}
 use Rattle.records.specs.Blocks.{blockBytes, skipBytes, Wrote}

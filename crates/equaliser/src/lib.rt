@@ -8,7 +8,9 @@ ghost use mathlib.Core.Path.{_≡_};
 ghost use lib.ListN.{length};
 ghost use Rattle.model.specs.Answers.{equalised};
 ghost use Rattle.model.specs.Replies.{equaliseReply, equaliseOut};
-ghost use Rattle.equaliser.specs.Answers.{SoundTask, EqualisesSound};
+ghost use Rattle.model.specs.declared.Form.the-variants.{Task};
+ghost use Rattle.reading.specs.Ranges.{SoundFile};
+ghost use Rattle.equaliser.specs.Answers.{EqualisesSound};
 use measure::measure_block;
 use measure::padded_records;
 use model::Equalised;
@@ -22,7 +24,7 @@ use write::write_block;
 
 // A task that was read: refusals 8 and 9, or the equalised task over the front of out.
 fn equalise_sound(task: &[u8], n: Settings, out: &mut [u8]) -> Equalised
-    requires { ⌜ SoundTask (now task) ⌝ }
+    requires { ⌜ SoundFile Task (now task) ⌝ }
     ensures { λ r. ⌜ EqualisesSound (now (task .entry)) n (now (out .entry)) (now (out .exit)) r ⌝ }
 {
     let to = task.len() / 12;

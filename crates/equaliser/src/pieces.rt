@@ -2,7 +2,7 @@
 ghost use mathlib.Core.Path.{_≡_};
 ghost use Prim.Native.Nat.{_≤_};
 ghost use lib.ListN.{length};
-ghost use Rattle.model.specs.Replies.{over};
+ghost use Rattle.model.specs.Records.{over};
 ghost use Rattle.records.specs.Records.{recordOf};
 ghost use Rattle.records.specs.Blocks.{Wrote};
 ghost use Rattle.equaliser.specs.Written.{loopHead, loopTail};

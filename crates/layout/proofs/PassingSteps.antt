@@ -9,9 +9,8 @@ use Rattle.model.specs.declared.Settings.{Settings}
 use Rattle.model.specs.declared.Form.the-variants.{Equalised}
 use Rattle.model.specs.Records.{Rec, kindAt, recordAt, SKIP, IF, TIMES}
 use Rattle.model.specs.Trees.{Act, set, read, write, check, beat, save, Block, nil, skip, act, _⧺_, actRec}
-use Rattle.model.specs.Times.{ticks}
+use Rattle.model.specs.Times.{ticks, longest}
 use Rattle.model.specs.Layout.{before}
-use Rattle.model.specs.Replies.{longest}
 use Rattle.model.proofs.Shapes.{Fit}
 use Rattle.model.proofs.Sound.{OfForm}
 use Rattle.theory.proofs.Sequences.{either}

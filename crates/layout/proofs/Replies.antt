@@ -11,13 +11,13 @@ use Rattle.model.specs.declared.Settings.{Settings}
 use Rattle.model.specs.declared.Form.the-variants.{Equalised}
 use Rattle.model.specs.declared.Refusal.{Refusal}
 use Rattle.model.specs.declared.LaidOut.{LaidOut}
-use Rattle.model.specs.Records.{bytes}
+use Rattle.model.specs.Records.{bytes, over}
 use Rattle.model.specs.Trees.{Block, size, linearise, fileTree}
-use Rattle.model.specs.Times.{time}
+use Rattle.model.specs.Times.{time, longest}
 use Rattle.model.specs.Layout.{unroll, opened, layout, total}
 use Rattle.model.specs.Settings.{settingsOf}
-use Rattle.model.specs.Answers.{Verdict, finished, refusal, laidOut}
-use Rattle.model.specs.Replies.{turnDown, longest, shortWindow, noRoom, kept, over, laidTree, layOutReply, layOutOut}
+use Rattle.model.specs.Answers.{Verdict, finished, refusal, laidOut, kept}
+use Rattle.model.specs.Replies.{turnDown, shortWindow, noRoom, layOutRows, laidTree, layOutReply, layOutOut}
 use Rattle.model.specs.Placement.{Positive}
 use Rattle.theory.proofs.Accepted.{in-range, fits, room-left}
 use Rattle.theory.proofs.Laid.{total-longer}
@@ -32,7 +32,7 @@ use Rattle.reading.specs.Ranges.{SoundFile}
 use Rattle.layout.specs.Measured.{FilePassed}
 use Rattle.layout.specs.Meetings.{FileMeasured}
 use Rattle.layout.specs.Written.{FileFits}
-use Rattle.layout.specs.Answers.{InRange, laidReply, LaysOutSound}
+use Rattle.layout.specs.Answers.{InRange, LaysOutSound}
 use Rattle.reading.proofs.Standing.{stands-file}
 use Rattle.layout.proofs.Whole.{few-ifs, opened-total, total-is, size-is}
 
@@ -53,7 +53,7 @@ pub by-settings : {s old new : List ℕ} {r : State} {σ τ : Settings} → σ �
 by-settings {s} {old} {new} {r} e m = subst (λ (ρ : Settings). FileMeasured s ρ old new r) e m
 
 -- the first row that refuses decides, and a refusal keeps the buffer
-turned : (file : List ℕ) (σ : Settings) (old : List ℕ) (x : Refusal) → refusal x ≡ laidReply σ (fileTree file) (length old) → LaysOutSound file σ old old (LaidOut.Refused x)
+turned : (file : List ℕ) (σ : Settings) (old : List ℕ) (x : Refusal) → refusal x ≡ layOutRows σ (fileTree file) (length old) → LaysOutSound file σ old old (LaidOut.Refused x)
 turned file σ old x e = record {
   reply = e;
   leaves = ap (λ (v : Verdict). kept v (over (bytes (linearise (layout σ (fileTree file)))) old) old) e;
@@ -118,7 +118,7 @@ module _ {file : List ℕ} {σ : Settings} {r : State} {m : ℕ} (T : InTime fil
   totals = total-is (T .settings) tree ended
 
   -- row 9 decides
-  timed : (room : ℕ) → laidReply σ tree room ≡ turnDown 9 (noRoom room (size result)) (finished (12 * size result ∷ total σ tree ∷ []))
+  timed : (room : ℕ) → layOutRows σ tree room ≡ turnDown 9 (noRoom room (size result)) (finished (12 * size result ∷ total σ tree ∷ []))
   timed room =
       let l = total-longer σ tree (stands-file Equalised file (T .sound) .fills .of-form) in
       let h : total σ tree ≤ σ .period = omega (arith, totals, T .short) in
@@ -160,7 +160,7 @@ module _ {file : List ℕ} {σ : Settings} {r : State} {m : ℕ} (T : InTime fil
       holds = M .noted e (omega (arith, ended .tick, T .short)) (omega (arith, few-ifs σ tree, counted, room-left (length old) n x .few));
     }
 
-    replies : finished (12 * n ∷ (r .tick + r .left + σ .beat) ∷ []) ≡ laidReply σ tree (length old)
+    replies : finished (12 * n ∷ (r .tick + r .left + σ .beat) ∷ []) ≡ layOutRows σ tree (length old)
     replies = ap₂ (λ (k t : ℕ). finished (12 * k ∷ t ∷ [])) (sym counted) (sym totals) ∙ sym (timed (length old) ∙ rw (same-room (length old), x))
 
     pub written : (new : List ℕ) → new ≡ over (blockBytes result) old → LaysOutSound file σ old new (LaidOut.Written (12 * n) (r .tick + r .left + σ .beat))
@@ -198,6 +198,6 @@ module _ (s file old : List ℕ) where
   unfolding layOutReply layOutOut laidTree
   read-laid σ new r R E =
       let E' = subst (λ (τ : Settings). LaysOutSound file τ old new r) (R .settings σ refl) E in
-      let next = laidReply (settingsOf s) (fileTree file) (length old) in
+      let next = layOutRows (settingsOf s) (fileTree file) (length old) in
       let result = over (bytes (linearise (layout (settingsOf s) (fileTree file)))) old in
       (E' .reply ∙ R .reply next, E' .leaves ∙ ap (λ (v : Verdict). kept v result old) (R .reply next))

@@ -14,7 +14,7 @@ use Rattle.model.specs.Trees.{beat, save, Block, nil, skip, act, _⧺_, size, f
 use Rattle.model.specs.Times.{time}
 use Rattle.model.specs.Equalising.{waiting, merge}
 use Rattle.model.specs.Layout.{unroll, commands, left, lay, opened, body, lastValue, layout, total}
-use Rattle.model.specs.Replies.{over}
+use Rattle.model.specs.Records.{over}
 use Rattle.model.proofs.Trees.{⧺-assoc}
 use Rattle.theory.proofs.Times.{time-⧺}
 use Rattle.theory.proofs.Windows.{Free, round, window-pos, commands-0, free-start}

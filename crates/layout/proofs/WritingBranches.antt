@@ -6,12 +6,11 @@ use mathlib.Core.List.{List, _∷_, _++_, append-assoc}
 use lib.ListN.{length, getD, length-append}
 use Rattle.model.specs.declared.Form.the-variants.{Equalised}
 use Rattle.model.specs.declared.Settings.{Settings}
-use Rattle.model.specs.Records.{Rec, recordBytes, kindAt, recordAt, IF}
+use Rattle.model.specs.Records.{Rec, recordBytes, kindAt, recordAt, IF, over}
 use Rattle.model.specs.Trees.{Test, check, Block, nil, act, branch, _⧺_, size, testRec, elseRec, endRec}
 use Rattle.model.specs.Times.{time}
 use Rattle.model.specs.Equalising.{waiting, merge}
 use Rattle.model.specs.Layout.{before, filled}
-use Rattle.model.specs.Replies.{over}
 use Rattle.model.proofs.Stands.{At}
 use Rattle.records.specs.Blocks.{blockBytes, skipRecords, skipBytes}
 use Rattle.records.proofs.Blocks.{waiting-bytes, branch-bytes, size-waiting, length-block}

@@ -5,12 +5,11 @@ use mathlib.Core.Path.{_≡_, ap, ap₂, sym, subst, _∙_}
 use mathlib.Core.List.{List, _++_, append-assoc}
 use lib.ListN.{length, length-append}
 use Rattle.model.specs.declared.Settings.{Settings}
-use Rattle.model.specs.Records.{Rec, recordBytes}
+use Rattle.model.specs.Records.{Rec, recordBytes, over}
 use Rattle.model.specs.Trees.{Block, _⧺_, size}
 use Rattle.model.specs.Times.{time}
 use Rattle.model.specs.Equalising.{merge}
 use Rattle.model.specs.Layout.{fill, filled}
-use Rattle.model.specs.Replies.{over}
 use Rattle.theory.proofs.Times.{time-⧺}
 use Rattle.records.specs.Blocks.{blockBytes, skipBytes}
 use Rattle.records.proofs.Blocks.{length-block}

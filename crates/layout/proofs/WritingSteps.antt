@@ -6,11 +6,10 @@ use mathlib.Core.List.{List, _++_}
 use lib.ListN.{length}
 use Rattle.model.specs.declared.Form.the-variants.{Equalised}
 use Rattle.model.specs.declared.Settings.{Settings}
-use Rattle.model.specs.Records.{Rec, recordAt, SKIP, IF, TIMES}
+use Rattle.model.specs.Records.{Rec, recordAt, SKIP, IF, TIMES, over}
 use Rattle.model.specs.Trees.{Act, Block, nil, skip, act, _⧺_, actRec}
 use Rattle.model.specs.Times.{ticks, time}
 use Rattle.model.specs.Layout.{before, idles}
-use Rattle.model.specs.Replies.{over}
 use Rattle.records.specs.declared.Record.{Record}
 use Rattle.records.specs.Records.{recordOf}
 use Rattle.records.specs.Blocks.{skipBytes}

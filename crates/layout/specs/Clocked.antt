@@ -5,7 +5,7 @@ use mathlib.Core.List.{List}
 use lib.ListN.{length}
 use Rattle.model.specs.declared.Settings.{Settings}
 use Rattle.model.specs.Records.{Rec, SKIP}
-use Rattle.model.specs.Replies.{longest}
+use Rattle.model.specs.Times.{longest}
 use Rattle.timing.specs.Times.{stepTicks, settingsIn}
 use Rattle.placing.specs.declared.clock.State.{State}
 use Rattle.placing.specs.States.{Laying, Stepped, Skipped}

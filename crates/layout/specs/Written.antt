@@ -5,11 +5,10 @@ use mathlib.Core.List.{List, _++_}
 use lib.ListN.{length}
 use Rattle.model.specs.declared.Form.the-variants.{Equalised}
 use Rattle.model.specs.declared.Settings.{Settings}
-use Rattle.model.specs.Records.{Rec, recordBytes}
+use Rattle.model.specs.Records.{Rec, recordBytes, over}
 use Rattle.model.specs.Trees.{Block, size, fileTree}
 use Rattle.model.specs.Times.{time}
 use Rattle.model.specs.Equalising.{merge}
-use Rattle.model.specs.Replies.{over}
 use Rattle.model.specs.Layout.{unroll, filled, opened, layout, total}
 use Rattle.theory.proofs.Windows.{Free}
 use Rattle.records.specs.Blocks.{blockBytes}

@@ -1,9 +1,8 @@
 // The second pass: the laid block, over the front of a lent buffer. Each block and what follows it is lent the rest of the buffer.
 ghost use mathlib.Core.Path.{_≡_};
-ghost use Rattle.model.specs.Records.{rec, kindAt, recordAt, IF, TIMES};
+ghost use Rattle.model.specs.Records.{rec, kindAt, recordAt, IF, TIMES, over};
 ghost use Rattle.model.specs.Trees.{fileTree};
 ghost use Rattle.model.specs.Layout.{layout};
-ghost use Rattle.model.specs.Replies.{over};
 ghost use Rattle.records.specs.Records.{recordOf};
 ghost use Rattle.records.specs.Blocks.{blockBytes};
 ghost use Rattle.layout.specs.Written.{BlockFits, BlockLaid, SideFits, SideLaid, StatementFits, StatementLaid, FileFits};

@@ -14,7 +14,9 @@ use Rattle.model.specs.Settings.{settingsOf, badSettings}
 use Rattle.model.specs.Trees.{Block, size, linearise}
 use Rattle.model.specs.Times.{time}
 use Rattle.model.specs.Answers.{finished, refusal, laidOut}
-use Rattle.model.specs.Replies.{over, equaliseReply, laidTotal, layOutReply, fullRoom, equalisedOf, prepareReply, prepareOut}
+use Rattle.model.specs.Records.{over}
+use Rattle.model.specs.Limits.{fileLength}
+use Rattle.model.specs.Replies.{equaliseReply, laidTotal, layOutReply, equalisedOf, prepareReply, prepareOut}
 use Rattle.model.specs.Listing.{startTicks, laidFrom, listStarts}
 use Rattle.model.proofs.Bytes.{recordsAt, first-bytes}
 use Rattle.model.proofs.Trees.{length-linearise}
@@ -38,25 +40,25 @@ pub decoded-good : {A : Type 0} (s : List ℕ) (x : Refusal) → badSettings s �
 decoded-good s x g D = never-finished x [] (D .reply (finished []) ∙ rw g)
 
 -- a refusal leaves the table as it was
-pub table-kept : (s task table : List ℕ) (x : Refusal) → refusal x ≡ prepareReply s task fullRoom → table ≡ listStarts s task table
+pub table-kept : (s task table : List ℕ) (x : Refusal) → refusal x ≡ prepareReply s task fileLength → table ≡ listStarts s task table
 unfolding listStarts
 table-kept s task table x e = rw (← e)
 
 -- A LAID FILE
 
-module _ (s task : List ℕ) {n t : ℕ} (e : prepareReply s task fullRoom ≡ finished (n ∷ t ∷ [])) where
+module _ (s task : List ℕ) {n t : ℕ} (e : prepareReply s task fileLength ≡ finished (n ∷ t ∷ [])) where
   abbrev pub tree : Block
   tree = laidFrom s task
 
-  laid-reply : layOutReply s (equalisedOf s task) fullRoom ≡ finished (n ∷ t ∷ [])
+  laid-reply : layOutReply s (equalisedOf s task) fileLength ≡ finished (n ∷ t ∷ [])
   unfolding prepareReply
-  laid-reply = sym (second-done (equaliseReply s task fullRoom) (layOutReply s (equalisedOf s task) fullRoom) (sym e))
+  laid-reply = sym (second-done (equaliseReply s task fileLength) (layOutReply s (equalisedOf s task) fileLength) (sym e))
 
-  pub accepted : LayOutAccepted s (equalisedOf s task) fullRoom (n ∷ t ∷ [])
-  accepted = lay-out-accepted s (equalisedOf s task) fullRoom (n ∷ t ∷ []) laid-reply
+  pub accepted : LayOutAccepted s (equalisedOf s task) fileLength (n ∷ t ∷ [])
+  accepted = lay-out-accepted s (equalisedOf s task) fileLength (n ∷ t ∷ []) laid-reply
 
   runnable : Runnable s Laid (fileOf tree) tree
-  runnable = laid-runnable s (equalisedOf s task) fullRoom (n ∷ t ∷ []) accepted
+  runnable = laid-runnable s (equalisedOf s task) fileLength (n ∷ t ∷ []) accepted
 
   pub count : n / 12 ≡ size tree
   count =
@@ -105,18 +107,18 @@ module _ (s task : List ℕ) {n t : ℕ} (e : prepareReply s task fullRoom ≡ f
 -- what listing a task answers and leaves
 abbrev pub Lists : List ℕ → List ℕ → List ℕ → List ℕ → List ℕ → List ℕ → LaidOut → Type 0
 Lists s task laid laid′ table table′ r =
-    (laidOut r ≡ prepareReply s task fullRoom) × (laid′ ≡ prepareOut s task laid) × (table′ ≡ listStarts s task table)
+    (laidOut r ≡ prepareReply s task fileLength) × (laid′ ≡ prepareOut s task laid) × (table′ ≡ listStarts s task table)
 
 module _ (s task laid laid′ : List ℕ) (r : LaidOut) (h : length laid ≡ 65532)
     (p : (laidOut r ≡ prepareReply s task (length laid)) × (laid′ ≡ prepareOut s task laid)) where
-  answered : laidOut r ≡ prepareReply s task fullRoom
+  answered : laidOut r ≡ prepareReply s task fileLength
   answered = p .0 ∙ ap (prepareReply s task) h
 
   pub list-refused : (table : List ℕ) {x : Refusal} → r ≡ LaidOut.Refused x → Lists s task laid laid′ table table r
   list-refused table {x} f = (answered, p .1, table-kept s task table x (sym (ap laidOut f) ∙ answered))
 
   module _ {n t : ℕ} (f : r ≡ LaidOut.Written n t) where
-    reply : prepareReply s task fullRoom ≡ finished (n ∷ t ∷ [])
+    reply : prepareReply s task fileLength ≡ finished (n ∷ t ∷ [])
     reply = sym answered ∙ ap laidOut f
 
     pub list-decoded : {A : Type 0} (x : Refusal) → Decodes s (Refused x) → A

@@ -9,10 +9,11 @@ use Rattle.model.specs.declared.Line.{Line}
 use Rattle.model.specs.declared.Shown.{Shown}
 use Rattle.model.specs.declared.Refusal.{Refusal}
 use Rattle.model.specs.Settings.{settingsOf}
-use Rattle.model.specs.Records.{Rec, recordAt, firstRecords}
+use Rattle.model.specs.Records.{Rec, recordAt, firstRecords, over}
 use Rattle.model.specs.Trees.{Block, linearise}
 use Rattle.model.specs.Answers.{finished, row, refusal}
-use Rattle.model.specs.Replies.{over, fullRoom, prepareReply, prepareOut}
+use Rattle.model.specs.Limits.{fileLength}
+use Rattle.model.specs.Replies.{prepareReply, prepareOut}
 use Rattle.model.specs.Listing.{lineOf, startTicks, linesOf, laidFrom, listStarts, lineAt, listed, turnedDown, printed}
 use Rattle.model.proofs.Bytes.{recordsAt, recordsAt-suc}
 use Rattle.model.proofs.Trees.{length-linearise}
@@ -53,7 +54,7 @@ pub record Listing (s task laid table : List ℕ) (n t : ℕ) : Type 0 where
   pub shown : (i : ℕ) → i < n / 12 → lineAt laid table i ≡ Shown.Line (lineOf (getD table i 0) (recordAt laid i))
 
 module _ (s task laid table : List ℕ) {n t : ℕ} (h : length laid ≡ 65532) (k : length table ≡ 5461)
-    (e : prepareReply s task fullRoom ≡ finished (n ∷ t ∷ [])) where
+    (e : prepareReply s task fileLength ≡ finished (n ∷ t ∷ [])) where
   abbrev tree : Block
   tree = laidFrom s task
 
@@ -96,7 +97,7 @@ module _ (s task laid table : List ℕ) {n t : ℕ} (h : length laid ≡ 65532) 
 
 -- the same of the buffers that `list_task` leaves
 pub listing-written : (s task laid table : List ℕ) {laid′ table′ : List ℕ} {n t : ℕ} → length laid ≡ 65532 → length table ≡ 5461
-    → finished (n ∷ t ∷ []) ≡ prepareReply s task fullRoom → laid′ ≡ prepareOut s task laid → table′ ≡ listStarts s task table
+    → finished (n ∷ t ∷ []) ≡ prepareReply s task fileLength → laid′ ≡ prepareOut s task laid → table′ ≡ listStarts s task table
     → Listing s task laid′ table′ n t
 listing-written s task laid table {laid′} {table′} {n} {t} h k e p q =
     subst (λ (u : List ℕ). Listing s task u table′ n t) (sym p)
@@ -104,6 +105,6 @@ listing-written s task laid table {laid′} {table′} {n} {t} h k e p q =
 
 -- A REFUSAL
 
-pub printed-refused : (s task : List ℕ) (x : Refusal) → refusal x ≡ prepareReply s task fullRoom → printed s task ≡ turnedDown (row x .0)
+pub printed-refused : (s task : List ℕ) (x : Refusal) → refusal x ≡ prepareReply s task fileLength → printed s task ≡ turnedDown (row x .0)
 unfolding printed
 printed-refused s task x e = rw (← e)

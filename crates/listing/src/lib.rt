@@ -4,7 +4,8 @@ mod starts;
 
 ghost use mathlib.Core.Path.{_≡_};
 ghost use Rattle.model.specs.Answers.{laidOut};
-ghost use Rattle.model.specs.Replies.{fullRoom, prepareReply, prepareOut};
+ghost use Rattle.model.specs.Limits.{fileLength};
+ghost use Rattle.model.specs.Replies.{prepareReply, prepareOut};
 ghost use Rattle.model.specs.Listing.{listStarts};
 use model::LaidOut;
 use preparation::prepare;
@@ -18,7 +19,7 @@ pub fn list_task(
     laid: &mut [u8; 65532],
     starts: &mut [u32; 5461],
 ) -> LaidOut
-    ensures { λ r. ⌜ (laidOut r ≡ prepareReply (now (settings .entry)) (now (task .entry)) fullRoom)
+    ensures { λ r. ⌜ (laidOut r ≡ prepareReply (now (settings .entry)) (now (task .entry)) fileLength)
         × (now (laid .exit) ≡ prepareOut (now (settings .entry)) (now (task .entry)) (now (laid .entry)))
         × (now (starts .exit) ≡ listStarts (now (settings .entry)) (now (task .entry)) (now (starts .entry))) ⌝ }
 {

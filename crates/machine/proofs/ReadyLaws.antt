@@ -14,7 +14,7 @@ use Rattle.model.specs.Settings.{settingsOf}
 use Rattle.model.specs.Trees.{fileTree}
 use Rattle.model.specs.Times.{time}
 use Rattle.model.specs.Answers.{Verdict, finished, refusal}
-use Rattle.model.specs.Replies.{turnDown, reading, above, fileTime}
+use Rattle.model.specs.Replies.{turnDown, reading, above, fileTime, readyRows}
 use Rattle.model.proofs.Sound.{sound-file}
 use Rattle.theory.proofs.Accepted.{in-range}
 use Rattle.records.specs.declared.settings.Decoded.{Decoded}
@@ -48,7 +48,7 @@ early p t x G = go (ltb p t) refl (G .reply)
 
 module _ (s : List ℕ) (f : Form) (file : List ℕ) (bad : Bool) where
   abbrev rows : Verdict → Verdict
-  rows next = turnDown 8 (above s (fileTime s file)) (turnDown 10 bad next)
+  rows next = readyRows (settingsOf s) (fileTree file) bad next
 
   refused : (x : Refusal) → ((next : Verdict) → refusal x ≡ reading s f file (rows next)) → Readies s f file bad (Refused x)
   refused x e = record {
@@ -79,7 +79,7 @@ module _ (s : List ℕ) (f : Form) (file : List ℕ) (bad : Bool) where
         (λ next. sym (rw (late (settingsOf s .period) (fileTime s file) (gives B))) ∙ R .reply (rows next))
 
     module _ {x : ℕ} (B : BlockTimes file 0 (length file / 12) 16 σ (Ticks x)) where
-      on-time : above s (fileTime s file) ≡ false
+      on-time : above (settingsOf s) (fileTime s file) ≡ false
       on-time = early (settingsOf s .period) (fileTime s file) x (gives B)
 
       pub bad-lengths : bad ≡ true → Readies s f file bad (Refused Refusal.BadBuffers)

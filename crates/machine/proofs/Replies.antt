@@ -15,15 +15,15 @@ use Rattle.model.specs.Settings.{settingsOf}
 use Rattle.model.specs.Trees.{Block, fileTree}
 use Rattle.model.specs.Runs.{Step, duration, leave, cleared, run}
 use Rattle.model.specs.Stopping.{upto, none, lastImage, imageOf, start, takeUp}
-use Rattle.model.specs.Answers.{Verdict, finished, bit, ran, stopped}
-use Rattle.model.specs.Replies.{turnDown, reading, above, fileTime, kept, Loan, ready, ended, stepsOf, runReply, runBuffers, imageAt, stopReply, stopBuffers, imageOver, stopImage, buffersOf, loan}
-use Rattle.model.specs.Replies.{takenUp, takenBuffers, resumeReply, resumeBuffers, restartReply, restartBuffers}
+use Rattle.model.specs.Answers.{Verdict, finished, bit, ran, stopped, kept}
+use Rattle.model.specs.Replies.{reading, Loan, badLengths, readyRows, ready, ended, stepsOf, runReply, runBuffers, imageAt, stopReply, stopBuffers, imageOver, stopImage, buffersOf, loan}
+use Rattle.model.specs.Replies.{stopRows, takenUp, takenBuffers, resumeReply, resumeBuffers, restartReply, restartBuffers}
 use Rattle.theory.proofs.Left.{rest-0}
 use Rattle.records.specs.declared.settings.Decoded.{Decoded}
 use Rattle.records.specs.declared.settings.Decoded.the-variants.{Valid, Refused}
 use Rattle.records.specs.Decoded.{decoded}
 use Rattle.stepping.specs.declared.progress.Progress.{Progress}
-use Rattle.machine.specs.Calls.{badLengths, Readies, Checked, steps, RunWhole, stopVerdict, StopsSound, resumeVerdict, Resumes}
+use Rattle.machine.specs.Calls.{Readies, Checked, steps, RunWhole, StopsSound, againRows, Resumes}
 use Rattle.machine.proofs.Doing.{neither}
 use Rattle.machine.proofs.Whole.{equal-of}
 
@@ -41,7 +41,7 @@ module _ (s : List ℕ) (f : Form) (file v ins l m : List ℕ) where
   module _ (cause : Bool) {bad : Bool} (h : Bad cause bad) where
     replied : {r : Decoded} → Readies s f file bad r → (next : Verdict) → decoded r next ≡ ready c cause next
     unfolding ready
-    replied R next = R .reply next ∙ ap (λ (b : Bool). reading s f file (turnDown 8 (above s (fileTime s file)) (turnDown 10 b next))) h
+    replied R next = R .reply next ∙ ap (λ (b : Bool). reading s f file (readyRows (settingsOf s) (fileTree file) b next)) h
 
     module _ {σ : Settings} (R : Readies s f file bad (Valid σ)) where
       none-bad : (badLengths (length v) (length ins) (length l) (length m) ≡ false) × (cause ≡ false)
@@ -109,7 +109,7 @@ module _ (s : List ℕ) (f : Form) (file v ins l m : List ℕ) where
       pub until-refused : {x : Refusal} → Readies s f file bad (Refused x) → Until (Stopped.Refused x) v l m image
       unfolding stopReply stopBuffers stopImage imageAt
       until-refused {x} R =
-          let e = replied cause h R (stopVerdict (stepsOf c) v stop) in
+          let e = replied cause h R (stopRows (stepsOf c) v stop) in
           let new = leave (upto stop (stepsOf c)) (cleared v) in
           let saved = imageOver (lastImage (upto stop (stepsOf c)) 0 v none) image in (
             e,
@@ -123,7 +123,7 @@ module _ (s : List ℕ) (f : Form) (file v ins l m : List ℕ) where
       until-finished {σ} R {v′} {l′} {m′} {image′} {r} S =
           let S′ = subst (λ (τ : Settings). StopsSound file τ ins stop v l m image v′ l′ m′ image′ r) (R .settings σ refl) S in
           let es = steps file (settingsOf s) ins v in
-          let e = replied cause h R (stopVerdict es v stop) in (
+          let e = replied cause h R (stopRows es v stop) in (
             S′ .reply ∙ e,
             S′ .leaves ∙ ap (λ (y : Verdict). kept y (leave (upto stop es) (cleared v)) (buffersOf v l m)) e,
             S′ .saves ∙ ap (λ (y : Verdict). kept y (imageOver (lastImage (upto stop es) 0 v none) image) image) e,
@@ -135,7 +135,7 @@ module _ (s : List ℕ) (f : Form) (file v ins l m : List ℕ) where
     pub resume-refused : {x : Refusal} → Readies s f file bad (Refused x) → From (Ran.Refused x) v l m
     unfolding resumeReply resumeBuffers takenUp
     resume-refused {x} R =
-        let e = replied cause h R (resumeVerdict file (settingsOf s) ins (imageOf image)) in
+        let e = replied cause h R (againRows file (settingsOf s) ins (imageOf image)) in
         let new = takenBuffers c (imageOf image) in
         (e, ap (λ (y : Verdict). kept y new (buffersOf v l m)) e)
 
@@ -143,6 +143,6 @@ module _ (s : List ℕ) (f : Form) (file v ins l m : List ℕ) where
     unfolding resumeReply resumeBuffers takenUp takenBuffers
     resume-finished {σ} R {v′} {l′} {m′} {r} S =
         let S′ = subst (λ (τ : Settings). Resumes file τ ins v l m image v′ l′ m′ r) (R .settings σ refl) S in
-        let e = replied cause h R (resumeVerdict file (settingsOf s) ins (imageOf image)) in
+        let e = replied cause h R (againRows file (settingsOf s) ins (imageOf image)) in
         let again = takeUp (settingsOf s) ins (fileTree file) (imageOf image) in
         (S′ .reply ∙ e, S′ .leaves ∙ ap (λ (y : Verdict). kept y (leave again (buffersOf (imageOf image .variables) l m)) (buffersOf v l m)) e)

@@ -15,8 +15,8 @@ use Rattle.model.specs.declared.Refusal.{Refusal}
 use Rattle.model.specs.Trees.{Block, nil, _⧺_, size, fileTree}
 use Rattle.model.specs.Runs.{Step, duration, variablesAfter, outputsAfter, level, mark, overran, Buffers, leave, cleared, run}
 use Rattle.model.specs.Stopping.{upto, Image, Saved, none, lastImage, wordsFrom, imageOf, rest, takeUp}
-use Rattle.model.specs.Replies.{kept, ended, isSaved, imageOver, afterSave, buffersOf}
-use Rattle.model.specs.Answers.{Verdict, finished, refused, bit}
+use Rattle.model.specs.Replies.{ended, badLengths, isSaved, stopRows, imageOver, afterSave, strayImage, buffersOf}
+use Rattle.model.specs.Answers.{Verdict, finished, refused, bit, kept}
 use Rattle.model.proofs.Bytes.{Bytes}
 use Rattle.model.specs.Placement.{LoopFree}
 use Rattle.model.proofs.Trees.{⧺-nil}
@@ -31,7 +31,7 @@ use Rattle.stepping.specs.Machines.{Held, held, Machine, machine, does, runs}
 use Rattle.stepping.specs.Steps.{going, reached}
 use Rattle.machine.specs.Contracts.{Pending, at-end, ahead, Started, RecordsRan}
 use Rattle.stepping.specs.Buffers.{withVariables, withOutputs, Stored, StoredImage}
-use Rattle.machine.specs.Calls.{badLengths, Checked, steps, RunWhole, stopVerdict, StopsSound, strayAt, resumeVerdict, Resumes}
+use Rattle.machine.specs.Calls.{Checked, steps, RunWhole, StopsSound, againRows, Resumes}
 use Rattle.machine.proofs.Files.{file-sound, file-size}
 use Rattle.machine.proofs.Doing.{neither, heldAfter, does-upto}
 use Rattle.machine.proofs.Marks.{marks-bytes}
@@ -173,7 +173,7 @@ module _ {file : List ℕ} {σ : Settings} {v ins l m : List ℕ} (R : Checked f
     pub stop-late : {image : List ℕ} → not (e .cut) ≡ true → StopsSound file σ ins stop v l m image v l m image (Stopped.Refused Refusal.LateStop)
     stop-late {image} n =
         let c = ltb-false stop (duration es) (sym (whole-cut B start-cells refl) ∙ not-true (e .cut) n) in
-        let r : refused 12 [] ≡ stopVerdict es v stop = rw (le-leb (duration es) stop c) in
+        let r : refused 12 [] ≡ stopRows es v stop = rw (le-leb (duration es) stop c) in
         record {
           reply = r;
           leaves = ap (λ (x : Verdict). kept x (leave (upto stop es) (cleared v)) (buffersOf v l m)) r;
@@ -185,7 +185,7 @@ module _ {file : List ℕ} {σ : Settings} {v ins l m : List ℕ} (R : Checked f
     stop-done {image} {v′} {l′} {m′} {image′} {o} n S I =
         let c = ltb-true stop (duration es) (sym (whole-cut B start-cells refl) ∙ not-false (e .cut) n) in
         let i = whole-image B start-cells refl in
-        let r : finished (stop ∷ 0 ∷ bit (isSaved result) ∷ []) ≡ stopVerdict es v stop = rw (lt-leb (duration es) stop c) in
+        let r : finished (stop ∷ 0 ∷ bit (isSaved result) ∷ []) ≡ stopRows es v stop = rw (lt-leb (duration es) stop c) in
         record {
           reply = ap (λ (b : Bool). finished (stop ∷ 0 ∷ bit b ∷ [])) (I .told ∙ ap isSaved i) ∙ r;
           leaves = left-stored stop-left S ∙ ap (λ (x : Verdict). kept x (leave (upto stop es) (cleared v)) (buffersOf v l m)) r;
@@ -213,14 +213,14 @@ module _ {file : List ℕ} {σ : Settings} {v ins l₀ m₀ : List ℕ} where
 
 module _ {file : List ℕ} {σ : Settings} {v ins l m : List ℕ} (R : Checked file σ v ins l m) (M : Image) where
   abbrev leaving : Image → Buffers
-  leaving x = kept (resumeVerdict file σ ins x) (leave (takeUp σ ins (fileTree file) x) (buffersOf (x .variables) l m)) (buffersOf v l m)
+  leaving x = kept (againRows file σ ins x) (leave (takeUp σ ins (fileTree file) x) (buffersOf (x .variables) l m)) (buffersOf v l m)
 
   -- row 11
-  resume-stray : {image : List ℕ} → M ≡ imageOf image → strayAt file (σ .period) M ≡ true → Resumes file σ ins v l m image v l m (Ran.Refused Refusal.BadImage)
+  resume-stray : {image : List ℕ} → M ≡ imageOf image → strayImage σ file M ≡ true → Resumes file σ ins v l m image v l m (Ran.Refused Refusal.BadImage)
   resume-stray is e =
-      let r : refused 11 [] ≡ resumeVerdict file σ ins M = rw e in
+      let r : refused 11 [] ≡ againRows file σ ins M = rw e in
       record {
-        reply = r ∙ ap (resumeVerdict file σ ins) is;
+        reply = r ∙ ap (againRows file σ ins) is;
         leaves = ap (λ (x : Verdict). kept x (leave (takeUp σ ins (fileTree file) M) (buffersOf (M .variables) l m)) (buffersOf v l m)) r ∙ ap leaving is;
       }
 
@@ -307,9 +307,9 @@ module _ {file : List ℕ} {σ : Settings} {v ins l m : List ℕ} (R : Checked f
       resume-ran : {image v′ l′ m′ : List ℕ} → M ≡ imageOf image → Stored (held new) v′ l′ m′
           → Resumes file σ ins v l m image v′ l′ m′ (Ran.Ended (e .tick) (e .overran))
       resume-ran is S =
-          let r : ended t again ≡ resumeVerdict file σ ins M = rw (a, le-ltb (σ .period) t p) in
+          let r : ended t again ≡ againRows file σ ins M = rw (a, le-ltb (σ .period) t p) in
           record {
-            reply = ap₂ (λ (x : ℕ) (o : Bool). finished (x ∷ bit o ∷ [])) (resume-left .tick) (resume-left .overran-too) ∙ r ∙ ap (resumeVerdict file σ ins) is;
+            reply = ap₂ (λ (x : ℕ) (o : Bool). finished (x ∷ bit o ∷ [])) (resume-left .tick) (resume-left .overran-too) ∙ r ∙ ap (againRows file σ ins) is;
             leaves = left-stored resume-left S ∙ ap (λ (x : Verdict). kept x (leave again (buffersOf (M .variables) l m)) (buffersOf v l m)) r ∙ ap leaving is;
           }
 

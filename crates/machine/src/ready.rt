@@ -1,7 +1,8 @@
 // Rows 6, 1 to 5, 8 and 10 of the table, which every run tries first.
 ghost use mathlib.Core.Path.{_≡_};
 ghost use mathlib.Core.Bool.{_||_};
-ghost use Rattle.machine.specs.Calls.{badLengths, Readies};
+ghost use Rattle.model.specs.Replies.{badLengths};
+ghost use Rattle.machine.specs.Calls.{Readies};
 use model::Form;
 use model::Refusal;
 use records::settings::Decoded;

@@ -10,4 +10,4 @@ pub mod Injective
 pub mod Untouched
 pub mod Bench
 pub mod TurnedDown
-pub mod Limits
+pub mod AtLimits

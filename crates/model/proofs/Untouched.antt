@@ -5,8 +5,9 @@ use mathlib.Core.List.{List}
 use lib.ListN.{length, drop}
 use lib.Seq.{drop-append-seam}
 use Rattle.model.specs.Stopping.{none}
-use Rattle.model.specs.Answers.{Verdict, finished, refused}
-use Rattle.model.specs.Replies.{kept, over, imageAt, equaliseReply, equaliseOut, layOutReply, layOutOut, prepareReply, prepareOut}
+use Rattle.model.specs.Answers.{Verdict, finished, refused, kept}
+use Rattle.model.specs.Records.{over}
+use Rattle.model.specs.Replies.{imageAt, equaliseReply, equaliseOut, layOutReply, layOutOut, prepareReply, prepareOut}
 use Rattle.model.specs.Replies.{Loan, runReply, runBuffers, stopReply, stopBuffers, stopImage, resumeReply, resumeBuffers, restartReply, restartBuffers}
 
 -- AFTER A RESULT

@@ -3,6 +3,7 @@
 use Prim.Native.Nat.{ℕ}
 use mathlib.Core.Bool.{Bool, true, false}
 use mathlib.Core.List.{List, [], _∷_}
+use lib.ListN.{getD}
 use Rattle.model.specs.declared.Refusal.{Refusal}
 use Rattle.model.specs.declared.Timed.{Timed}
 use Rattle.model.specs.declared.Equalised.{Equalised}
@@ -15,6 +16,25 @@ use Rattle.model.specs.declared.Rehearsed.{Rehearsed}
 pub data Verdict : Type 0 where
   finished : List ℕ → Verdict
   refused : ℕ → List ℕ → Verdict
+
+-- whether a call was not refused, and a value of its answer
+abbrev pub isFinished : Verdict → Bool
+isFinished (finished xs) = true
+isFinished (refused n xs) = false
+
+abbrev pub valueAt : ℕ → Verdict → ℕ
+valueAt i (finished xs) = getD xs i 0
+valueAt i (refused n xs) = 0
+
+-- calls one after another, up to the first that refuses
+abbrev pub andThen : Verdict → Verdict → Verdict
+andThen (finished xs) next = next
+andThen (refused n xs) next = refused n xs
+
+-- "Left as it was" .. "all", at a refusal
+abbrev pub kept : {A : Type 0} → Verdict → A → A → A
+kept (finished xs) new old = new
+kept (refused n xs) new old = old
 
 abbrev pub bit : Bool → ℕ
 bit true = 1

@@ -1,26 +1,18 @@
 -- Document 01, "Stopping and taking up", its second paragraph: the chain of calls that demand 3 speaks of, as one composition of replies.
 use Prim.Native.Nat.{ℕ, _-_}
-use mathlib.Core.Bool.{Bool, true, false, cond}
+use mathlib.Core.Bool.{Bool, cond}
 use mathlib.Core.List.{List}
 use mathlib.Core.Path.{_≡_}
 use lib.Dec.{eqb}
-use lib.ListN.{length, getD, take}
+use lib.ListN.{length, take}
 use Rattle.model.specs.declared.Form.{Form}
 use Rattle.model.specs.declared.Form.the-variants.{Task, Laid}
+use Rattle.model.specs.Limits.{variableCount, portCount, imageLength}
 use Rattle.model.specs.Runs.{Step, Buffers}
 use Rattle.model.specs.Stopping.{imageOf, start}
-use Rattle.model.specs.Answers.{Verdict, finished, refused}
+use Rattle.model.specs.Answers.{Verdict, valueAt}
 use Rattle.model.specs.Replies.{equaliseReply, equaliseOut, layOutReply, layOutOut, Loan, runReply, runBuffers}
 use Rattle.model.specs.Replies.{stopReply, stopBuffers, stopImage, takenUp, resumeReply, resumeBuffers, restartReply, restartBuffers}
-
--- whether a call was not refused, and a value of its answer
-abbrev pub isFinished : Verdict → Bool
-isFinished (finished xs) = true
-isFinished (refused n xs) = false
-
-abbrev pub valueAt : ℕ → Verdict → ℕ
-valueAt i (finished xs) = getD xs i 0
-valueAt i (refused n xs) = 0
 
 -- "A set is 16 first variables and 8 inputs; outputs and image buffer have the table's lengths and may hold anything before."
 pub record Set : Type 0 where
@@ -49,12 +41,12 @@ pub record Chain : Type 0 where
   pub stop : ℕ
 
 pub record LentSet (x : Set) : Type 0 where
-  pub sixteen : length (x .variables) ≡ 16
-  pub eight : length (x .inputs) ≡ 8
+  pub sixteen : length (x .variables) ≡ variableCount
+  pub eight : length (x .inputs) ≡ portCount
 
 pub record LentOutputs (x : Outputs) : Type 0 where
-  pub levels-eight : length (x .levels) ≡ 8
-  pub marks-eight : length (x .marks) ≡ 8
+  pub levels-eight : length (x .levels) ≡ portCount
+  pub marks-eight : length (x .marks) ≡ portCount
 
 pub record Lent (k : Chain) : Type 0 where
   pub one-lent : LentSet (k .one)
@@ -63,8 +55,8 @@ pub record Lent (k : Chain) : Type 0 where
   pub plain-two-lent : LentOutputs (k .plainTwo)
   pub whole-lent : LentOutputs (k .whole)
   pub stopped-lent : LentOutputs (k .stopped)
-  pub image-lent : length (k .image) ≡ 72
-  pub spare-lent : length (k .spare) ≡ 16
+  pub image-lent : length (k .image) ≡ imageLength
+  pub spare-lent : length (k .spare) ≡ variableCount
 
 -- "Laying out gets what equalising wrote and the run what laying out wrote."
 abbrev pub equalising : Chain → Verdict

@@ -1,4 +1,5 @@
 -- The definitions that state document 01, in the paper's order.
+pub mod Limits
 pub mod Records
 pub mod Settings
 pub mod Trees

@@ -9,12 +9,13 @@ use lib.ListN.{length, getD, take}
 use Rattle.model.specs.declared.Settings.{Settings}
 use Rattle.model.specs.declared.Line.{Line}
 use Rattle.model.specs.declared.Shown.{Shown}
-use Rattle.model.specs.Records.{Rec, recordAt, SKIP, SET, READ, WRITE, IF, ELSE, END, CHECK, BEAT}
+use Rattle.model.specs.Records.{Rec, recordAt, SKIP, SET, READ, WRITE, IF, ELSE, END, CHECK, BEAT, over}
 use Rattle.model.specs.Settings.{settingsOf}
 use Rattle.model.specs.Trees.{Block, nil, skip, act, branch, while, times, linearise}
 use Rattle.model.specs.Times.{ticks, time}
-use Rattle.model.specs.Answers.{Verdict, finished, refused}
-use Rattle.model.specs.Replies.{kept, over, laidTree, laidTotal, fullRoom, equalisedOf, prepareReply}
+use Rattle.model.specs.Answers.{Verdict, finished, refused, kept}
+use Rattle.model.specs.Limits.{fileLength}
+use Rattle.model.specs.Replies.{laidTree, laidTotal, equalisedOf, prepareReply}
 
 -- LINES
 
@@ -66,7 +67,7 @@ abbrev pub laidFrom : List ℕ → List ℕ → Block
 laidFrom s task = laidTree s (equalisedOf s task)
 
 unfoldable pub listStarts : List ℕ → List ℕ → List ℕ → List ℕ
-listStarts s task table = kept (prepareReply s task fullRoom) (over (startTicks (settingsOf s) (laidFrom s task) 0) table) table
+listStarts s task table = kept (prepareReply s task fileLength) (over (startTicks (settingsOf s) (laidFrom s task) 0) table) table
 
 -- `line_at`: the line of record i; there is none where the file or the table ends before it
 abbrev pub lineAt : List ℕ → List ℕ → ℕ → Shown
@@ -88,7 +89,7 @@ orTurnedDown (refused n xs) p = turnedDown n
 unfoldable pub printed : List ℕ → List ℕ → Printed
 printed s task =
     let b = laidFrom s task in
-    orTurnedDown (prepareReply s task fullRoom)
+    orTurnedDown (prepareReply s task fileLength)
     (listed (linesOf (startTicks (settingsOf s) b 0) (linearise b)) (laidTotal s (equalisedOf s task)))
 
 -- AS TEXT

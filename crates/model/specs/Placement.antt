@@ -6,9 +6,8 @@ use mathlib.Core.List.{List, [], _∷_}
 use lib.Dec.{eqb}
 use Rattle.model.specs.declared.Settings.{Settings}
 use Rattle.model.specs.Trees.{Act, set, read, write, check, beat, save, Block, nil, skip, act, branch, while, times}
-use Rattle.model.specs.Times.{ticks, time}
+use Rattle.model.specs.Times.{ticks, time, longest}
 use Rattle.model.specs.Runs.{Effect, nothing, beats, saves, isBeat, isSave, Step}
-use Rattle.model.specs.Replies.{longest}
 
 -- "All are at least 1", and what row 7 leaves of the settings
 pub record Positive (σ : Settings) : Type 0 where

@@ -80,3 +80,7 @@ recordBytes r = r .kind ∷ r .op ∷ r .target ∷ r .left ∷ (wordBytes (r .v
 unfoldable pub bytes : List Rec → List ℕ
 bytes [] = []
 bytes (r ∷ rs) = recordBytes r ++ bytes rs
+
+-- bytes written over the front of a lent buffer: "A finished result leaves the bytes after it untouched."
+abbrev pub over : List ℕ → List ℕ → List ℕ
+over new old = new ++ drop (length new) old

@@ -6,19 +6,20 @@ use lib.Dec.{eqb, leb, ltb}
 use lib.ListN.{length}
 use Rattle.model.specs.declared.Form.{Form}
 use Rattle.model.specs.declared.Form.the-variants.{Task, Equalised, Laid}
+use Rattle.model.specs.Limits.{taskRecords, fileRecords, taskDepth, fileDepth, variableCount, portCount, byVariable, mostTicks, mostRounds}
 use Rattle.model.specs.Records.{Rec, records, SKIP, SET, READ, WRITE, IF, ELSE, WHILE, END, TIMES, CHECK, BEAT}
 
 -- "A task has 0 to 256 records, the other files at most 5,461."
 abbrev pub maxRecords : Form → ℕ
-maxRecords Task = 256
-maxRecords Equalised = 5461
-maxRecords Laid = 5461
+maxRecords Task = taskRecords
+maxRecords Equalised = fileRecords
+maxRecords Laid = fileRecords
 
 -- "Nesting reaches 8, in equalised and laid files 16."
 abbrev pub maxDepth : Form → ℕ
-maxDepth Task = 8
-maxDepth Equalised = 16
-maxDepth Laid = 16
+maxDepth Task = taskDepth
+maxDepth Equalised = fileDepth
+maxDepth Laid = fileDepth
 
 abbrev pub between : ℕ → ℕ → ℕ → Bool
 between a b n = leb a n && leb n b
@@ -31,10 +32,10 @@ kindFits Laid k = between 1 6 k || eqb k 8 || between 10 12 k
 
 -- "Variables are 0 to 15, ports 0 to 7." "Unused bytes are zero."
 abbrev pub variable : ℕ → Bool
-variable n = ltb n 16
+variable n = ltb n variableCount
 
 abbrev pub port : ℕ → Bool
-port n = ltb n 8
+port n = ltb n portCount
 
 abbrev pub unused : List ℕ → Bool
 unused [] = true
@@ -42,11 +43,11 @@ unused (n ∷ ns) = eqb n 0 && unused ns
 
 -- an operation or a relation 0 to n with its right value: "Add 16 to byte 1 when bytes 4 to 7 number a variable instead."
 abbrev pub opFits : ℕ → ℕ → ℕ → Bool
-opFits n o x = cond (leb 16 o) (leb o (16 + n) && variable x) (leb o n)
+opFits n o x = cond (leb byVariable o) (leb o (byVariable + n) && variable x) (leb o n)
 
 -- "byte 3 the left variable (0 for copy)"
 abbrev pub setFits : Rec → Bool
-setFits r = opFits 3 (r .op) (r .value) && variable (r .target) && cond (eqb (r .op % 16) 0) (unused (r .left ∷ [])) (variable (r .left))
+setFits r = opFits 3 (r .op) (r .value) && variable (r .target) && cond (eqb (r .op % byVariable) 0) (unused (r .left ∷ [])) (variable (r .left))
 
 abbrev pub testFits : Rec → Bool
 testFits r = opFits 5 (r .op) (r .value) && unused (r .target ∷ []) && variable (r .left)
@@ -54,12 +55,12 @@ testFits r = opFits 5 (r .op) (r .value) && unused (r .target ∷ []) && variabl
 -- "the count of SKIP (1 to 1,000,000), WHILE and TIMES (1 to 65,535). BEAT has its value in bytes 4 to 7 (0 to 1,000,000)."
 unfoldable pub fieldsFit : Rec → Bool
 fieldsFit r =
-    cond (eqb (r .kind) SKIP) (unused (r .op ∷ r .target ∷ r .left ∷ r .value ∷ []) && between 1 1000000 (r .count))
+    cond (eqb (r .kind) SKIP) (unused (r .op ∷ r .target ∷ r .left ∷ r .value ∷ []) && between 1 mostTicks (r .count))
     (cond (eqb (r .kind) SET) (setFits r && unused (r .count ∷ []))
     (cond (eqb (r .kind) READ || eqb (r .kind) WRITE) (unused (r .op ∷ r .value ∷ r .count ∷ []) && variable (r .target) && port (r .left))
     (cond (eqb (r .kind) IF || eqb (r .kind) CHECK) (testFits r && unused (r .count ∷ []))
-    (cond (eqb (r .kind) WHILE || eqb (r .kind) TIMES) (testFits r && between 1 65535 (r .count))
-    (cond (eqb (r .kind) BEAT) (unused (r .op ∷ r .target ∷ r .left ∷ r .count ∷ []) && leb (r .value) 1000000)
+    (cond (eqb (r .kind) WHILE || eqb (r .kind) TIMES) (testFits r && between 1 mostRounds (r .count))
+    (cond (eqb (r .kind) BEAT) (unused (r .op ∷ r .target ∷ r .left ∷ r .count ∷ []) && leb (r .value) mostTicks)
     (unused (r .op ∷ r .target ∷ r .left ∷ r .value ∷ r .count ∷ [])))))))
 
 -- an open block: an IF before its ELSE, an IF after it, or a loop

@@ -6,12 +6,13 @@ use mathlib.Core.Bool.{Bool, true, false, not, _||_, _&&_}
 use mathlib.Core.List.{List, [], _∷_}
 use lib.Dec.{eqb}
 use lib.ListN.{length, replicate}
+use Rattle.model.specs.Limits.{fileLength, variableCount, portCount, imageLength}
 use Rattle.model.specs.Settings.{settingsOf}
 use Rattle.model.specs.Runs.{Buffers}
-use Rattle.model.specs.Answers.{Verdict, finished, refused, bit, rehearsed}
-use Rattle.model.specs.Replies.{turnDown, andThen, Loan, stepsOf, runReply, stopReply}
+use Rattle.model.specs.Answers.{Verdict, finished, refused, bit, rehearsed, andThen, isFinished, valueAt}
+use Rattle.model.specs.Replies.{turnDown, Loan, stepsOf, runReply, stopReply}
 use Rattle.model.specs.Timeline.{endedBy, lastSaveEnd}
-use Rattle.model.specs.Chain.{isFinished, valueAt, Set, Outputs, Chain, LentSet, equalising, layingOut, plainLoan, wholeLoan, stoppedLoan}
+use Rattle.model.specs.Chain.{Set, Outputs, Chain, LentSet, equalising, layingOut, plainLoan, wholeLoan, stoppedLoan}
 use Rattle.model.specs.Chain.{hasImage, takingUp, takenUpBuffers, imageTick, End, endOf, runEnd, plainEndOne, plainEndTwo}
 use Rattle.model.specs.declared.Rehearsed.{Rehearsed}
 use Rattle.model.specs.declared.Stop.{Stop}
@@ -37,10 +38,10 @@ setOf v ins = record { variables = v; inputs = ins }
 
 -- its buffers are its own, and hold zeros before
 unfoldable pub room : List ℕ
-room = replicate 65532 0
+room = replicate fileLength 0
 
 abbrev pub zeroOutputs : Outputs
-zeroOutputs = record { levels = replicate 8 0; marks = replicate 8 0 }
+zeroOutputs = record { levels = replicate portCount 0; marks = replicate portCount 0 }
 
 abbrev pub stopTick : Stop → ℕ
 stopTick Stop.Never = 0
@@ -58,8 +59,8 @@ chain s task x y stop = record {
   plainTwo = zeroOutputs;
   whole = zeroOutputs;
   stopped = zeroOutputs;
-  image = replicate 72 0;
-  spare = replicate 16 0;
+  image = replicate imageLength 0;
+  spare = replicate variableCount 0;
   stop = stopTick stop;
 }
 
@@ -84,7 +85,7 @@ second (Stop.At c) k = stoppedOf (plainEndOne k) (valueAt 1 (layingOut k)) (stop
 
 -- "variables not 16" (row 10): both sets are looked at before they are copied for the runs
 abbrev pub badSets : ℕ → ℕ → Bool
-badSets x y = not (eqb x 16) || not (eqb y 16)
+badSets x y = not (eqb x variableCount) || not (eqb y variableCount)
 
 -- each call in turn, up to the first that refuses
 unfoldable pub rehearsal : Stop → Chain → Verdict

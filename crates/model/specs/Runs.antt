@@ -6,6 +6,7 @@ use lib.Dec.{eqb, leb, ltb}
 use lib.ListN.{getD, replicate}
 use lib.ListN.{set as setAt}
 use Rattle.model.specs.declared.Settings.{Settings}
+use Rattle.model.specs.Limits.{portCount, byVariable}
 use Rattle.model.specs.Trees.{Test, Act, set, read, write, check, beat, save, Block, nil, skip, act, branch, while, times, size}
 use Rattle.model.specs.Times.{ticks}
 
@@ -119,13 +120,13 @@ leave es b = record {
 
 -- "A run not taken up .. first sets all levels and marks to 0"
 abbrev pub cleared : List ℕ → Buffers
-cleared v = record { variables = v; levels = replicate 8 0; marks = replicate 8 0 }
+cleared v = record { variables = v; levels = replicate portCount 0; marks = replicate portCount 0 }
 
 -- TESTS AND OPERATIONS
 
 -- "Add 16 to byte 1 when bytes 4 to 7 number a variable instead."
 abbrev pub rightValue : ℕ → ℕ → List ℕ → ℕ
-rightValue o x v = cond (leb 16 o) (getD v x 0) x
+rightValue o x v = cond (leb byVariable o) (getD v x 0) x
 
 -- "the relation (0 =, 1 ≠, 2 <, 3 ≤, 4 >, 5 ≥ ..)", "tests compare unsigned"
 abbrev pub compares : ℕ → ℕ → ℕ → Bool
@@ -138,7 +139,7 @@ compares o a b =
     (leb b a)))))
 
 unfoldable pub holds : Test → List ℕ → Bool
-holds q v = compares (q .relation % 16) (getD v (q .left) 0) (rightValue (q .relation) (q .right) v)
+holds q v = compares (q .relation % byVariable) (getD v (q .left) 0) (rightValue (q .relation) (q .right) v)
 
 -- "the operation (0 copy the right value, 1 add, 2 subtract, 3 multiply)", "taken modulo 2^32"
 unfoldable pub result : ℕ → ℕ → ℕ → ℕ
@@ -153,7 +154,7 @@ abbrev pub lastTest : Test → List ℕ → Effect
 lastTest q v = cond (holds q v) overruns nothing
 
 unfoldable pub effect : List ℕ → Act → List ℕ → Effect
-effect ins (set o t l x) v = assigns t (result (o % 16) (getD v l 0) (rightValue o x v))
+effect ins (set o t l x) v = assigns t (result (o % byVariable) (getD v l 0) (rightValue o x v))
 effect ins (read a p) v = assigns a (getD ins p 0)
 effect ins (write a p) v = outputs p (getD v a 0)
 effect ins (check q) v = lastTest q v

@@ -4,6 +4,7 @@ use mathlib.Core.Bool.{Bool, not, _||_}
 use mathlib.Core.List.{List}
 use lib.Dec.{eqb, ltb}
 use lib.ListN.{length, getD}
+use Rattle.model.specs.Limits.{mostTicks, settingsLength}
 use Rattle.model.specs.Records.{wordAt}
 use Rattle.model.specs.declared.Settings.{Settings}
 
@@ -26,8 +27,8 @@ settingsOf s = record {
 abbrev pub outOfRange : Settings → Bool
 outOfRange σ =
     eqb (σ .set) 0 || eqb (σ .read) 0 || eqb (σ .write) 0 || eqb (σ .beat) 0 || eqb (σ .save) 0 || eqb (σ .multiply) 0
-    || eqb (σ .spacing) 0 || eqb (σ .window) 0 || eqb (σ .period) 0 || ltb 1000000 (σ .period)
+    || eqb (σ .spacing) 0 || eqb (σ .window) 0 || eqb (σ .period) 0 || ltb mostTicks (σ .period)
 
 -- "settings not 12 bytes, or a number outside its range" (refusal 6)
 unfoldable pub badSettings : List ℕ → Bool
-badSettings s = not (eqb (length s) 12) || outOfRange (settingsOf s)
+badSettings s = not (eqb (length s) settingsLength) || outOfRange (settingsOf s)

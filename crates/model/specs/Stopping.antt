@@ -4,6 +4,7 @@ use mathlib.Core.Bool.{cond}
 use mathlib.Core.List.{List, [], _∷_, _++_}
 use lib.Dec.{leb}
 use Rattle.model.specs.declared.Settings.{Settings}
+use Rattle.model.specs.Limits.{variableCount}
 use Rattle.model.specs.Records.{wordAt, wordBytes}
 use Rattle.model.specs.Trees.{Block, nil, skip, act, branch, while, times, _⧺_, size}
 use Rattle.model.specs.Runs.{Step, isSave, onVariables, run}
@@ -43,7 +44,7 @@ wordsFrom s at zero = []
 wordsFrom s at (suc n) = wordAt s at ∷ wordsFrom s (at + 4) n
 
 unfoldable pub imageOf : List ℕ → Image
-imageOf s = record { index = wordAt s 0; tick = wordAt s 4; variables = wordsFrom s 8 16 }
+imageOf s = record { index = wordAt s 0; tick = wordAt s 4; variables = wordsFrom s 8 variableCount }
 
 -- "With no finished SAVE .. taking up starts at record 0 with the first variables."
 abbrev pub start : List ℕ → Image

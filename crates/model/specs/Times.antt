@@ -3,16 +3,21 @@ use Prim.Native.Nat.{ℕ, _+_, _*_, _%_, max}
 use mathlib.Core.Bool.{cond}
 use lib.Dec.{eqb}
 use Rattle.model.specs.declared.Settings.{Settings}
+use Rattle.model.specs.Limits.{byVariable}
 use Rattle.model.specs.Trees.{Act, set, read, write, check, beat, save, Block, nil, skip, act, branch, while, times}
 
 -- "the ticks of SET, READ, WRITE, BEAT .. and SAVE", "A test takes 1 tick"; operation 3, or 19, multiplies
 abbrev pub ticks : Settings → Act → ℕ
-ticks σ (set o t l x) = cond (eqb (o % 16) 3) (σ .multiply) (σ .set)
+ticks σ (set o t l x) = cond (eqb (o % byVariable) 3) (σ .multiply) (σ .set)
 ticks σ (read a p) = σ .read
 ticks σ (write a p) = σ .write
 ticks σ (check q) = 1
 ticks σ (beat x) = σ .beat
 ticks σ (save m) = σ .save
+
+-- "the longest of SET, READ, WRITE, used or not" (row 7); a SET that multiplies is a SET
+abbrev pub longest : Settings → ℕ
+longest σ = max (max (σ .set) (σ .multiply)) (max (σ .read) (σ .write))
 
 -- "a sequence's time is the sum, IF is 1 plus the larger side, WHILE is count × (body + 1) + 1, TIMES is count × body + 1,
 -- an empty part 0"; "SKIP its count"

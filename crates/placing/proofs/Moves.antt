@@ -6,9 +6,8 @@ use mathlib.Core.Path.{_≡_, refl, ap, ap₂, _∙_}
 use borrow.Author.Tests.{eq-eqb, ne-eqb}
 use Rattle.model.specs.declared.Settings.{Settings}
 use Rattle.model.specs.Trees.{Act, beat, save, nil, skip, act}
-use Rattle.model.specs.Times.{ticks}
+use Rattle.model.specs.Times.{ticks, longest}
 use Rattle.model.specs.Layout.{commands, before}
-use Rattle.model.specs.Replies.{longest}
 use Rattle.theory.proofs.Windows.{round}
 use Rattle.records.specs.Blocks.{skipRecords}
 use Rattle.records.proofs.Blocks.{size-waiting}

@@ -8,11 +8,11 @@ use lib.Dec.{eqb}
 use lib.ListN.{length, length-append}
 use borrow.Author.Tests.{eq-eqb, ne-eqb}
 use Rattle.model.specs.declared.Settings.{Settings}
-use Rattle.model.specs.Records.{Rec, rec, recordBytes, bytes, BEAT}
+use Rattle.model.specs.Records.{Rec, rec, recordBytes, bytes, BEAT, over}
 use Rattle.model.specs.Trees.{beat, save, Block, nil, skip, act, actRec, size, linearise}
 use Rattle.model.specs.Equalising.{merge}
 use Rattle.model.specs.Layout.{commands, before}
-use Rattle.model.specs.Replies.{longest, over}
+use Rattle.model.specs.Times.{longest}
 use Rattle.records.specs.Blocks.{blockBytes, skipRecords, skipBytes, Wrote}
 use Rattle.records.proofs.Blocks.{length-block, waiting-bytes}
 use Rattle.records.proofs.Over.{Part, lent, back, part-first, part-end, part-last}

@@ -8,9 +8,8 @@ use lib.Dec.{eqb, ltb}
 use borrow.Author.Tests.{ltb-true, ltb-false, lt-ltb, le-ltb, eqb-true, eqb-false, eq-eqb, ne-eqb}
 use Rattle.model.specs.declared.Settings.{Settings}
 use Rattle.model.specs.Trees.{beat, save, Block, nil, skip, act}
-use Rattle.model.specs.Times.{time}
+use Rattle.model.specs.Times.{time, longest}
 use Rattle.model.specs.Layout.{commands, left, before}
-use Rattle.model.specs.Replies.{longest}
 use Rattle.model.proofs.Trees.{⧺-nil}
 use Rattle.theory.proofs.Times.{time-⧺}
 use Rattle.theory.proofs.Sequences.{either}

@@ -8,10 +8,9 @@ use lib.Dec.{ltb, leb}
 use borrow.Author.Tests.{ltb-true, ltb-false, le-ltb, leb-true, le-leb}
 use Rattle.model.specs.declared.Settings.{Settings}
 use Rattle.model.specs.Trees.{Block, nil, skip, _⧺_, size}
-use Rattle.model.specs.Times.{time}
+use Rattle.model.specs.Times.{time, longest}
 use Rattle.model.specs.Equalising.{merge}
 use Rattle.model.specs.Layout.{commands, before, idle, idles, fill}
-use Rattle.model.specs.Replies.{longest}
 use Rattle.model.proofs.Shapes.{and-left, and-right}
 use Rattle.model.proofs.Trees.{⧺-assoc}
 use Rattle.theory.proofs.Times.{time-⧺}

@@ -6,9 +6,8 @@ use mathlib.Core.List.{List}
 use lib.ListN.{length}
 use Rattle.model.specs.declared.Settings.{Settings}
 use Rattle.model.specs.Trees.{Block, nil, skip, _⧺_}
-use Rattle.model.specs.Times.{time}
+use Rattle.model.specs.Times.{time, longest}
 use Rattle.model.specs.Layout.{idles, fill}
-use Rattle.model.specs.Replies.{longest}
 use Rattle.model.proofs.Trees.{⧺-assoc}
 use Rattle.theory.proofs.Times.{time-⧺}
 use Rattle.records.specs.Blocks.{Wrote}

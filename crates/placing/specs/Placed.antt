@@ -4,12 +4,11 @@ use mathlib.Core.Path.{_≡_}
 use mathlib.Core.List.{List, _++_}
 use lib.ListN.{length}
 use Rattle.model.specs.declared.Settings.{Settings}
-use Rattle.model.specs.Records.{Rec, recordBytes}
+use Rattle.model.specs.Records.{Rec, recordBytes, over}
 use Rattle.model.specs.Trees.{Block, beat, actRec, size}
 use Rattle.model.specs.Times.{time}
 use Rattle.model.specs.Equalising.{merge}
 use Rattle.model.specs.Layout.{before, fill, lastValue}
-use Rattle.model.specs.Replies.{over}
 use Rattle.records.specs.Blocks.{blockBytes, skipBytes}
 use Rattle.placing.specs.declared.clock.State.{State}
 use Rattle.placing.specs.Merging.{settled, waits}

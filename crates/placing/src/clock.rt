@@ -3,7 +3,7 @@ ghost use mathlib.Core.Path.{_≡_};
 ghost use Prim.Native.Nat.{_+_, _^_, _≤_};
 ghost use Rattle.model.specs.Trees.{skip};
 ghost use Rattle.model.specs.Layout.{commands};
-ghost use Rattle.model.specs.Replies.{longest};
+ghost use Rattle.model.specs.Times.{longest};
 ghost use Rattle.placing.specs.States.{cap, Laying, After, Readied, Stepped, Idled, Skipped, Fillable, FillCounted, backTo, started};
 use model::Settings;
 use records::skips::skip_records;

@@ -2,11 +2,10 @@
 ghost use mathlib.Core.Path.{_≡_};
 ghost use Prim.Native.Nat.{_+_, _*_, _-_, _≤_};
 ghost use lib.ListN.{length};
-ghost use Rattle.model.specs.Records.{rec};
+ghost use Rattle.model.specs.Records.{rec, over};
 ghost use Rattle.model.specs.Trees.{skip};
-ghost use Rattle.model.specs.Times.{time};
+ghost use Rattle.model.specs.Times.{time, longest};
 ghost use Rattle.model.specs.Layout.{commands, before, idles, fill, lastValue};
-ghost use Rattle.model.specs.Replies.{longest, over};
 ghost use Rattle.records.specs.Records.{recordOf};
 ghost use Rattle.records.specs.Blocks.{Wrote};
 ghost use Rattle.placing.specs.States.{Layable, Laying, Fillable};

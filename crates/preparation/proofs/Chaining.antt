@@ -5,9 +5,7 @@ use mathlib.Core.Path.{_≡_, refl}
 use mathlib.Core.Bool.{true}
 use mathlib.Core.List.{List}
 use Rattle.model.specs.declared.Refusal.{Refusal}
-use Rattle.model.specs.Answers.{Verdict, finished, refused, refusal}
-use Rattle.model.specs.Chain.{isFinished}
-use Rattle.model.specs.Replies.{andThen}
+use Rattle.model.specs.Answers.{Verdict, finished, refused, refusal, andThen, isFinished}
 
 -- a refusal is no finished result
 pub never-finished : {A : Type 0} (x : Refusal) (xs : List ℕ) → refusal x ≡ finished xs → A

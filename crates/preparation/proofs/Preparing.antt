@@ -11,9 +11,9 @@ use Rattle.model.specs.declared.Form.the-variants.{Task}
 use Rattle.model.specs.Settings.{settingsOf, badSettings}
 use Rattle.model.specs.Trees.{size, fileTree}
 use Rattle.model.specs.Refusals.{Fault, sound, faulty, fault}
-use Rattle.model.specs.Answers.{Verdict, finished, refusal}
-use Rattle.model.specs.Replies.{reading, equalisedTree, equaliseReply, equaliseOut, layOutReply, layOutOut, fullRoom, equalisedOf, prepareReply, prepareOut}
-use Rattle.model.specs.Chain.{valueAt}
+use Rattle.model.specs.Answers.{Verdict, finished, refusal, valueAt}
+use Rattle.model.specs.Limits.{fileLength}
+use Rattle.model.specs.Replies.{reading, equalisedTree, equaliseReply, equaliseOut, layOutReply, layOutOut, equalisedOf, prepareReply, prepareOut}
 use Rattle.model.proofs.Sound.{sound-file}
 use Rattle.theory.proofs.Accepted.{equalise-accepted}
 use Rattle.theory.proofs.Files.{equalised-file}
@@ -30,17 +30,17 @@ few-records s task e =
     omega (arith, ap size (equalise-padded σ (fileTree task)), padded-small σ (fileTree task) 0 0, sound-file Task task e .few)
 
 -- so equalising answers alike in all rooms for that many
-pub room-enough : (s task : List ℕ) (m : ℕ) → 12300 ≤ m → equaliseReply s task m ≡ equaliseReply s task fullRoom
-unfolding equaliseReply reading
+pub room-enough : (s task : List ℕ) (m : ℕ) → 12300 ≤ m → equaliseReply s task m ≡ equaliseReply s task fileLength
+unfolding equaliseReply equalisedTree reading
 room-enough s task m h = go (badSettings s) refl (fault Task task) refl
   where
-    go : (x : Bool) → badSettings s ≡ x → (y : Fault) → fault Task task ≡ y → equaliseReply s task m ≡ equaliseReply s task fullRoom
+    go : (x : Bool) → badSettings s ≡ x → (y : Fault) → fault Task task ≡ y → equaliseReply s task m ≡ equaliseReply s task fileLength
     go true e y f = rw e
     go false e (faulty n x) f = rw (e, f)
     go false e sound f =
         let n = size (equalisedTree s task) in
         let few = few-records s task f in
-        rw (e, f, le-ltb m (12 * n) (omega arith), le-ltb fullRoom (12 * n) (omega arith))
+        rw (e, f, le-ltb m (12 * n) (omega arith), le-ltb fileLength (12 * n) (omega arith))
 
 -- what was written fits its buffer
 pub prepare-fits : (s task : List ℕ) (m : ℕ) {n t k : ℕ} → finished (n ∷ t ∷ []) ≡ equaliseReply s task m → k ≡ m → n ≤ k
@@ -55,7 +55,7 @@ abbrev pub Prepares : List ℕ → List ℕ → List ℕ → List ℕ → Verdic
 Prepares s task out out′ v = (v ≡ prepareReply s task (length out)) × (out′ ≡ prepareOut s task out)
 
 module _ (s task own out : List ℕ) (h : length own ≡ 12300) where
-  answered : equaliseReply s task (length own) ≡ equaliseReply s task fullRoom
+  answered : equaliseReply s task (length own) ≡ equaliseReply s task fileLength
   answered = room-enough s task (length own) (omega (arith, h))
 
   pub prepare-refused : (x : Refusal) → refusal x ≡ equaliseReply s task (length own) → Prepares s task out out (refusal x)

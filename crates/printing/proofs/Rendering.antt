@@ -10,9 +10,10 @@ use Rattle.model.specs.declared.Line.{Line}
 use Rattle.model.specs.declared.Shown.{Shown}
 use Rattle.model.specs.declared.Refusal.{Refusal}
 use Rattle.model.specs.declared.LaidOut.{LaidOut}
-use Rattle.model.specs.Records.{recordAt}
+use Rattle.model.specs.Records.{recordAt, over}
 use Rattle.model.specs.Answers.{row, laidOut}
-use Rattle.model.specs.Replies.{over, fullRoom, prepareReply, prepareOut}
+use Rattle.model.specs.Limits.{fileLength}
+use Rattle.model.specs.Replies.{prepareReply, prepareOut}
 use Rattle.model.specs.Listing.{lineOf, lineAt, listStarts, ascii, decimal, lineText, linesText, listed, turnedDown, printed, printedText}
 use Rattle.listing.proofs.LineLaws.{at-most-four, line-there}
 use Rattle.listing.specs.Lines.{linesIn}
@@ -60,7 +61,7 @@ module _ (laid table : List ℕ) (i : ℕ) where
 
 -- A REFUSAL
 
-pub text-of-refusal : (s task : List ℕ) (x : Refusal) {r : LaidOut} → r ≡ LaidOut.Refused x → laidOut r ≡ prepareReply s task fullRoom
+pub text-of-refusal : (s task : List ℕ) (x : Refusal) {r : LaidOut} → r ≡ LaidOut.Refused x → laidOut r ≡ prepareReply s task fileLength
     → printedText (turnedDown (row x .0)) ≡ printedText (printed s task)
 text-of-refusal s task x e f =
     ap printedText (sym (printed-refused s task x (sym (ap laidOut e) ∙ f)))
@@ -80,7 +81,7 @@ put-total ls t m p q z = (put-then (put-then (p .0) (q .0)) z, omega (arith, p .
 
 -- the buffers that `list_task` leaves, which were zeros
 pub listed-in : (s task : List ℕ) {laid table : List ℕ} {r : LaidOut} {n t : ℕ} → r ≡ LaidOut.Written n t
-    → (laidOut r ≡ prepareReply s task fullRoom) × (laid ≡ prepareOut s task (replicate 65532 0)) × (table ≡ listStarts s task (replicate 5461 0))
+    → (laidOut r ≡ prepareReply s task fileLength) × (laid ≡ prepareOut s task (replicate 65532 0)) × (table ≡ listStarts s task (replicate 5461 0))
     → Listing s task laid table n t
 listed-in s task w p =
     listing-written s task (replicate 65532 0) (replicate 5461 0) (length-replicate {A = ℕ} 65532 0) (length-replicate {A = ℕ} 5461 0)

@@ -3,7 +3,7 @@ ghost use Prim.Native.Nat.{_+_, _*_, _≤_};
 ghost use mathlib.Core.Path.{_≡_};
 ghost use lib.ListN.{length};
 ghost use Rattle.model.specs.Answers.{row};
-ghost use Rattle.model.specs.Replies.{over};
+ghost use Rattle.model.specs.Records.{over};
 ghost use Rattle.model.specs.Listing.{linesText, listed, turnedDown, printed, printedText};
 ghost use Rattle.listing.specs.Lines.{linesIn};
 ghost use Rattle.text.specs.Pieces.{Put};

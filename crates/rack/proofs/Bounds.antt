@@ -15,7 +15,8 @@ use Rattle.model.specs.Runs.{Step, duration, overran}
 use Rattle.model.specs.Stopping.{Image, imageOf, start, rest, takeUp}
 use Rattle.model.specs.Refusals.{sound, fault}
 use Rattle.model.specs.Answers.{Verdict, finished, bit}
-use Rattle.model.specs.Replies.{turnDown, above, fileTime, timeReply, equaliseReply, layOutReply, fullRoom, equalisedOf, prepareReply}
+use Rattle.model.specs.Limits.{fileLength}
+use Rattle.model.specs.Replies.{turnDown, above, fileTime, timeReply, equaliseReply, layOutReply, equalisedOf, prepareReply}
 use Rattle.model.specs.Replies.{Loan, badBuffers, badImageLength, ready, ended, stepsOf, runReply, stopReply, imageAt, isSaved, takenUp, afterSave, strayImage, resumeReply, restartReply}
 use Rattle.theory.proofs.Within.{run-within}
 use Rattle.theory.proofs.Left.{rest-0}
@@ -45,7 +46,7 @@ pub time-bound : (s : List ℕ) (f : Form) (file xs : List ℕ) → timeReply s 
 unfolding timeReply
 time-bound s f file xs e =
     let r = read s f file _ xs e in
-    let p = passed 8 (above s (fileTime s file)) (finished (fileTime s file ∷ [])) xs (r .goes-on) in
+    let p = passed 8 (above (settingsOf s) (fileTime s file)) (finished (fileTime s file ∷ [])) xs (r .goes-on) in
     let is : fileTime s file ∷ [] ≡ xs = (let q = p .1 in cc) in
     record {
       one = omega (arith, ap first is, ltb-false (settingsOf s .period) (fileTime s file) (p .0), in-range s (r .settings-good) .short);
@@ -70,7 +71,7 @@ lay-out-bound s file room xs e =
 
 pub prepare-bound : (s task : List ℕ) (room : ℕ) (xs : List ℕ) → prepareReply s task room ≡ finished xs → FileBound xs
 unfolding prepareReply
-prepare-bound s task room xs e = lay-out-bound s (equalisedOf s task) room xs (sym (second-done (equaliseReply s task fullRoom) _ (sym e)))
+prepare-bound s task room xs e = lay-out-bound s (equalisedOf s task) room xs (sym (second-done (equaliseReply s task fileLength) _ (sym e)))
 
 -- RUNS
 
@@ -92,7 +93,7 @@ readied c cause next xs e =
     let s = c .settings in
     let t = fileTime s (c .file) in
     let r = read s (c .form) (c .file) _ xs e in
-    let p = passed 8 (above s t) (turnDown 10 (badBuffers c || cause) next) xs (r .goes-on) in
+    let p = passed 8 (above (settingsOf s) t) (turnDown 10 (badBuffers c || cause) next) xs (r .goes-on) in
     record {
       file-sound = r .file-sound;
       in-time = ltb-false (settingsOf s .period) t (p .0);
@@ -125,7 +126,7 @@ run-bound c xs e =
     ended-bound 0 (stepsOf c) xs (r .goes-on) (omega (arith, steps-within c, r .in-time, r .short))
 
 pub stop-bound : (c : Loan) (image : List ℕ) (stop : ℕ) (xs : List ℕ) → stopReply c image stop ≡ finished xs → RunBound xs
-unfolding stopReply
+unfolding stopReply imageAt
 stop-bound c image stop xs e =
     let r = readied c (badImageLength image) _ xs e in
     let p = passed 12 (leb (duration (stepsOf c)) stop) (finished (stop ∷ 0 ∷ bit (isSaved (imageAt c stop)) ∷ [])) xs (r .goes-on) in
@@ -149,8 +150,8 @@ resume-bound c image xs e =
     let m = imageOf image in
     let σ = settingsOf (c .settings) in
     let r = readied c (badImageLength image) _ xs e in
-    let p = passed 11 (strayImage c m) (ended (m .tick) (takenUp c m)) xs (r .goes-on) in
-    let q = neither (not (afterSave (c .file) (m .index))) (above (c .settings) (m .tick)) (p .0) in
+    let p = passed 11 (strayImage σ (c .file) m) (ended (m .tick) (takenUp c m)) xs (r .goes-on) in
+    let q = neither (not (afterSave (c .file) (m .index))) (above σ (m .tick)) (p .0) in
     let early = ltb-false (σ .period) (m .tick) (q .1) in
     let free = rest-reached (c .form) (c .file) (m .index) (r .file-sound) (not-false (afterSave (c .file) (m .index)) (q .0)) in
     let within = taken-within c m (rest-shorter σ (fileTree (c .file)) (m .index) free) in

@@ -7,7 +7,8 @@ use Rattle.model.specs.declared.Form.{Form}
 use Rattle.model.specs.Trees.{size}
 use Rattle.model.specs.Runs.{Buffers}
 use Rattle.model.specs.Answers.{Verdict, finished, refused}
-use Rattle.model.specs.Replies.{equalisedTree, equaliseReply, laidTree, layOutReply, fullRoom, equalisedOf, prepareReply}
+use Rattle.model.specs.Limits.{fileLength}
+use Rattle.model.specs.Replies.{equalisedTree, equaliseReply, laidTree, layOutReply, equalisedOf, prepareReply}
 use Rattle.preparation.proofs.Chaining.{second-done}
 use Rattle.theory.proofs.Accepted.{equalise-accepted, lay-out-accepted}
 use Rattle.rack.specs.Words.{firstIn, runWord, packed}
@@ -29,7 +30,7 @@ laid-few s file room (refused n xs) e = omega arith
 
 pub prepared-few : (s task : List ℕ) (room : ℕ) (v : Verdict) → v ≡ prepareReply s task room → firstIn v ≤ 65532
 unfolding prepareReply
-prepared-few s task room (finished xs) e = laid-few s (equalisedOf s task) room (finished xs) (second-done (equaliseReply s task fullRoom) _ e)
+prepared-few s task room (finished xs) e = laid-few s (equalisedOf s task) room (finished xs) (second-done (equaliseReply s task fileLength) _ e)
 prepared-few s task room (refused n xs) e = omega arith
 
 -- A call on a file whose form came as a number.

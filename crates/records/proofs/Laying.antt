@@ -4,8 +4,7 @@ use native.Mathlib.Omega.{arith}
 use mathlib.Core.Path.{_≡_, refl}
 use mathlib.Core.List.{List, _++_}
 use lib.ListN.{length}
-use Rattle.model.specs.Records.{Rec, recordBytes}
-use Rattle.model.specs.Replies.{over}
+use Rattle.model.specs.Records.{Rec, recordBytes, over}
 use Rattle.records.specs.Blocks.{Wrote}
 use Rattle.records.proofs.Over.{Part, lent, back, part-room, part-lent, part-last, part-count}
 

@@ -6,7 +6,7 @@ use native.Mathlib.Numerals.{add-one}
 use native.Mathlib.Omega.{arith}
 use lib.ListN.{length, take, drop, set, length-append, length-drop, drop-of-length-le}
 use lib.Seq.{take-all, drop-cons, set-at, take-append-seam, drop-append-seam, drop-drop}
-use Rattle.model.specs.Replies.{over}
+use Rattle.model.specs.Records.{over}
 
 -- a list that has room for what is laid over it keeps its length
 over-length : (w old : List ℕ) {new : List ℕ} → new ≡ over w old → length w ≤ length old → length new ≡ length old

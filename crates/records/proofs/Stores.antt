@@ -6,7 +6,7 @@ use mathlib.Core.Path.{_≡_, ap, sym, _∙_}
 use mathlib.Core.List.{List, [], _∷_, _++_, append-assoc, append-nil}
 use lib.ListN.{length, drop, set, length-drop, drop-of-length-le}
 use lib.Seq.{sets, sets-eq, take-all, drop-drop}
-use Rattle.model.specs.Replies.{over}
+use Rattle.model.specs.Records.{over}
 use Rattle.records.proofs.Over.{lent, back}
 
 sets-on : (l : List ℕ) (i j : ℕ) (a b : List ℕ) → i + length a ≡ j → sets (sets l i a) j b ≡ sets l i (a ++ b)

@@ -3,10 +3,9 @@ use Prim.Native.Nat.{ℕ}
 use mathlib.Core.Path.{_≡_}
 use mathlib.Core.List.{List}
 use lib.ListN.{length}
-use Rattle.model.specs.Records.{bytes}
+use Rattle.model.specs.Records.{bytes, over}
 use Rattle.model.specs.Trees.{Block, nil, size, linearise}
 use Rattle.model.specs.Equalising.{waiting}
-use Rattle.model.specs.Replies.{over}
 
 -- the bytes of a block
 unfoldable pub blockBytes : Block → List ℕ

@@ -2,8 +2,7 @@
 ghost use mathlib.Core.Path.{_≡_};
 ghost use Prim.Native.Nat.{_+_, _*_, _%_, _^_, _≤_, _<_};
 ghost use lib.ListN.{length};
-ghost use Rattle.model.specs.Records.{wordAt, wordBytes};
-ghost use Rattle.model.specs.Replies.{over};
+ghost use Rattle.model.specs.Records.{wordAt, wordBytes, over};
 
 // A byte as a number: the bound spares every sum of bytes a proof.
 pub fn wide(b: u8) -> u32

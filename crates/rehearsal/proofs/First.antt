@@ -7,8 +7,8 @@ use lib.ListN.{replicate}
 use Rattle.model.specs.declared.Refusal.{Refusal}
 use Rattle.model.specs.declared.Ran.{Ran}
 use Rattle.model.specs.Runs.{Buffers}
-use Rattle.model.specs.Answers.{Verdict, finished, bit, refusal, ran}
-use Rattle.model.specs.Replies.{andThen, Loan, runReply, runBuffers}
+use Rattle.model.specs.Answers.{Verdict, finished, bit, refusal, ran, andThen}
+use Rattle.model.specs.Replies.{Loan, runReply, runBuffers}
 use Rattle.model.specs.Chain.{End, endOf, runEnd}
 use Rattle.model.specs.declared.Stop.{Stop}
 use Rattle.model.specs.Rehearsal.{wholeOf, stoppedOf}

@@ -8,9 +8,9 @@ use lib.Dec.{eqb}
 use borrow.Author.Tests.{eqb-true}
 use lib.ListN.{length, getD, take, replicate}
 use Rattle.model.specs.declared.Refusal.{Refusal}
-use Rattle.model.specs.Answers.{Verdict, finished, refusal, rehearsed}
-use Rattle.model.specs.Replies.{andThen, prepareReply, prepareOut, turnDown, layOutOut, runReply}
-use Rattle.model.specs.Chain.{valueAt, Set, Chain, equalising, equalisedFile, layingOut, laidFile, plainLoan, plainEndOne}
+use Rattle.model.specs.Answers.{Verdict, finished, refusal, rehearsed, andThen, valueAt}
+use Rattle.model.specs.Replies.{prepareReply, prepareOut, turnDown, layOutOut, runReply}
+use Rattle.model.specs.Chain.{Set, Chain, equalising, equalisedFile, layingOut, laidFile, plainLoan, plainEndOne}
 use Rattle.model.specs.declared.Stop.{Stop}
 use Rattle.model.specs.declared.Rehearsed.{Rehearsed}
 use Rattle.model.specs.Rehearsal.{room, zeroOutputs, chain, second, badSets, rehearsal, Confirms, Rehearses}

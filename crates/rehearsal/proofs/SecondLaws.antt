@@ -13,9 +13,9 @@ use Rattle.model.specs.declared.Stopped.{Stopped}
 use Rattle.model.specs.Records.{wordAt}
 use Rattle.model.specs.Runs.{Buffers}
 use Rattle.model.specs.Stopping.{imageOf}
-use Rattle.model.specs.Answers.{Verdict, finished, bit, refusal, ran, stopped}
-use Rattle.model.specs.Replies.{andThen, Loan, runReply, runBuffers, stopReply, stopBuffers, stopImage, resumeReply, resumeBuffers, restartReply, restartBuffers, buffersOf}
-use Rattle.model.specs.Chain.{valueAt, Outputs, lend, End, endOf}
+use Rattle.model.specs.Answers.{Verdict, finished, bit, refusal, ran, stopped, andThen, valueAt}
+use Rattle.model.specs.Replies.{Loan, runReply, runBuffers, stopReply, stopBuffers, stopImage, resumeReply, resumeBuffers, restartReply, restartBuffers, buffersOf}
+use Rattle.model.specs.Chain.{Outputs, lend, End, endOf}
 use Rattle.model.specs.Rehearsal.{sameEnd, wholeOf, takenOf, stoppedOf}
 use Rattle.rehearsal.specs.Contracts.{laidLoan}
 use Rattle.preparation.proofs.Chaining.{refused-first}

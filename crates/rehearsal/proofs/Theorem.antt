@@ -7,9 +7,9 @@ use mathlib.Core.Logic.{_↔_}
 use mathlib.Core.List.{List}
 use lib.ListN.{length}
 use borrow.Author.Tests.{eq-eqb}
-use Rattle.model.specs.Answers.{Verdict, finished, refused, bit}
-use Rattle.model.specs.Replies.{andThen, runReply, stopReply}
-use Rattle.model.specs.Chain.{isFinished, Set, Chain, LentOutputs, Lent, equalising, layingOut, plainLoan, wholeLoan, stoppedLoan, takingUp, End, plainEndOne, wholeEnd, stoppedEnd}
+use Rattle.model.specs.Answers.{Verdict, finished, refused, bit, andThen, isFinished}
+use Rattle.model.specs.Replies.{runReply, stopReply}
+use Rattle.model.specs.Chain.{Set, Chain, LentOutputs, Lent, equalising, layingOut, plainLoan, wholeLoan, stoppedLoan, takingUp, End, plainEndOne, wholeEnd, stoppedEnd}
 use Rattle.theory.proofs.Demand3.{demand3}
 use Rattle.theory.proofs.Demand3.{Unseen}
 use Rattle.model.specs.declared.Stop.{Stop}

@@ -7,8 +7,7 @@ use native.Mathlib.Numerals.{add-one}
 use native.Mathlib.Omega.{arith}
 use lib.ListN.{length, getD, take, drop, set, length-append, drop-of-length-le}
 use lib.Seq.{drop-cons, take-at, drop-at, drop-drop, length-take-le}
-use Rattle.model.specs.Records.{wordAt, wordBytes}
-use Rattle.model.specs.Replies.{over}
+use Rattle.model.specs.Records.{wordAt, wordBytes, over}
 use Rattle.model.specs.Stopping.{words, wordsFrom}
 use Rattle.records.proofs.Over.{Part, part-start, part-put, part-lent, part-end, part-length, lent, back}
 use Rattle.stepping.specs.Machines.{held, imageIn}

@@ -7,16 +7,17 @@ use mathlib.Core.List.{List, [], _∷_}
 use lib.Dec.{eqb, leb, ltb}
 use lib.ListN.{length}
 use borrow.Author.Tests.{not-false, leb-false, eqb-true, eqb-false, ltb-false, le-ltb}
+use Rattle.model.specs.Limits.{fileRecords, imageLength}
 use Rattle.model.specs.declared.Settings.{Settings}
 use Rattle.model.specs.declared.Form.{Form}
 use Rattle.model.specs.declared.Form.the-variants.{Task, Equalised}
 use Rattle.model.specs.Settings.{settingsOf, outOfRange, badSettings}
 use Rattle.model.specs.Trees.{Block, size, fileTree}
-use Rattle.model.specs.Times.{time}
+use Rattle.model.specs.Times.{time, longest}
 use Rattle.model.specs.Runs.{duration}
 use Rattle.model.specs.Refusals.{Fault, sound, faulty, fault}
 use Rattle.model.specs.Answers.{Verdict, finished, bit}
-use Rattle.model.specs.Replies.{turnDown, unless, reading, longest, shortWindow, above, noRoom, fileTime, timeReply}
+use Rattle.model.specs.Replies.{turnDown, unless, reading, shortWindow, above, noRoom, fileTime, timeReply}
 use Rattle.model.specs.Replies.{equalisedTree, equaliseReply, laidTree, laidTotal, layOutReply, Loan, badBuffers, badImageLength, ready, stepsOf, imageAt, isSaved, stopReply}
 use Rattle.model.specs.Chain.{Outputs, lend}
 use Rattle.model.specs.Placement.{Positive, Fits}
@@ -96,12 +97,12 @@ fits σ p e = record { positive = p; wide = ltb-false (σ .window) (σ .beat + �
 -- a result of n records fits the buffer and the longest file
 pub record Room (room n : ℕ) : Type 0 where
   pub fits-buffer : 12 * n ≤ room
-  pub few : n ≤ 5461
+  pub few : n ≤ fileRecords
 
 pub room-left : (room n : ℕ) → noRoom room n ≡ false → Room room n
 room-left room n e =
-    let p = neither (ltb room (12 * n)) (ltb 5461 n) e in
-    record { fits-buffer = ltb-false room (12 * n) (p .0); few = ltb-false 5461 n (p .1) }
+    let p = neither (ltb room (12 * n)) (ltb fileRecords n) e in
+    record { fits-buffer = ltb-false room (12 * n) (p .0); few = ltb-false fileRecords n (p .1) }
 
 pub record EqualiseAccepted (s task : List ℕ) (room : ℕ) (xs : List ℕ) : Type 0 where
   pub settings-good : badSettings s ≡ false
@@ -112,12 +113,12 @@ pub record EqualiseAccepted (s task : List ℕ) (room : ℕ) (xs : List ℕ) : T
   pub answers : 12 * size (equalisedTree s task) ∷ fileTime s task ∷ [] ≡ xs
 
 pub equalise-accepted : (s task : List ℕ) (room : ℕ) (xs : List ℕ) → equaliseReply s task room ≡ finished xs → EqualiseAccepted s task room xs
-unfolding equaliseReply
+unfolding equaliseReply equalisedTree
 equalise-accepted s task room xs e =
     let n = size (equalisedTree s task) in
     let t = fileTime s task in
     let r = read s Task task _ xs e in
-    let p8 = passed 8 (above s t) (turnDown 9 (noRoom room n) (finished (12 * n ∷ t ∷ []))) xs (r .goes-on) in
+    let p8 = passed 8 (above (settingsOf s) t) (turnDown 9 (noRoom room n) (finished (12 * n ∷ t ∷ []))) xs (r .goes-on) in
     let p9 = passed 9 (noRoom room n) (finished (12 * n ∷ t ∷ [])) xs (p8 .1) in
     record {
       settings-good = r .settings-good;
@@ -138,12 +139,12 @@ pub record LayOutAccepted (s file : List ℕ) (room : ℕ) (xs : List ℕ) : Typ
   pub answers : 12 * size (laidTree s file) ∷ laidTotal s file ∷ [] ≡ xs
 
 pub lay-out-accepted : (s file : List ℕ) (room : ℕ) (xs : List ℕ) → layOutReply s file room ≡ finished xs → LayOutAccepted s file room xs
-unfolding layOutReply
+unfolding layOutReply laidTree
 lay-out-accepted s file room xs e =
     let σ = settingsOf s in
     let n = size (laidTree s file) in
     let t = laidTotal s file in
-    let late = above s (fileTime s file) || above s t in
+    let late = above σ (fileTime s file) || above σ t in
     let r = read s Equalised file _ xs e in
     let g = in-range s (r .settings-good) in
     let p7 = passed 7 (shortWindow σ) (turnDown 8 late (turnDown 9 (noRoom room n) (finished (12 * n ∷ t ∷ [])))) xs (r .goes-on) in
@@ -154,7 +155,7 @@ lay-out-accepted s file room xs e =
       in-range = g;
       fits-window = fits σ (g .positive) (p7 .0);
       file-sound = r .file-sound;
-      in-time = ltb-false (σ .period) t (neither (above s (fileTime s file)) (above s t) (p8 .0) .1);
+      in-time = ltb-false (σ .period) t (neither (above σ (fileTime s file)) (above σ t) (p8 .0) .1);
       has-room = room-left room n (p9 .0);
       answers = let q = p9 .1 in cc;
     }
@@ -183,23 +184,23 @@ module _ (s : List ℕ) (f : Form) (file : List ℕ) (b : Block) (r : Runnable s
 -- a stop that is not refused
 pub record StopAccepted (c : Loan) (image : List ℕ) (stop : ℕ) : Type 0 where
   pub good : badBuffers c ≡ false
-  pub image-room : length image ≡ 72
+  pub image-room : length image ≡ imageLength
   pub early : stop < duration (stepsOf c)
 
 pub stop-accepted : (c : Loan) (image : List ℕ) (stop : ℕ) (xs : List ℕ) → stopReply c image stop ≡ finished xs → StopAccepted c image stop
-unfolding stopReply ready
+unfolding stopReply ready imageAt
 stop-accepted c image stop xs e =
     let s = c .settings in
     let bad = badBuffers c || badImageLength image in
     let past = leb (duration (stepsOf c)) stop in
     let answer = finished (stop ∷ 0 ∷ bit (isSaved (imageAt c stop)) ∷ []) in
     let r = read s (c .form) (c .file) _ xs e in
-    let p8 = passed 8 (above s (fileTime s (c .file))) (turnDown 10 bad (turnDown 12 past answer)) xs (r .goes-on) in
+    let p8 = passed 8 (above (settingsOf s) (fileTime s (c .file))) (turnDown 10 bad (turnDown 12 past answer)) xs (r .goes-on) in
     let p10 = passed 10 bad (turnDown 12 past answer) xs (p8 .1) in
     let p12 = passed 12 past answer xs (p10 .1) in
     let q = neither (badBuffers c) (badImageLength image) (p10 .0) in
     record {
       good = q .0;
-      image-room = eqb-true (length image) 72 (not-false (eqb (length image) 72) (q .1));
+      image-room = eqb-true (length image) imageLength (not-false (eqb (length image) imageLength) (q .1));
       early = leb-false (duration (stepsOf c)) stop (p12 .0);
     }

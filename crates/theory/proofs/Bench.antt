@@ -11,7 +11,8 @@ use Rattle.model.specs.Equalising.{equalise}
 use Rattle.model.specs.Layout.{before, lastValue, layout, total}
 use Rattle.model.specs.Refusals.{fieldsFit, scan, fault}
 use Rattle.model.specs.Replies.{reading, equalisedTree, equaliseReply, equaliseOut, laidTree, layOutReply, layOutOut, ready, stepsOf, runReply}
-use Rattle.model.specs.Chain.{isFinished, valueAt, Chain, Lent, equalising, layingOut, wholeLoan}
+use Rattle.model.specs.Answers.{isFinished, valueAt}
+use Rattle.model.specs.Chain.{Chain, Lent, equalising, layingOut, wholeLoan}
 use Rattle.model.proofs.Bench.{lettered, Holds, bench, settings, factorial, chain}
 use Rattle.theory.proofs.Demand3.{StopUnseen, demand3}
 

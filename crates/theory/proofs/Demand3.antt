@@ -6,10 +6,10 @@ use mathlib.Core.Bool.{true}
 use mathlib.Core.List.{List}
 use lib.ListN.{length}
 use Rattle.model.specs.Settings.{settingsOf}
-use Rattle.model.specs.Answers.{finished, refused}
+use Rattle.model.specs.Answers.{finished, refused, isFinished, valueAt}
 use Rattle.model.specs.Replies.{layOutOut, prepareReply, prepareOut, stepsOf, runReply, stopReply}
 use Rattle.model.specs.Timeline.{endedBy, lastSaveEnd}
-use Rattle.model.specs.Chain.{isFinished, valueAt, Chain, Lent, equalising, equalisedFile, layingOut, plainLoan, wholeLoan, stoppedLoan}
+use Rattle.model.specs.Chain.{Chain, Lent, equalising, equalisedFile, layingOut, plainLoan, wholeLoan, stoppedLoan}
 use Rattle.model.specs.Chain.{takingUp, imageTick, runTwice, End, plainEndOne, plainEndTwo, wholeEnd, stoppedEnd}
 use Rattle.theory.proofs.Preparing.{prepares-reply, prepares-out, prepares-refused}
 use Rattle.theory.proofs.Ends.{plain-runs, whole-runs, whole-same, stop-runs, take-up-runs, stopped-same, twice, counted, few}

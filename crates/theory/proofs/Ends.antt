@@ -15,7 +15,8 @@ use Rattle.model.specs.Layout.{layout}
 use Rattle.model.specs.Stopping.{upto, none}
 use Rattle.model.specs.Replies.{Loan, badBuffers, stepsOf, runReply, stopReply, ended}
 use Rattle.model.specs.Timeline.{endedBy, lastSaveEnd}
-use Rattle.model.specs.Chain.{isFinished, valueAt, Set, Outputs, Chain, LentSet, LentOutputs, Lent, equalising, layingOut, laidFile, lend, plainLoan, preparedLoan, wholeLoan, stoppedLoan}
+use Rattle.model.specs.Answers.{isFinished, valueAt}
+use Rattle.model.specs.Chain.{Set, Outputs, Chain, LentSet, LentOutputs, Lent, equalising, layingOut, laidFile, lend, plainLoan, preparedLoan, wholeLoan, stoppedLoan}
 use Rattle.model.specs.Chain.{takingUp, imageTick, runTwice, End, endOf, runEnd, plainEndTwo, wholeEnd, stoppedEnd}
 use Rattle.theory.proofs.Views.{see, same-variables, same-outputs, same-overran}
 use Rattle.theory.proofs.Traces.{traced}

@@ -6,12 +6,11 @@ use mathlib.Core.List.{List, [], _∷_}
 use lib.ListN.{length, take, drop}
 use lib.Seq.{take-append-seam}
 use Rattle.model.specs.declared.Form.the-variants.{Task, Equalised, Laid}
-use Rattle.model.specs.Records.{bytes}
+use Rattle.model.specs.Records.{bytes, over}
 use Rattle.model.specs.Settings.{settingsOf}
 use Rattle.model.specs.Trees.{Block, size, linearise, fileTree}
-use Rattle.model.specs.Answers.{Verdict, finished}
-use Rattle.model.specs.Replies.{over, kept, fileTime, equalisedTree, equaliseReply, equaliseOut, laidTree, laidTotal, layOutReply, layOutOut}
-use Rattle.model.specs.Chain.{valueAt}
+use Rattle.model.specs.Answers.{Verdict, finished, kept, valueAt}
+use Rattle.model.specs.Replies.{fileTime, equalisedTree, equaliseReply, equaliseOut, laidTree, laidTotal, layOutReply, layOutOut}
 use Rattle.model.proofs.Sound.{OfForm, Sound, sound-file}
 use Rattle.model.proofs.Passes.{passes, tree-back, length-file}
 use Rattle.theory.proofs.Times.{time-equalise}

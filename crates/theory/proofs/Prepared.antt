@@ -11,10 +11,10 @@ use Rattle.model.specs.Trees.{Block, fileTree}
 use Rattle.model.specs.Runs.{run}
 use Rattle.model.specs.Equalising.{equalise}
 use Rattle.model.specs.Layout.{layout}
-use Rattle.model.specs.Answers.{Verdict, finished, refused}
+use Rattle.model.specs.Answers.{Verdict, finished, refused, isFinished, valueAt}
 use Rattle.model.specs.Replies.{equalisedTree, laidTree, layOutReply, layOutOut}
 use Rattle.model.specs.Placement.{Fits, Placed}
-use Rattle.model.specs.Chain.{isFinished, valueAt, Chain, equalising, layingOut, laidFile}
+use Rattle.model.specs.Chain.{Chain, equalising, layingOut, laidFile}
 use Rattle.model.proofs.Passes.{tree-back}
 use Rattle.theory.proofs.Views.{Alike, alike-trans}
 use Rattle.theory.proofs.Traces.{traced}

@@ -10,27 +10,28 @@ use Rattle.model.specs.declared.Form.the-variants.{Task}
 use Rattle.model.specs.Settings.{settingsOf, badSettings}
 use Rattle.model.specs.Trees.{size}
 use Rattle.model.specs.Refusals.{Fault, sound, faulty, fault}
-use Rattle.model.specs.Answers.{Verdict, finished, refused}
-use Rattle.model.specs.Replies.{turnDown, unless, reading, above, noRoom, fileTime, equalisedTree, equaliseReply, layOutReply, layOutOut, andThen, fullRoom, equalisedOf, prepareReply, prepareOut}
+use Rattle.model.specs.Answers.{Verdict, finished, refused, andThen}
+use Rattle.model.specs.Limits.{fileRecords, fileLength}
+use Rattle.model.specs.Replies.{turnDown, unless, reading, above, noRoom, fileTime, equalisedTree, equaliseReply, layOutReply, layOutOut, equalisedOf, prepareReply, prepareOut}
 use Rattle.model.specs.Chain.{Chain, equalising, equalisedFile, layingOut}
 use Rattle.theory.proofs.Accepted.{reads, equalise-accepted}
 use Rattle.theory.proofs.Files.{equalised-file}
 
 -- a result that has room has room in the longest file
-full-room : (s task : List ℕ) (room : ℕ) (xs : List ℕ) → equaliseReply s task room ≡ finished xs → equaliseReply s task fullRoom ≡ finished xs
-unfolding equaliseReply
+full-room : (s task : List ℕ) (room : ℕ) (xs : List ℕ) → equaliseReply s task room ≡ finished xs → equaliseReply s task fileLength ≡ finished xs
+unfolding equaliseReply equalisedTree
 full-room s task room xs e =
     let a = equalise-accepted s task room xs e in
     let n = size (equalisedTree s task) in
     let few = a .has-room .few in
     reads s Task task _ (a .settings-good) (a .file-sound)
-    ∙ rw (le-ltb (settingsOf s .period) (fileTime s task) (a .in-time), le-ltb fullRoom (12 * n) (omega arith), le-ltb 5461 n few) (ap finished (a .answers))
+    ∙ rw (le-ltb (settingsOf s .period) (fileTime s task) (a .in-time), le-ltb fileLength (12 * n) (omega arith), le-ltb fileRecords n few) (ap finished (a .answers))
 
 -- and a refusal by another row than 9 comes before any room is asked for
-refused-first : (s task : List ℕ) (room n : ℕ) (xs : List ℕ) → equaliseReply s task room ≡ refused n xs → (n ≡ 9 → ⊥) → equaliseReply s task fullRoom ≡ refused n xs
-unfolding equaliseReply reading
+refused-first : (s task : List ℕ) (room n : ℕ) (xs : List ℕ) → equaliseReply s task room ≡ refused n xs → (n ≡ 9 → ⊥) → equaliseReply s task fileLength ≡ refused n xs
+unfolding equaliseReply equalisedTree reading
 refused-first s task room n xs e h =
-    go (badSettings s) (fault Task task) (above s (fileTime s task)) (noRoom room m) (noRoom fullRoom m) e
+    go (badSettings s) (fault Task task) (above (settingsOf s) (fileTime s task)) (noRoom room m) (noRoom fileLength m) e
   where
     m : ℕ
     m = size (equalisedTree s task)
@@ -72,7 +73,7 @@ module _ (k : Chain) where
   prepares-refused n xs e h = ap (λ (v : Verdict). andThen v laying) (refused-first s (k .task) (length (k .equalisedRoom)) n xs e h)
 
   -- with room for the longest file, refused or not
-  pub prepares-both : length (k .equalisedRoom) ≡ fullRoom → prepareReply s (k .task) (length (k .laidRoom)) ≡ andThen (equalising k) (layingOut k)
+  pub prepares-both : length (k .equalisedRoom) ≡ fileLength → prepareReply s (k .task) (length (k .laidRoom)) ≡ andThen (equalising k) (layingOut k)
   unfolding prepareReply
   prepares-both h = go (equalising k) refl
     where

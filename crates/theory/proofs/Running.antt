@@ -80,10 +80,10 @@ module _ (s : List ℕ) (f : Form) (file : List ℕ) (b : Block) (r : Runnable s
     image-at = rw the-steps
 
     pub stop-answer : stopReply (lend s f file ins v o) image stop ≡ finished (stop ∷ 0 ∷ bit (isSaved (savedAt stop (run (settingsOf s) ins b 0 v) v)) ∷ [])
-    unfolding stopReply
+    unfolding stopReply imageAt
     stop-answer =
         readied s f file b r ins v o h (badImageLength image) _ (rw (eq-eqb (length image) 72 has-room))
-        ∙ rw (the-steps, lt-leb (duration (run (settingsOf s) ins b 0 v)) stop early, image-at)
+        ∙ rw (the-steps, lt-leb (duration (run (settingsOf s) ins b 0 v)) stop early)
 
     pub stop-leaves : stopBuffers (lend s f file ins v o) image stop ≡ leave (upto stop (run (settingsOf s) ins b 0 v)) (cleared v)
     unfolding stopBuffers

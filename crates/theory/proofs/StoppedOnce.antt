@@ -11,10 +11,10 @@ use Rattle.model.specs.Settings.{settingsOf}
 use Rattle.model.specs.Trees.{Block}
 use Rattle.model.specs.Runs.{Step, duration, outputsAfter, level, mark, overran, leave, cleared, run}
 use Rattle.model.specs.Stopping.{upto, Image, Saved, none, saved, imageBytes, imageOf, start, takeUp}
-use Rattle.model.specs.Answers.{bit}
+use Rattle.model.specs.Answers.{bit, valueAt, isFinished}
 use Rattle.model.specs.Replies.{Loan, badBuffers, ended, isSaved, imageOver, stopBuffers, stopImage, takenUp, resumeReply, resumeBuffers, restartReply, restartBuffers}
 use Rattle.model.specs.Placement.{Fits, Placed, StepsPlaced}
-use Rattle.model.specs.Chain.{valueAt, isFinished, Outputs, lend, hasImage, takingUp, takenUpBuffers, takenUpSteps, imageTick, End, endOf, takenUpEnd}
+use Rattle.model.specs.Chain.{Outputs, lend, hasImage, takingUp, takenUpBuffers, takenUpSteps, imageTick, End, endOf, takenUpEnd}
 use Rattle.model.proofs.Images.{image-length, image-back}
 use Rattle.theory.proofs.Within.{run-within}
 use Rattle.theory.proofs.Placing.{placed-loop-free, placed-run}

@@ -5,8 +5,7 @@ use mathlib.Core.Path.{_≡_, refl, _∙_}
 use mathlib.Core.List.{List, _++_}
 use Prim.Native.Nat.{ℕ, _≤_}
 use lib.ListN.{length, set, length-set}
-use Rattle.model.specs.Records.{wordBytes, recordBytes}
-use Rattle.model.specs.Replies.{over}
+use Rattle.model.specs.Records.{wordBytes, recordBytes, over}
 use Rattle.records.specs.declared.Record.{Record}
 use Rattle.records.specs.Records.{recordOf}
 use Rattle.records.proofs.Over.{Part, part-start, part-put, lent, back, lent-length, part-lent, part-last}
