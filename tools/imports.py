@@ -20,7 +20,7 @@ def uses(name, rest):
 def run(path):
     text = open(path).read()
     lines = text.split("\n")
-    rest = "\n".join(line for line in lines if not re.match(r"(ghost )?use ", line))
+    rest = "\n".join(re.sub(r"(^|\s)(--|//)\s.*", "", line) for line in lines if not re.match(r"(ghost )?use ", line))
     out = []
     for line in lines:
         several = re.match(r"((?:ghost )?use \S+?\.)\{([^}]*)\}(;?)$", line)

@@ -12,7 +12,7 @@ use Rattle.model.specs.Settings.{settingsOf}
 use Rattle.model.specs.Trees.{fileTree}
 use Rattle.model.specs.Times.{time}
 use Rattle.model.specs.Runs.{Step, duration, overran, leave, cleared, run}
-use Rattle.model.specs.Stopping.{upto, none, Image, imageOf, takeUp}
+use Rattle.model.specs.Stopping.{upto, Image, imageOf, takeUp}
 use Rattle.model.specs.Answers.{Verdict, stopped, ran, kept}
 use Rattle.model.specs.Replies.{reading, badLengths, readyRows, buffersOf, imageIn, stopRows, imageOver, resumeRows}
 use Rattle.records.specs.declared.settings.Decoded.{Decoded}

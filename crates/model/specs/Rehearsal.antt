@@ -9,7 +9,7 @@ use lib.ListN.{length, replicate}
 use Rattle.model.specs.Limits.{fileLength, variableCount, portCount, imageLength}
 use Rattle.model.specs.Settings.{settingsOf}
 use Rattle.model.specs.Runs.{Buffers}
-use Rattle.model.specs.Answers.{Verdict, finished, refused, bit, rehearsed, andThen, isFinished, valueAt}
+use Rattle.model.specs.Answers.{Verdict, finished, bit, rehearsed, andThen, isFinished, valueAt}
 use Rattle.model.specs.Replies.{turnDown, Loan, stepsOf, runReply, stopReply}
 use Rattle.model.specs.Timeline.{endedBy, lastSaveEnd}
 use Rattle.model.specs.Chain.{Set, Outputs, Chain, LentSet, equalising, layingOut, plainLoan, wholeLoan, stoppedLoan}

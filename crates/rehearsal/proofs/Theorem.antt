@@ -11,7 +11,7 @@ use Rattle.model.specs.Answers.{Verdict, finished, refused, bit, andThen, isFin
 use Rattle.model.specs.Replies.{runReply, stopReply}
 use Rattle.model.specs.Chain.{Set, Chain, LentOutputs, Lent, equalising, layingOut, plainLoan, wholeLoan, stoppedLoan, takingUp, End, plainEndOne, wholeEnd, stoppedEnd}
 use Rattle.theory.proofs.Demand3.{demand3}
-use Rattle.theory.proofs.Demand3.{Unseen}
+use Rattle.theory.specs.Demand3.{Unseen}
 use Rattle.model.specs.declared.Stop.{Stop}
 use Rattle.model.specs.Rehearsal.{sameEnd, zeroOutputs, chain, second, rehearsal, Admitted, Confirms}
 use Rattle.rehearsal.proofs.Alike.{same-end, bit-one}

@@ -14,7 +14,8 @@ use Rattle.model.specs.Replies.{reading, equalisedTree, equaliseReply, equalise
 use Rattle.model.specs.Answers.{isFinished, valueAt}
 use Rattle.model.specs.Chain.{Chain, Lent, equalising, layingOut, wholeLoan}
 use Rattle.model.proofs.Bench.{lettered, Holds, bench, settings, factorial, chain}
-use Rattle.theory.proofs.Demand3.{StopUnseen, demand3}
+use Rattle.theory.specs.Demand3.{StopUnseen}
+use Rattle.theory.proofs.Demand3.{demand3}
 
 pub bench-tasks : Holds lettered
 bench-tasks = bench

@@ -1,4 +1,4 @@
--- The theorems on the definitions. Start with Demand2 and Demand3; the others stand in the order in which they build on each other.
+-- The proofs of specs/. Demand2 and Demand3 say where each part is proved; the others stand in the order in which they build on each other.
 pub mod Demand2
 pub mod Demand3
 pub mod Bench

@@ -1,1 +1,1 @@
-// Theorems on the definitions of `model`, in proofs/. There is no code.
+// The demands on the definitions of `model`, in specs/, and their proofs. There is no code.

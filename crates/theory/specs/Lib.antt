@@ -1,0 +1,3 @@
+-- What is proved of the definitions: the user's demands 2 and 3.
+pub mod Demand2
+pub mod Demand3
