@@ -12,13 +12,17 @@ use Rattle.model.proofs.Shapes.{by-act}
 use Rattle.reading.specs.Closing.{opensBlock}
 use Rattle.reading.specs.Ranges.{Fills, firstPart, secondPart, afterFirst, testOf}
 
+-- the kind of a record at an index
+pub kind-is : (s : List ℕ) (i : ℕ) {r : Rec} → recordAt s i ≡ r → kindAt s i ≡ r .kind
+kind-is s i e = ap (λ (r : Rec). r .kind) e
+
 pub act-opens : (p : Act) → opensBlock (actRec p .kind) ≡ false
 act-opens p = by-act (λ k. opensBlock k ≡ false) refl refl refl refl refl refl p
 
 -- a record that opens no block is none that opens one
 pub shut : (s : List ℕ) (i : ℕ) {r : Rec} → recordAt s i ≡ r → opensBlock (r .kind) ≡ false → opensBlock (kindAt s i) ≡ true → ⊥
 shut s i e h o =
-    let same = ap (λ (r : Rec). opensBlock (r .kind)) e in
+    let same = ap opensBlock (kind-is s i e) in
     let z : _≡_ {A = ℕ} 0 1 = cc in
     omega arith
 
@@ -30,9 +34,6 @@ pub record IsAct (r : Rec) (b : Block) : Type 0 where
 
 not-skip : (p : Act) → actRec p .kind ≡ SKIP → ⊥
 not-skip p = by-act (λ k. k ≡ SKIP → ⊥) (λ e. omega arith) (λ e. omega arith) (λ e. omega arith) (λ e. omega arith) (λ e. omega arith) (λ e. omega arith) p
-
-kind-is : (s : List ℕ) (i : ℕ) {r : Rec} → recordAt s i ≡ r → kindAt s i ≡ r .kind
-kind-is s i e = ap (λ (r : Rec). r .kind) e
 
 module _ {s : List ℕ} {i to d : ℕ} (l : i < to) where
   pub skip-is : {f : Form} (b : Block) → Fills f s i to d b → kindAt s i ≡ SKIP → b ≡ skip (recordAt s i .count) (afterFirst b)

@@ -6,5 +6,6 @@ pub mod BlockEnds
 pub mod FirstKinds
 pub mod Filled
 pub mod Standing
+pub mod Walking
 pub mod ClosingTable
 pub mod Entry

@@ -14,6 +14,7 @@ use Rattle.model.specs.Trees.{Test, Block, nil, skip, act, branch, while, times
 use Rattle.model.proofs.Stands.{At, LoopAt, stands-once as one-stands}
 use Rattle.model.proofs.Sound.{OfForm, sound-file}
 use Rattle.reading.specs.Closing.{opensBlock, closesBlock, closingIn}
+use Rattle.reading.specs.Walks.{OpenAt}
 use Rattle.reading.specs.Ranges.{SoundFile, Stands, firstSize, firstPart, secondPart, afterFirst, testOf}
 use Rattle.reading.proofs.BlockEnds.{found, ends-block, ran-out}
 use Rattle.reading.proofs.FirstKinds.{act-opens, shut, IsAct, skip-is, act-is, if-is, while-is, times-is}
@@ -36,9 +37,12 @@ closes s i e h = ap (λ (r : Rec). closesBlock (r .kind)) e ∙ h
 closes-at : (s : List ℕ) (i j : ℕ) → i ≡ j → closesBlock (kindAt s i) ≡ true → closesBlock (kindAt s j) ≡ true
 closes-at s i j e h = subst (λ (k : ℕ). closesBlock (kindAt s k) ≡ true) e h
 
--- what the test of a record's kind says of the record at an index
+-- what a test of a record's kind says of the record at an index
+pub told : (p : ℕ → Bool) {k m : ℕ} {o b : Bool} → k ≡ m → o ≡ p k → o ≡ b → p m ≡ b
+told p e f g = ap p (sym e) ∙ sym f ∙ g
+
 pub closing-told : {k m : ℕ} {o b : Bool} → k ≡ m → o ≡ closesBlock k → o ≡ b → closesBlock m ≡ b
-closing-told e f g = ap closesBlock (sym e) ∙ sym f ∙ g
+closing-told e f g = told closesBlock e f g
 
 -- a block that is at i, and ends where one is closed or with the records
 pub standing-at : {f : Form} {s : List ℕ} {i to : ℕ} (b : Block) → At s i b → OfForm f b → i + size b ≤ to
@@ -68,19 +72,37 @@ module _ {f : Form} {s : List ℕ} {i to : ℕ} where
   pub stands-end : (b : Block) → Stands f s i to b → to ≤ i → b ≡ nil
   stands-end b B l = fills-none b (B .fills) (omega arith)
 
-  body-at : {k : ℕ} {q : Test} {n : ℕ} (a : Block) → LoopAt s i k q n (size a) → At s (i + 1) a → OfForm f a → i + (2 + size a) ≤ to
-      → Stands f s (i + 1) to a × (i + 1 + size a < to)
-  body-at a L at o h = (standing-at a at o (omega arith) (λ l. closes s (i + 1 + size a) (L .last) refl), omega arith)
+  -- the last part of a block
+  pub stands-last : {b : Block} (h : ℕ) (c : Block) → Stands f s i to b → At s h c → OfForm f c → h + size c ≡ i + size b → Stands f s h to c
+  stands-last {b} h c B at o e = standing-at c at o (omega (arith, B .ends)) (λ l. closes-at s (i + size b) (h + size c) (sym e) (B .stops (omega arith)))
 
-  loop-body : (b : Block) → Stands f s i to b → i < i + size b → opensBlock (kindAt s i) ≡ true → (kindAt s i ≡ IF → ⊥)
-      → Stands f s (i + 1) to (firstPart b) × (i + 1 + size (firstPart b) < to)
-  loop-body nil B h o x = absurd (omega arith)
-  loop-body (skip n b) B h o x = absurd (shut s i (B .fills .stands .0) refl o)
-  loop-body (act p b) B h o x = absurd (shut s i (B .fills .stands .0) (act-opens p) o)
-  loop-body (branch q a d b) B h o x = absurd (x (ap (λ (r : Rec). r .kind) (B .fills .stands .0 .is)))
-  loop-body (while q n a b) B h o x = body-at a (B .fills .stands .0) (B .fills .stands .1) (B .fills .of-form .1) (omega (arith, B .ends))
-  loop-body (times q n a b) B h o x = body-at a (B .fills .stands .0) (B .fills .stands .1) (B .fills .of-form .1) (omega (arith, B .ends))
+  -- the sides of an IF
+  module _ (q : Test) (a d b : Block) (B : Stands f s i to (branch q a d b)) where
+    pub stands-one : Stands f s (i + 1) to a
+    stands-one = standing-at a (B .fills .stands .1) (B .fills .of-form .1) (omega (arith, B .ends)) (λ h. closes s (i + 1 + size a) (B .fills .stands .0 .middle) refl)
 
+    pub stands-two : Stands f s (i + 2 + size a) to d
+    stands-two =
+        standing-at d (B .fills .stands .2) (B .fills .of-form .2) (omega (arith, B .ends)) (λ h. closes s (i + 2 + size a + size d) (B .fills .stands .0 .last) refl)
+
+  -- the body of a loop
+  pub stands-body : {k : ℕ} {q : Test} {n : ℕ} (a : Block) → LoopAt s i k q n (size a) → At s (i + 1) a → OfForm f a → i + (2 + size a) ≤ to → Stands f s (i + 1) to a
+  stands-body a L at o h = standing-at a at o (omega arith) (λ l. closes s (i + 1 + size a) (L .last) refl)
+
+  -- the block behind a record that opens one, which is closed in the file
+  pub stands-open : (b : Block) → Stands f s i to b → i < i + size b → opensBlock (kindAt s i) ≡ true → OpenAt f s i to b
+  stands-open nil B h o = absurd (omega arith)
+  stands-open (skip n b) B h o = absurd (shut s i (B .fills .stands .0) refl o)
+  stands-open (act p b) B h o = absurd (shut s i (B .fills .stands .0) (act-opens p) o)
+  stands-open (branch q a d b) B h o = record { first = stands-one q a d b B; ends = omega (arith, B .ends); deeper = omega arith }
+  stands-open (while q n a b) B h o =
+      let F = B .fills in
+      record { first = stands-body a (F .stands .0) (F .stands .1) (F .of-form .1) (omega (arith, B .ends)); ends = omega (arith, B .ends); deeper = omega arith }
+  stands-open (times q n a b) B h o =
+      let F = B .fills in
+      record { first = stands-body a (F .stands .0) (F .stands .1) (F .of-form .1) (omega (arith, B .ends)); ends = omega (arith, B .ends); deeper = omega arith }
+
+  -- what Walking says of a statement, for crates that do not walk with it yet
   module _ (b : Block) (B : Stands f s i to b) (l : i < to) (k : closesBlock (kindAt s i) ≡ false) where
     not-empty : size b ≤ 0 → ⊥
     not-empty h =
@@ -116,17 +138,12 @@ module _ {f : Form} {s : List ℕ} {i to : ℕ} where
       the-if = subst (Stands f s i to) if-at B
 
       pub first-side : Stands f s (i + 1) to (firstPart b)
-      first-side =
-          let F = the-if .fills in
-          standing-at (firstPart b) (F .stands .1) (F .of-form .1) (omega (arith, the-if .ends)) (λ h. closes s (i + 1 + size (firstPart b)) (F .stands .0 .middle) refl)
+      first-side = stands-one (testOf (recordAt s i)) (firstPart b) (secondPart b) (afterFirst b) the-if
 
       pub second-side : Stands f s (i + 1 + size (firstPart b) + 1) to (secondPart b)
       second-side =
-          let F = the-if .fills in
-          let n = size (firstPart b) in
-          let e : i + 2 + n ≡ i + 1 + n + 1 = omega arith in
-          subst (λ (j : ℕ). Stands f s j to (secondPart b)) e
-          (standing-at (secondPart b) (F .stands .2) (F .of-form .2) (omega (arith, the-if .ends)) (λ h. closes s (i + 2 + n + size (secondPart b)) (F .stands .0 .last) refl))
+          let e : i + 2 + size (firstPart b) ≡ i + 1 + size (firstPart b) + 1 = omega arith in
+          subst (λ (j : ℕ). Stands f s j to (secondPart b)) e (stands-two (testOf (recordAt s i)) (firstPart b) (secondPart b) (afterFirst b) the-if)
 
       -- both closings are in the file
       pub sides-end : i + 1 + size (firstPart b) + 1 + size (secondPart b) < to
@@ -141,7 +158,7 @@ module _ {f : Form} {s : List ℕ} {i to : ℕ} where
     -- a loop's body stands behind its record, and its END is in the file
     module _ (o : opensBlock (kindAt s i) ≡ true) (x : kindAt s i ≡ IF → ⊥) where
       pub body-stands : Stands f s (i + 1) to (firstPart b)
-      body-stands = loop-body b B begun o x .0
+      body-stands = stands-open b B begun o .first
 
       pub body-ends : i + 1 + size (firstPart b) < to
-      body-ends = loop-body b B begun o x .1
+      body-ends = stands-open b B begun o .ends

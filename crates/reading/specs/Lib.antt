@@ -3,4 +3,5 @@ pub mod Nesting
 pub mod Scanning
 pub mod Closing
 pub mod Ranges
+pub mod Walks
 pub mod Answers

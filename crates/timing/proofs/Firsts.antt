@@ -9,7 +9,7 @@ use mathlib.Core.List.{List}
 use Rattle.model.specs.declared.Form.{Form}
 use Rattle.model.specs.declared.Settings.{Settings}
 use Rattle.model.specs.Records.{Rec, recordAt, WHILE, TIMES}
-use Rattle.model.specs.Trees.{Test, Act, set, read, write, check, beat, save, Block, nil, skip, act, branch, while, times, actRec, testRec}
+use Rattle.model.specs.Trees.{Test, Act, set, read, write, check, beat, save, Block, nil, skip, act, branch, while, times, size, depth, actRec, testRec}
 use Rattle.model.specs.Times.{ticks, time}
 use Rattle.model.specs.Refusals.{testFits, between, fieldsFit}
 use Rattle.model.proofs.Shapes.{and-right, within, Fit}
@@ -18,6 +18,9 @@ use Rattle.records.specs.declared.Record.{Record}
 use Rattle.records.specs.Records.{recordOf}
 use Rattle.reading.specs.Closing.{opensBlock}
 use Rattle.reading.specs.Ranges.{Fills, firstSize, firstPart, secondPart, afterFirst}
+use Rattle.reading.specs.Walks.{StatementAt}
+use Rattle.reading.proofs.Filled.{size-first}
+use Rattle.reading.proofs.Walking.{some}
 use Rattle.timing.specs.Times.{stepTicks}
 use Rattle.timing.specs.Blocks.{firstTime}
 
@@ -62,11 +65,8 @@ pub record Here (s : List ℕ) (i to d : ℕ) (σ : Settings) (r : Record) : Typ
   pub same : recordOf r ≡ recordAt s i
 
 module _ {s : List ℕ} {i to d : ℕ} {σ : Settings} {r : Record} (H : Here s i to d σ r) where
-  kind-is : {x : Rec} → recordAt s i ≡ x → r .kind ≡ x .kind
-  kind-is e = ap (λ (y : Rec). y .kind) (H .same ∙ e)
-
   opens-is : {x : Rec} → recordAt s i ≡ x → opensBlock (r .kind) ≡ opensBlock (x .kind)
-  opens-is e = ap opensBlock (kind-is e)
+  opens-is e = ap (λ (y : Rec). opensBlock (y .kind)) (H .same ∙ e)
 
   pub plain-first : (f : Form) (b : Block) → opensBlock (r .kind) ≡ false → Fills f s i to d b → (stepTicks σ (recordOf r) ≡ firstTime σ b) × (firstSize b ≡ 1)
   plain-first f nil h F = absurd (omega (arith, F .ends))
@@ -75,3 +75,11 @@ module _ {s : List ℕ} {i to d : ℕ} {σ : Settings} {r : Record} (H : Here s 
   plain-first f (branch q a e b) h F = let z : _≡_ {A = ℕ} 0 1 = cc (opens-is (F .stands .0 .is)) in absurd (omega arith)
   plain-first f (while q n a b) h F = let z : _≡_ {A = ℕ} 0 1 = cc (opens-is (F .stands .0 .is)) in absurd (omega arith)
   plain-first f (times q n a b) h F = let z : _≡_ {A = ℕ} 0 1 = cc (opens-is (F .stands .0 .is)) in absurd (omega arith)
+
+-- a statement whose record opens no block
+pub plain-at : {f : Form} {s : List ℕ} {i to : ℕ} (A : StatementAt f s i to) (σ : Settings) {r : Record} → recordOf r ≡ recordAt s i → opensBlock (r .kind) ≡ false
+    → (stepTicks σ (recordOf r) ≡ firstTime σ (A .file .block)) × (firstSize (A .file .block) ≡ 1)
+plain-at {f} {s} {i} A σ {r} e o =
+    let b = A .file .block in
+    let here : Here s i (i + size b) (depth b) σ r = record { early = omega (arith, size-first b, some A); same = e } in
+    plain-first here f b o (A .file .stands .fills)

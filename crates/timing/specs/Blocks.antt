@@ -1,15 +1,13 @@
 -- What the functions over ranges of records answer, for every block that fills the range or stands at its start.
 use Prim.Native.Nat.{ℕ, _+_, _*_, _≤_, _<_, max}
 use mathlib.Core.Path.{_≡_}
-use mathlib.Core.Bool.{false}
 use mathlib.Core.List.{List}
 use Rattle.model.specs.declared.Form.{Form}
 use Rattle.model.specs.declared.Settings.{Settings}
-use Rattle.model.specs.Records.{kindAt}
 use Rattle.model.specs.Trees.{Block, nil, skip, act, branch, while, times, size, depth}
 use Rattle.model.specs.Times.{ticks, time}
-use Rattle.reading.specs.Closing.{closesBlock}
-use Rattle.reading.specs.Ranges.{Fills, Stands, Ranged, firstSize}
+use Rattle.reading.specs.Ranges.{Fills, InFile, firstSize}
+use Rattle.reading.specs.Walks.{StatementAt}
 use Rattle.timing.specs.declared.ticks.Time.{Time}
 use Rattle.timing.specs.declared.ticks.Time.the-variants.{OverPeriod}
 use Rattle.timing.specs.declared.blocks.Step.{Step}
@@ -29,23 +27,17 @@ pub record Passes (σ : Settings) (t j : ℕ) (r : Step) : Type 0 where
   pub takes : Gives (σ .period) t (r .time)
   pub goes : t ≤ σ .period → r .next ≡ j
 
--- a record of a range that closes no block
-pub record Statement (s : List ℕ) (i to : ℕ) : Type 0 where
-  pub ranged : Ranged s i to
-  pub early : i < to
-  pub goes-on : closesBlock (kindAt s i) ≡ false
-
 -- the first statement of a block, and the whole block: one that takes too long is left at the end of the range
 pub record StatementTimes (s : List ℕ) (i to d : ℕ) (σ : Settings) (r : Step) : Type 0 where
   pub low : i < r .next
   pub high : r .next ≤ to
-  pub right : (f : Form) (b : Block) → Stands f s i to b → depth b ≤ d → Passes σ (firstTime σ b) (i + firstSize b) r
+  pub right : (f : Form) (A : StatementAt f s i to) → depth (A .file .block) ≤ d → Passes σ (firstTime σ (A .file .block)) (i + firstSize (A .file .block)) r
 
 pub record SequenceTimes (s : List ℕ) (i to d : ℕ) (σ : Settings) (r : Step) : Type 0 where
   pub low : i ≤ r .next
   pub high : r .next ≤ to
   pub late : r .time ≡ OverPeriod → r .next ≡ to
-  pub right : (f : Form) (b : Block) → Stands f s i to b → depth b ≤ d → Passes σ (time σ b) (i + size b) r
+  pub right : (f : Form) (F : InFile f s i to) → depth (F .block) ≤ d → Passes σ (time σ (F .block)) (i + size (F .block)) r
 
 pub record BlockTimes (s : List ℕ) (i to d : ℕ) (σ : Settings) (r : Time) : Type 0 where
   pub right : (f : Form) (b : Block) → Fills f s i to d b → Gives (σ .period) (time σ b) r

@@ -1,6 +1,7 @@
 // The time of a block, over the range of its records.
+ghost use Prim.Native.Nat.{_<_};
 ghost use Rattle.reading.specs.Ranges.{Ranged};
-ghost use Rattle.timing.specs.Blocks.{BlockTimes, SequenceTimes, Statement, StatementTimes};
+ghost use Rattle.timing.specs.Blocks.{BlockTimes, SequenceTimes, StatementTimes};
 ghost use Rattle.timing.specs.Times.{settingsIn};
 use crate::ticks::Time;
 use crate::ticks::branch_time;
@@ -24,7 +25,7 @@ pub struct Step {
 
 // The statement at i. Where the records form no block any answer will do; a sound file never leads there.
 fn statement_time(s: &[u8], i: usize, to: usize, depth: usize, table: &[u32; 16]) -> Step
-    requires { ⌜ Statement (now s) i to ⌝ }
+    requires { ⌜ (Ranged (now s) i to) × (i < to) ⌝ }
     ensures { λ r. ⌜ StatementTimes (now (s .entry)) i to depth (settingsIn (now (table .entry))) r ⌝ }
 {
     let n = settings_in(table);

@@ -1,8 +1,10 @@
 use native.Mathlib.Omega.{arith}
 use mathlib.Core.Path.{sym, _∙_}
 use borrow.Author.Needs.{needs}
+use borrow.Author.Tests.{not-true, not-false}
 use Rattle.reading.specs.Closing.{opensBlock, closesBlock}
-use Rattle.reading.proofs.ClosingTable.{told, told-not, Opener, closing-end, closing-shut, closing-plain, first-early, closing-loop, second-early, closing-if}
+use Rattle.reading.proofs.Standing.{told}
+use Rattle.reading.proofs.ClosingTable.{Opener, closing-end, closing-shut, closing-plain, first-early, closing-loop, second-early, closing-if}
 use Rattle.reading.proofs.closings.closing_of.Statement.{statement}
 use Rattle.reading.proofs.closings.closing_of.Tie as tie
 
@@ -17,7 +19,7 @@ opener a =
       behind = p .2;
       inside = omega (arith, v .before .if1 .left);
       goes-on = told closesBlock (v .kind-at .ensures) (w .before .closes .ensures) (w .if2 .left);
-      opens = told-not opensBlock (v .kind-at .ensures) (a .before .opens .ensures) (a .if3 .left);
+      opens = told opensBlock (v .kind-at .ensures) (a .before .opens .ensures) (not-false _ (a .if3 .left));
     }
 
 returns-2 : tie.Need-returns-2
@@ -31,7 +33,7 @@ returns-3 c =
     let v = w .before .before .before .before .before in
     closing-plain (v .args .i) (v .pre .2) (omega (arith, w .before .before .if1 .left))
     (told closesBlock (w .before .kind-at .ensures) (w .closes .ensures) (c .before .before .before .if2 .left))
-    (told-not opensBlock (w .before .kind-at .ensures) (c .before .opens .ensures) (c .if3 .taken))
+    (told opensBlock (w .before .kind-at .ensures) (c .before .opens .ensures) (not-true _ (c .if3 .taken)))
 
 cast-result-3 : tie.Need-cast-result-3
 cast-result-3 c =

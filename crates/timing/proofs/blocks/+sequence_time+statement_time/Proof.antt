@@ -2,11 +2,13 @@
 use Prim.Native.Nat.{ℕ, _+_, _*_, _-_, _<_}
 use native.Mathlib.Omega.{arith}
 use mathlib.Core.Path.{_≡_, ap, sym, _∙_}
+use mathlib.Core.Bool.{false}
 use borrow.Author.Needs.{needs}
 use borrow.Author.Tests.{not-true, not-false}
-use Rattle.reading.proofs.Standing.{closing-told}
+use Rattle.reading.proofs.Standing.{told}
 use Rattle.model.specs.declared.Settings.{Settings}
-use Rattle.timing.specs.Blocks.{Statement}
+use Rattle.model.specs.Records.{kindAt}
+use Rattle.reading.specs.Closing.{closesBlock}
 use Rattle.timing.specs.Times.{stepTicks, settingsIn}
 use Rattle.timing.proofs.Given.{within}
 use Rattle.timing.proofs.Statements.{Opens, plain-times, flat-times, first-late, loop-times, second-late, branch-times}
@@ -83,25 +85,19 @@ abbrev period : {n σ : Settings} → n ≡ σ → n .period ≡ σ .period
 period e = ap (λ (σ : Settings). σ .period) e
 
 -- the next record closes no block
-there : (t : ℕ) (c : sequence-time-lts.Else1 (sequence-time-claims t) (sequence-time-at t) sequence-time.Post sequence-time-Inv-loop sequence-time-μ-loop) →
+goes-on : (t : ℕ) (c : sequence-time-lts.Else1 (sequence-time-claims t) (sequence-time-at t) sequence-time.Post sequence-time-Inv-loop sequence-time-μ-loop) →
     let a = c .before .before .before .before .before .before .before .args in
-    Statement (a .s .now) (c .before .before .before .before .loop .next) (a .to)
-there t c =
-    let w = c .before .before .before in
-    record {
-      ranged = w .before .loop .inv .ranged;
-      early = w .loop-test .taken;
-      goes-on = closing-told (c .before .before .kind-at .ensures) (c .before .closes .ensures) (c .if1 .left);
-    }
+    closesBlock (kindAt (a .s .now) (c .before .before .before .before .loop .next)) ≡ false
+goes-on t c = told closesBlock (c .before .before .kind-at .ensures) (c .before .closes .ensures) (c .if1 .left)
 
 sequence-time-returns : (t : ℕ) → sequence-time-lts.Need-returns (sequence-time-claims t) (sequence-time-at t) sequence-time.Post sequence-time-Inv-loop sequence-time-μ-loop
 sequence-time-returns t c =
-    counted-closed (c .before .before .before .before .loop .inv) (closing-told (c .before .before .kind-at .ensures) (c .before .closes .ensures) (c .if1 .taken))
+    counted-closed (c .before .before .before .before .loop .inv) (told closesBlock (c .before .before .kind-at .ensures) (c .before .closes .ensures) (c .if1 .taken))
 
 sequence-time-returns-2 : (t : ℕ) → sequence-time-lts.Need-returns-2 (sequence-time-claims t) (sequence-time-at t) sequence-time.Post sequence-time-Inv-loop sequence-time-μ-loop
 sequence-time-returns-2 t c =
     let w = c .before .before .before in
-    counted-over (w .before .before .before .before .loop .inv) (there t w) (c .before .before .statement-time .ensures) (c .enum-told .given .1)
+    counted-over (w .before .before .before .before .loop .inv) (w .before .before .before .loop-test .taken) (goes-on t w) (c .before .before .statement-time .ensures) (c .enum-told .given .1)
 
 sequence-time-sub-if2 : (t : ℕ) → sequence-time-lts.Need-sub-if2 (sequence-time-claims t) (sequence-time-at t) sequence-time.Post sequence-time-Inv-loop sequence-time-μ-loop
 sequence-time-sub-if2 t c = omega (arith, period (c .before .before .before .before .before .before .before .before .before .before .settings-in .ensures))
@@ -110,7 +106,7 @@ sequence-time-returns-3 : (t : ℕ) → sequence-time-lts.Need-returns-3 (sequen
 sequence-time-returns-3 t c =
     let w = c .before .before .before .before .before in
     let k = w .before in
-    counted-past (k .before .before .before .before .loop .inv) (there t k) (w .statement-time .ensures) (c .before .before .before .time .given .1)
+    counted-past (k .before .before .before .before .loop .inv) (k .before .before .before .loop-test .taken) (goes-on t k) (w .statement-time .ensures) (c .before .before .before .time .given .1)
     (omega (arith, c .if2 .taken, period (c .before .before .before .before .before .before .before .before .before .before .before .settings-in .ensures)))
 
 sequence-time-add-sum : (t : ℕ) → sequence-time-lts.Need-add-sum (sequence-time-claims t) (sequence-time-at t) sequence-time.Post sequence-time-Inv-loop sequence-time-μ-loop
@@ -120,7 +116,7 @@ sequence-time-loop-again : (t : ℕ) → sequence-time-lts.Need-loop-again (sequ
 sequence-time-loop-again t c =
     let w = c .before .before .before .before .before in
     let k = w .before in
-    counted-next (k .before .before .before .before .loop .inv) (there t k) (w .statement-time .ensures) (c .before .before .before .time .given .1)
+    counted-next (k .before .before .before .before .loop .inv) (k .before .before .before .loop-test .taken) (goes-on t k) (w .statement-time .ensures) (c .before .before .before .time .given .1)
     (omega (arith, c .if2 .left, period (c .before .before .before .before .before .before .before .before .before .before .before .settings-in .ensures)))
 
 -- the record opens a block
@@ -129,7 +125,7 @@ open-there : (t : ℕ) (c : statement-time-lts.Else1 (statement-time-claims t) (
     Opens (a .s .now) (a .i) (a .to) (c .before .before .record-at .result)
 open-there t c =
     record {
-      at = c .before .before .before .before .before .pre .1;
+      early = c .before .before .before .before .before .pre .1 .1;
       same = c .before .before .record-at .ensures;
       opens = sym (c .before .opens .ensures) ∙ not-false _ (c .if1 .left);
     }
@@ -138,7 +134,7 @@ statement-time-returns : (t : ℕ) → statement-time-lts.Need-returns (statemen
 statement-time-returns t c =
     let k = c .before .before in
     let e = k .before .before .before .settings-in .ensures in
-    plain-times _ _ (k .before .before .before .before .before .pre .1) (k .before .before .record-at .ensures) (sym (k .before .opens .ensures) ∙ not-true _ (k .if1 .taken))
+    plain-times _ _ (k .before .before .before .before .before .pre .1 .1) (k .before .before .record-at .ensures) (sym (k .before .opens .ensures) ∙ not-true _ (k .if1 .taken))
     (c .before .step-ticks .ensures ∙ ap (λ (σ : Settings). stepTicks σ (recordOf (k .before .before .record-at .result))) e) (within (period e) (c .up-to .ensures))
 
 statement-time-returns-4 : (t : ℕ) → statement-time-lts.Need-returns-4 (statement-time-claims t) (statement-time-at t) statement-time.Post
@@ -167,7 +163,7 @@ pub +sequence-time+statement-time-spec : {M : Type 1} → statement M
 +sequence-time+statement-time-spec =
     close μ-sequence-time μ-statement-time (λ t. sequence-time-lts.spec (sequence-time-claims t) (sequence-time-at t) sequence-time.Post
     sequence-time-Inv-loop sequence-time-μ-loop (search needs) (λ c. counted-start (c .before .before .pre .1)) (omega arith) (search needs)
-    (sequence-time-returns t) (λ c κs. (omega arith, there t c)) (search needs) (search needs) (sequence-time-returns-2 t)
+    (sequence-time-returns t) (search needs) (search needs) (search needs) (sequence-time-returns-2 t)
     (sequence-time-sub-if2 t) (sequence-time-returns-3 t) (sequence-time-add-sum t) (omega arith) (sequence-time-loop-again t)
     (λ c. counted-all (c .before .loop .inv) (c .loop-test .left)))
     λ t. statement-time-lts.spec (statement-time-claims t) (statement-time-at t) statement-time.Post (search needs) (omega arith)

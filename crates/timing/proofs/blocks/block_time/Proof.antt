@@ -10,7 +10,7 @@ sequence-time-requires : tie.Need-sequence-time-requires
 sequence-time-requires c κs = search needs
 
 returns : tie.Need-returns
-returns c = fills-times (c .before .before .ticks-of .ensures) (c .sequence-time .ensures)
+returns c = fills-times (c .before .before .before .before .pre) (c .before .before .ticks-of .ensures) (c .sequence-time .ensures)
 
 pub block-time-spec : {M : Type 1} → statement M
 block-time-spec = tie.close (tie.spec ticks-of-requires sequence-time-requires returns)
