@@ -12,6 +12,7 @@ ghost use Rattle.model.specs.Times.{longest};
 ghost use Rattle.model.specs.Replies.{shortWindow, layOutReply, layOutOut};
 ghost use Rattle.reading.specs.Ranges.{SoundFile};
 ghost use Rattle.layout.specs.Answers.{InRange, LaysOutSound};
+use lent::MEETINGS;
 use measure::measure_file;
 use model::Form;
 use model::LaidOut;
@@ -49,7 +50,7 @@ fn lay_out_sound(file: &[u8], n: Settings, out: &mut [u8]) -> LaidOut
         return LaidOut::Refused(Refusal::ShortWindow);
     }
     let t = ticks_of(n);
-    let mut meets: [u32; 1821] = [0; 1821];
+    let mut meets: [u32; MEETINGS] = [0; MEETINGS];
     let end = measure_file(file, &t, &mut meets);
     let total = end.tick as u64 + end.left as u64 + n.beat as u64;
     if (n.period as u64) < total {

@@ -5,6 +5,7 @@ use mathlib.Core.Bool.{Bool, true, false, cond, _||_}
 use mathlib.Core.List.{List, [], _∷_}
 use lib.Dec.{eqb}
 use lib.ListN.{length}
+use Rattle.model.specs.Limits.{fileRecords}
 use Rattle.model.specs.declared.Form.{Form}
 use Rattle.model.specs.declared.Settings.{Settings}
 use Rattle.model.specs.Records.{kindAt, ELSE, WHILE, TIMES}
@@ -77,7 +78,7 @@ ahead σ ins s i b bs = run σ ins b i ⊳ after σ ins s (i + size b) bs
 
 -- a file of at most so many records and the table of its closings, lent to a run at tick t
 pub record Given (s closings ins w : List ℕ) (limit t : ℕ) : Type 0 where
-  pub few : extent s ≤ 5461
+  pub few : extent s ≤ fileRecords
   pub table : Closings s (extent s) closings
   pub lent : Lent ins w
   pub early : t ≤ limit
@@ -150,5 +151,5 @@ pub record StatementRan (s : List ℕ) (i : ℕ) (σ : Settings) (ins : List ℕ
 -- the record k is one of the file's, whose closings are in the table
 pub record Inner (s : List ℕ) (k : ℕ) (closings : List ℕ) : Type 0 where
   pub before : k < extent s
-  pub few : extent s ≤ 5461
+  pub few : extent s ≤ fileRecords
   pub table : Closings s (extent s) closings

@@ -2,6 +2,7 @@
 use mathlib.Core.Path.{_≡_}
 use mathlib.Core.List.{List}
 use Prim.Native.Nat.{ℕ, _≤_}
+use Rattle.model.specs.Limits.{mostTicks}
 use Rattle.model.specs.declared.Form.{Form}
 use Rattle.model.specs.declared.Settings.{Settings}
 use Rattle.model.specs.Settings.{settingsOf}
@@ -15,4 +16,4 @@ use Rattle.records.specs.Decoded.{decoded}
 pub record Reads (s : List ℕ) (f : Form) (file : List ℕ) (r : Decoded) : Type 0 where
   pub reply : (next : Verdict) → decoded r next ≡ reading s f file next
   pub settings : (σ : Settings) → r ≡ Valid σ → σ ≡ settingsOf s
-  pub narrow : (σ : Settings) → r ≡ Valid σ → σ .window ≤ 1000000
+  pub narrow : (σ : Settings) → r ≡ Valid σ → σ .window ≤ mostTicks

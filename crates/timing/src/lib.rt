@@ -9,6 +9,7 @@ use blocks::block_time;
 use model::Form;
 use model::Refusal;
 use model::Timed;
+use model::limits::FILE_DEPTH;
 use records::settings::Decoded;
 use ticks::Time;
 
@@ -20,7 +21,7 @@ pub fn time_file(settings: &[u8], form: Form, file: &[u8]) -> Timed
     match read {
         Decoded::Refused(x) => Timed::Refused(x),
         Decoded::Valid(n) => {
-            let time = block_time(file, 0, file.len() / 12, 16, n);
+            let time = block_time(file, 0, file.len() / 12, FILE_DEPTH, n);
             match time {
                 Time::Ticks(t) => Timed::Ticks(t),
                 Time::OverPeriod => Timed::Refused(Refusal::OverPeriod),
