@@ -1,7 +1,7 @@
 -- Measuring, with the meetings that it notes: block, statement and loop, turn by turn.
 use Prim.Native.Nat.{ℕ, _+_, _≤_, _<_, min}
 use native.Mathlib.Omega.{arith}
-use mathlib.Core.Path.{_≡_, refl, ap, sym, subst, _∙_}
+use mathlib.Core.Path.{_≡_, refl, ap, sym, subst}
 use mathlib.Core.Bool.{true, false}
 use mathlib.Core.List.{List, _++_}
 use lib.ListN.{length, length-append}
@@ -22,11 +22,11 @@ use Rattle.placing.specs.States.{Stepped, Skipped, backTo}
 use Rattle.layout.specs.Ranges.{only}
 use Rattle.layout.specs.Measured.{laid, Meets, Entered, Statement, BlockPassed, StatementPassed}
 use Rattle.layout.specs.Meetings.{meetings, Noting, Noted, Notes, BlockMeasured, StatementMeasured}
-use Rattle.reading.proofs.Standing.{stands-once, skip-at}
+use Rattle.reading.proofs.Walking.{every, every-of, kind-there, skip-at, if-at, none-closed, none-ended}
 use Rattle.layout.proofs.Noting.{notes-++, notes-first, plain-step, plain-idles, noted-plain, noted-⧺}
 use Rattle.layout.proofs.Unrolled.{laid-skip, laid-act, rounds, rounds-none}
-use Rattle.layout.proofs.Passing.{in-time, Passing, passing-start, left, all-done, none-closed, none-ended, passing-done, one, passing-late, passing-next}
-use Rattle.layout.proofs.PassingSteps.{block, stands, kind-there, skip-passed, is-act, act-passed}
+use Rattle.layout.proofs.Passing.{in-time, Passing, passing-start, left, all-done, passing-done, one, passing-late, passing-next}
+use Rattle.layout.proofs.PassingSteps.{block, skip-passed, is-act, act-passed}
 use Rattle.layout.proofs.PassingRounds as loops
 use Rattle.layout.proofs.PassingRounds.{PassingRounds}
 use Rattle.layout.proofs.PassingBranches as ifs
@@ -63,16 +63,15 @@ module _ {s : List ℕ} {from to : ℕ} {σ : Settings} {at state : State} {next
   measured : left P ≡ nil → BlockMeasured s from to σ at k old new (record { state = state; next = next; ifs = n })
   measured e = record {
     passed = passing-done P e;
-    noted = λ b B l.
-        subst (λ (c : Block). Noted σ c (at .tick) k n old new)
-        (sym (all-done P e) ∙ ap (λ (x : Block). laid σ x (at .tick)) (stands-once (P .all .file .block) b (P .all .file .stands) B)) (M .noted);
+    noted = λ b B l. every (λ (x : Block). Noted σ (laid σ x (at .tick)) (at .tick) k n old new) (P .all)
+        (subst (λ (c : Block). Noted σ c (at .tick) k n old new) (sym (all-done P e)) (M .noted)) b B;
   }
 
   pub measuring-closed : closesBlock (kindAt s next) ≡ true → BlockMeasured s from to σ at k old new (record { state = state; next = next; ifs = n })
-  measuring-closed c = measured (none-closed P c)
+  measuring-closed c = measured (none-closed (P .walk) c)
 
   pub measuring-ended : to ≤ next → BlockMeasured s from to σ at k old new (record { state = state; next = next; ifs = n })
-  measuring-ended l = measured (none-ended P l)
+  measuring-ended l = measured (none-ended (P .walk) l)
 
   module _ (l : next < to) (c : closesBlock (kindAt s next) ≡ false) {table : List ℕ} {r : Passage} (S : StatementMeasured s next to σ state n new table r) where
     pub measuring-late : σ .period < r .state .tick → BlockMeasured s from to σ at k old table r
@@ -83,7 +82,7 @@ module _ {s : List ℕ} {from to : ℕ} {σ : Settings} {at state : State} {next
     measuring-next h = record {
       passing = passing-next P l c (S .passed) h;
       noted = noted-⧺ (P .done) (laid σ (only (left P)) (state .tick)) (M .few) (P .after .tick) (M .noted)
-          (S .noted (left P) (P .rest .file .stands) (in-time (S .passed .right (left P) (P .rest .file .stands)) h));
+          (S .noted (left P) (P .walk .rest .stands) (in-time (S .passed .right (left P) (P .walk .rest .stands)) h));
       few = M .few;
     }
 
@@ -99,8 +98,8 @@ module _ {s : List ℕ} {i to : ℕ} {σ : Settings} {from : State} (S : Stateme
   pub noted-as : {n : ℕ} {old new : List ℕ} (b : Block) → block S ≡ b → (c : Block) → laid σ (only b) (from .tick) ≡ c → Noted σ c (from .tick) k n old new
       → (y : Block) → Stands Equalised s i to y → Noted σ (laid σ (only y) (from .tick)) (from .tick) k n old new
   noted-as {n} {old} {new} b e c f N y Y =
-      subst (λ (x : Block). Noted σ x (from .tick) k n old new)
-      (sym f ∙ ap (λ (z : Block). laid σ (only z) (from .tick)) (sym e ∙ stands-once (block S) y (stands S) Y)) N
+      every-of (λ (z : Block). Noted σ (laid σ (only z) (from .tick)) (from .tick) k n old new) (S .here .file) e
+      (subst (λ (x : Block). Noted σ x (from .tick) k n old new) (sym f) N) y Y
 
   module _ (few : k ≤ 1821) {table : List ℕ} {x : Record} (e : recordOf x ≡ recordAt s i) where
     pub skip-measured : x .kind ≡ SKIP → {r : State} → Skipped σ (x .count) from r
@@ -109,7 +108,7 @@ module _ {s : List ℕ} {i to : ℕ} {σ : Settings} {from : State} (S : Stateme
         let n = recordAt s i .count in
         record {
           passed = skip-passed S e h A;
-          noted = λ y Y l. noted-as (skip n (afterFirst (block S))) (skip-at (block S) (stands S) (S .early) (S .goes-on) (kind-there S e h))
+          noted = λ y Y l. noted-as (skip n (afterFirst (block S))) (skip-at (S .here) (kind-there (S .here) e h))
               (idles σ n (from .tick)) (laid-skip σ n (from .tick)) (noted-plain few (plain-idles σ n (from .tick) (from .tick))) y Y;
         }
 
@@ -163,7 +162,7 @@ module _ {s : List ℕ} {i to : ℕ} {σ : Settings} {from : State} {last : ℕ}
             };
             noted = subst (λ (c : Block). Noted σ c (from .tick) k (r .ifs) old table) (sym (loops.more (L .loop) (L .kind) (L .count-is) (L .turn) l (B .passed)))
                 (noted-⧺ (rounds σ a round (from .tick)) (laid σ a (state .tick)) (M .few) (L .turn .after .tick) (M .noted)
-                (B .noted a (loops.body-there (L .loop) (L .kind)) (in-time (loops.passes (L .loop) (L .kind) (L .count-is) (L .turn) l (B .passed)) h)));
+                (B .noted a (loops.opened (L .loop) (L .kind) .first) (in-time (loops.passes (L .loop) (L .kind) (L .count-is) (L .turn) l (B .passed)) h)));
             few = M .few;
           }
 
@@ -188,7 +187,7 @@ module _ {s : List ℕ} {i to : ℕ} {σ : Settings} {from : State} (S : Stateme
   -- the first place behind its own
   module _ {n : ℕ} (e : n ≡ min (k + 1) 1821) {old mid : List ℕ} {a : Passage} (A : BlockMeasured s (i + 1) to σ test n old mid a) (l : a .state .tick ≤ σ .period) where
     first-noted : Noted σ (ifs.first S c T) (test .tick) n (a .ifs) old mid
-    first-noted = A .noted (ifs.one S c T) (ifs.one-there S c T) (in-time (A .passed .right (ifs.one S c T) (ifs.one-there S c T)) l)
+    first-noted = A .noted (ifs.one S c T) (if-at (S .here) c .first) (in-time (A .passed .right (ifs.one S c T) (if-at (S .here) c .first)) l)
 
     pub first-few : a .ifs ≤ 1821
     first-few = omega (arith, first-noted .next)
@@ -196,7 +195,7 @@ module _ {s : List ℕ} {i to : ℕ} {σ : Settings} {from : State} (S : Stateme
     module _ {end : List ℕ} {d : Passage} (D : BlockMeasured s (a .next + 1) to σ (backTo test 0 (a .state .records)) (a .ifs) mid end d) (m : d .state .tick ≤ σ .period) where
       second-noted : Noted σ (ifs.second S c T) (test .tick) (a .ifs) (d .ifs) mid end
       second-noted =
-          let there = ifs.two-at S c T h (A .passed) l in
+          let there = ifs.two-in S c T h (A .passed) l .stands in
           D .noted (ifs.two S c T) there (in-time (D .passed .right (ifs.two S c T) there) m)
 
       module _ {r : State} (M : Meets σ (a .state) (d .state) r) {new : List ℕ} (N : Noting k (r .tick) end new) where
@@ -218,5 +217,5 @@ module _ {s : List ℕ} {i to : ℕ} {σ : Settings} {from : State} (S : Stateme
         pub branch-measured : StatementMeasured s i to σ from k old new (record { state = r; next = d .next + 1; ifs = d .ifs })
         branch-measured = record {
           passed = ifs.branch-passed S c T h (A .passed) l (D .passed) m M;
-          noted = λ y Y w. noted-as S (branch (ifs.q S c T) (ifs.one S c T) (ifs.two S c T) (afterFirst (block S))) (ifs.is-if S c T) (ifs.whole S c T) (ifs.laid-whole S c T) all-noted y Y;
+          noted = λ y Y w. noted-as S (branch (ifs.q S c T) (ifs.one S c T) (ifs.two S c T) (afterFirst (block S))) (if-at (S .here) c .is) (ifs.whole S c T) (ifs.laid-whole S c T) all-noted y Y;
         }

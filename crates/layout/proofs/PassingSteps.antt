@@ -7,7 +7,7 @@ use mathlib.Core.List.{List}
 use lib.Dec.{eqb}
 use Rattle.model.specs.declared.Settings.{Settings}
 use Rattle.model.specs.declared.Form.the-variants.{Equalised}
-use Rattle.model.specs.Records.{Rec, kindAt, recordAt, SKIP, IF, TIMES}
+use Rattle.model.specs.Records.{recordAt, SKIP, IF, TIMES}
 use Rattle.model.specs.Trees.{Act, set, read, write, check, beat, save, Block, nil, skip, act, _⧺_, actRec}
 use Rattle.model.specs.Times.{ticks, longest}
 use Rattle.model.specs.Layout.{before}
@@ -16,7 +16,7 @@ use Rattle.model.proofs.Sound.{OfForm}
 use Rattle.theory.proofs.Sequences.{either}
 use Rattle.records.specs.declared.Record.{Record}
 use Rattle.records.specs.Records.{recordOf}
-use Rattle.reading.specs.Ranges.{Stands, firstSize, afterFirst}
+use Rattle.reading.specs.Ranges.{firstSize, afterFirst}
 use Rattle.reading.proofs.FirstKinds.{IsAct}
 use Rattle.timing.specs.Times.{stepTicks}
 use Rattle.timing.proofs.Firsts.{act-ticks}
@@ -25,7 +25,7 @@ use Rattle.layout.specs.declared.measure.Passage.{Passage}
 use Rattle.placing.specs.States.{Layable, After, Stepped, Skipped}
 use Rattle.layout.specs.Ranges.{only}
 use Rattle.layout.specs.Measured.{laid, Passes, Statement, StatementPassed}
-use Rattle.reading.proofs.Standing.{stands-once, skip-at}
+use Rattle.reading.proofs.Walking.{every-of, kind-there, count-there, skip-at}
 use Rattle.layout.proofs.Standing.{act-at}
 use Rattle.layout.proofs.Unrolled.{laid-skip, laid-act}
 use Rattle.layout.proofs.Passing.{passed}
@@ -42,32 +42,14 @@ act-short L (save m) F = absurd (false≢true (F .kind))
 
 module _ {s : List ℕ} {i to : ℕ} {σ : Settings} {from : State} (S : Statement s i to σ from) where
   abbrev pub block : Block
-  block = S .entered .file .block
+  block = S .here .file .block
 
-  pub stands : Stands Equalised s i to block
-  stands = S .entered .file .stands
-
-  -- what holds of the block that was asked about holds of every block at its place
-  pub answered : {r : Passage} → Passes σ (laid σ (only block) (from .tick)) (i + firstSize block) from r → StatementPassed s i to σ from r
-  answered {r} A = record {
-    right = λ b B. subst (λ (x : Block). Passes σ (laid σ (only x) (from .tick)) (i + firstSize x) from r) (stands-once block b stands B) A;
-  }
-
-  -- and so where the block is known to be b
+  -- what holds of the block that was asked about, which is b, holds of every block at its place
   pub answered-of : {r : Passage} (b : Block) → block ≡ b → Passes σ (laid σ (only b) (from .tick)) (i + firstSize b) from r → StatementPassed s i to σ from r
-  answered-of {r} b e A = answered (subst (λ (x : Block). Passes σ (laid σ (only x) (from .tick)) (i + firstSize x) from r) (sym e) A)
+  answered-of {r} b e A = record { right = every-of (λ (x : Block). Passes σ (laid σ (only x) (from .tick)) (i + firstSize x) from r) (S .here .file) e A }
 
   -- the record at i
   module _ {x : Record} (e : recordOf x ≡ recordAt s i) where
-    pub kind-there : {k : ℕ} → x .kind ≡ k → kindAt s i ≡ k
-    kind-there h = sym (ap (λ (y : Rec). y .kind) e) ∙ h
-
-    pub count-there : x .count ≡ recordAt s i .count
-    count-there = ap (λ (y : Rec). y .count) e
-
-    kind-is : kindAt s i ≡ x .kind
-    kind-is = kind-there refl
-
     -- A SKIP
 
     pub skip-passed : x .kind ≡ SKIP → {r : State} {m : ℕ} → Skipped σ (x .count) from r → StatementPassed s i to σ from (record { state = r; next = i + 1; ifs = m })
@@ -80,25 +62,27 @@ module _ {s : List ℕ} {i to : ℕ} {σ : Settings} {from : State} (S : Stateme
         n = recordAt s i .count
 
         is : block ≡ skip n (afterFirst block)
-        is = skip-at block stands (S .early) (S .goes-on) (kind-is ∙ k)
+        is = skip-at (S .here) (kind-there (S .here) e k)
 
         K′ : Skipped σ n from r
-        K′ = subst (λ (j : ℕ). Skipped σ j from r) count-there K
+        K′ = subst (λ (j : ℕ). Skipped σ j from r) (count-there (S .here) e) K
 
     -- ANY OTHER
 
     module _ (k : x .kind ≡ SKIP → ⊥) (m : x .kind ≡ IF → ⊥) (l : x .kind ≡ TIMES → ⊥) where
       pub is-act : IsAct (recordAt s i) block
-      is-act = act-at block stands (S .early) (S .goes-on) (λ h. k (sym kind-is ∙ h)) (λ h. m (sym kind-is ∙ h)) (λ h. l (sym kind-is ∙ h))
+      is-act =
+          let same = sym (kind-there (S .here) e refl) in
+          act-at (S .here) (λ h. k (same ∙ h)) (λ h. m (same ∙ h)) (λ h. l (same ∙ h))
 
       pub act-lasts : ticks σ (is-act .act-of) ≡ stepTicks σ (recordOf x)
       act-lasts = sym (ap (stepTicks σ) (e ∙ is-act .same) ∙ act-ticks σ (is-act .act-of))
 
       act-fit : Fit Equalised (actRec (is-act .act-of))
-      act-fit = subst (λ (b : Block). OfForm Equalised b) (is-act .is) (stands .fills .of-form) .0
+      act-fit = subst (λ (b : Block). OfForm Equalised b) (is-act .is) (S .here .file .stands .fills .of-form) .0
 
       pub step-short : {d : ℕ} → d ≡ stepTicks σ (recordOf x) → (1 ≤ d) × (d ≤ longest σ)
-      step-short h = let a = act-short (S .entered .laying .settings) (is-act .act-of) act-fit in omega (arith, act-lasts)
+      step-short h = let a = act-short (S .ready .laying .settings) (is-act .act-of) act-fit in omega (arith, act-lasts)
 
       pub act-passed : {d p : ℕ} {r : State} → d ≡ stepTicks σ (recordOf x) → Stepped σ from d r → StatementPassed s i to σ from (record { state = r; next = i + 1; ifs = p })
       act-passed {d} {p} {r} h T =

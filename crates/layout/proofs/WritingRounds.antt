@@ -25,7 +25,7 @@ use Rattle.layout.proofs.Unrolled.{rounds, rounds-none, rounds-first}
 use Rattle.placing.proofs.Writing.{laidBytes, Writing, writing-start, writing-same, writing-room, writing-next, writing-end}
 use Rattle.layout.proofs.Noting.{holds-left, holds-right, meetings-⧺, plain-step}
 use Rattle.layout.proofs.Passing.{passed}
-use Rattle.layout.proofs.PassingRounds.{body, test, count, is-times, body-there, body-form, check-tick, whole, laid-whole}
+use Rattle.layout.proofs.PassingRounds.{body, test, count, is-times, opened, body-form, check-tick, whole, laid-whole}
 use Rattle.layout.proofs.PassingRounds.{Rounding, rounding-start, body-entered, more, rounding-next, at-end}
 use Rattle.layout.proofs.WritingSteps.{block, fits-as, holds-as, answered-as, step-fits, step-lays}
 
@@ -76,7 +76,7 @@ module _ {s : List ℕ} {i to : ℕ} {σ : Settings} {from : State} {p : ℕ} {t
   pub rounds-start : WritingRounds from (i + 1) 0 p old
   rounds-start = record {
     rounding = rounding-start (F .statement) k last;
-    writing = writing-same (writing-start (F .statement .entered .laying .shows) (the-loop .room))
+    writing = writing-same (writing-start (F .statement .ready .laying .shows) (the-loop .room))
         (alike-eq (ap (λ (n : ℕ). rounds σ a n (from .tick) ⧺ check-from (check-tick (F .statement) k R)) (sym (sub-zero last))));
     ifs = omega (arith, ap (λ (c : Block). length (meetings σ c (from .tick))) (rounds-none σ a (from .tick)));
     holds = subst (λ (n : ℕ). Holds (meetings σ (rounds σ a n (from .tick)) (from .tick)) p table) (sym (sub-zero last)) held;
@@ -99,7 +99,7 @@ module _ {s : List ℕ} {i to : ℕ} {σ : Settings} {from : State} {p : ℕ} {t
       first =
           let m : last - round ≡ suc (last - (round + 1)) = omega arith in
           ap (λ (j : ℕ). rounds σ a j (state .tick)) m
-          ∙ rounds-first σ (W .rounding .laying .settings .fits) a (last - (round + 1)) (state .tick) (body-form (F .statement) k) (W .rounding .free)
+          ∙ rounds-first σ (W .rounding .ready .laying .settings .fits) a (last - (round + 1)) (state .tick) (body-form (F .statement) k) (W .rounding .ready .free)
 
       split : Writing σ all (one ⧺ others) from state old new
       split = writing-same (W .writing) (alike-eq (
@@ -134,7 +134,7 @@ module _ {s : List ℕ} {i to : ℕ} {σ : Settings} {from : State} {p : ℕ} {t
         B = subst (λ (v : ℕ). BlockLaid s (i + 1) to σ state n (lent new v) ys r) h B′
 
         laid-one : LaysTo σ one (i + 1 + size a) n state (lent new (laidBytes from state)) ys r
-        laid-one = B .right a (body-there (F .statement) k)
+        laid-one = B .right a (opened (F .statement) k .first)
 
         more-meetings : meetings σ (rounds σ a (round + 1) (from .tick)) (from .tick) ≡ meetings σ (rounds σ a round (from .tick)) (from .tick) ++ meetings σ one (state .tick)
         more-meetings =

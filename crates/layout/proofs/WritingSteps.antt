@@ -4,7 +4,6 @@ use native.Mathlib.Omega.{arith}
 use mathlib.Core.Path.{_≡_, refl, ap, sym, subst, _∙_}
 use mathlib.Core.List.{List, _++_}
 use lib.ListN.{length}
-use Rattle.model.specs.declared.Form.the-variants.{Equalised}
 use Rattle.model.specs.declared.Settings.{Settings}
 use Rattle.model.specs.Records.{Rec, recordAt, SKIP, IF, TIMES, over}
 use Rattle.model.specs.Trees.{Act, Block, nil, skip, act, _⧺_, actRec}
@@ -14,7 +13,7 @@ use Rattle.records.specs.declared.Record.{Record}
 use Rattle.records.specs.Records.{recordOf}
 use Rattle.records.specs.Blocks.{skipBytes}
 use Rattle.records.proofs.Blocks.{waiting-bytes, act-bytes}
-use Rattle.reading.specs.Ranges.{Stands, firstSize, afterFirst}
+use Rattle.reading.specs.Ranges.{firstSize, afterFirst}
 use Rattle.reading.proofs.FirstKinds.{IsAct}
 use Rattle.timing.specs.Times.{stepTicks}
 use Rattle.placing.specs.declared.clock.State.{State}
@@ -26,11 +25,11 @@ use Rattle.layout.specs.Meetings.{meetings, Holds}
 use Rattle.placing.specs.Placed.{bytesOf, Room, Lays, stepBytes, StepLaid}
 use Rattle.layout.specs.Written.{LaidFits, StatementFits, LaysTo, StatementLaid}
 use Rattle.placing.proofs.Settling.{bytes-settled}
-use Rattle.reading.proofs.Standing.{stands-once, skip-at}
+use Rattle.reading.proofs.Walking.{every-of, kind-there, count-there, skip-at}
 use Rattle.layout.proofs.Unrolled.{laid-skip, laid-act}
 use Rattle.layout.proofs.Noting.{plain-idles, plain-step}
 use Rattle.layout.proofs.Passing.{passed}
-use Rattle.layout.proofs.PassingSteps.{kind-there, count-there, is-act, act-lasts}
+use Rattle.layout.proofs.PassingSteps.{is-act, act-lasts}
 
 -- A STEP
 
@@ -59,10 +58,7 @@ laid-passed L = record { right = λ b B. passed (L .right b B .lays .after) (L .
 
 module _ {s : List ℕ} {i to : ℕ} {σ : Settings} {from : State} {k : ℕ} {table old : List ℕ} (F : StatementFits s i to σ from k table old) where
   abbrev pub block : Block
-  block = F .statement .entered .file .block
-
-  pub stands : Stands Equalised s i to block
-  stands = F .statement .entered .file .stands
+  block = F .statement .here .file .block
 
   -- where the block is known to be b, and its first statement is laid as c
   module _ (b : Block) (e : block ≡ b) (c : Block) (f : laid σ (only b) (from .tick) ≡ c) where
@@ -74,8 +70,7 @@ module _ {s : List ℕ} {i to : ℕ} {σ : Settings} {from : State} {k : ℕ} {t
 
     pub answered-as : {new : List ℕ} {r : Passage} → LaysTo σ c (i + firstSize b) k from old new r → StatementLaid s i to σ from k old new r
     answered-as {new} {r} L = record {
-      right = λ y Y.
-          subst (λ (z : Block). LaysTo σ (laid σ (only z) (from .tick)) (i + firstSize z) k from old new r) (sym e ∙ stands-once block y stands Y)
+      right = every-of (λ (z : Block). LaysTo σ (laid σ (only z) (from .tick)) (i + firstSize z) k from old new r) (F .statement .here .file) e
           (subst (λ (x : Block). LaysTo σ x (i + firstSize b) k from old new r) (sym f) L);
     }
 
@@ -87,10 +82,10 @@ module _ {s : List ℕ} {i to : ℕ} {σ : Settings} {from : State} {k : ℕ} {t
       n = recordAt s i .count
 
       is-skip : block ≡ skip n (afterFirst block)
-      is-skip = skip-at block stands (F .statement .early) (F .statement .goes-on) (kind-there (F .statement) e h)
+      is-skip = skip-at (F .statement .here) (kind-there (F .statement .here) e h)
 
       as-skips : laid σ (only (skip n (afterFirst block))) (from .tick) ≡ idles σ (x .count) (from .tick)
-      as-skips = laid-skip σ n (from .tick) ∙ ap (λ (m : ℕ). idles σ m (from .tick)) (sym (count-there (F .statement) e))
+      as-skips = laid-skip σ n (from .tick) ∙ ap (λ (m : ℕ). idles σ m (from .tick)) (sym (count-there (F .statement .here) e))
 
       skip-fits : LaidFits σ (idles σ (x .count) (from .tick)) from old
       skip-fits = fits-as (skip n (afterFirst block)) is-skip _ as-skips
