@@ -11,7 +11,7 @@ use borrow.Author.Tests.{eqb-true, eqb-false, ltb-true, ltb-false}
 use Rattle.model.specs.declared.Form.the-variants.{Equalised}
 use Rattle.model.specs.declared.Settings.{Settings}
 use Rattle.model.specs.Records.{Rec, kindAt, recordAt, SKIP, TIMES}
-use Rattle.model.specs.Trees.{Test, check, Block, nil, skip, act, times, _⧺_, size}
+use Rattle.model.specs.Trees.{Test, check, Block, nil, skip, act, _⧺_, size}
 use Rattle.model.specs.Times.{time}
 use Rattle.model.specs.Layout.{before, idle, idles}
 use Rattle.model.specs.Placement.{Fits}
@@ -36,16 +36,16 @@ use Rattle.placing.proofs.Settling.{alike-eq}
 use Rattle.layout.specs.declared.skips.Idle.{Idle}
 use Rattle.layout.specs.Idling.{IdleBody, AllIdle, IdleLoop, IdleAt, SkipsFit, SkipsLaid, checked, checkRec, IdleEnds, IdleFits, IdleLaid}
 use Rattle.layout.specs.Ranges.{only}
-use Rattle.layout.specs.Measured.{laid, Passes, Statement}
+use Rattle.layout.specs.Measured.{laid, Statement}
 use Rattle.layout.specs.Meetings.{meetings, StatementMeasured}
 use Rattle.layout.specs.Written.{LaidFits, StatementFits, StatementLaid}
-use Rattle.layout.proofs.Unrolled.{rounds, rounds-none, rounds-first, laid-nil, laid-times, laid-free}
+use Rattle.layout.proofs.Unrolled.{rounds, rounds-none, rounds-first, laid-nil, laid-free}
 use Rattle.layout.proofs.Noting.{plain-checked, noted-plain}
 use Rattle.layout.proofs.Passing.{laying-on}
-use Rattle.layout.proofs.PassingSteps.{block, answered-of}
+use Rattle.layout.proofs.PassingSteps.{LaidAs, answered}
 use Rattle.layout.proofs.PassingRounds as loops
 use Rattle.layout.proofs.Measuring.{noted-as}
-use Rattle.layout.proofs.WritingSteps.{fits-as, answered-as, step-fits, step-lays, skip-soon, skip-room, skip-laid}
+use Rattle.layout.proofs.WritingSteps.{fits-as, answered-as, step-fits, step-lays, skip-fits, skip-laid}
 
 -- TICKS OF SKIP
 
@@ -300,16 +300,12 @@ module _ {s : List ℕ} {i to : ℕ} {σ : Settings} {from : State} (S : Stateme
   abbrev whole : Block
   whole = checked σ (the .all) (loops.test S k) (from .tick)
 
-  abbrev loop : Block
-  loop = times (loops.test S k) (loops.count S k) (loops.body S k) (afterFirst (block S))
-
-  laid-idle : laid σ (only loop) (from .tick) ≡ whole
+  idle-as : LaidAs S whole (2 + size (loops.body S k))
   unfolding rounds
-  laid-idle =
+  idle-as =
+      let A = loops.times-as S k e in
       let rest : Block → Block = λ b. before σ (from .tick + time σ b) 1 ⧺ act (check (loops.test S k)) nil in
-      laid-times σ (S .ready .laying .settings .fits) (loops.test S k) (loops.count S k) (loops.body S k) (from .tick) (loops.body-form S k) (S .ready .free)
-      ∙ ap (λ (n : ℕ). let b = rounds σ (loops.body S k) n (from .tick) in b ⧺ rest b) (sym e)
-      ∙ ap (λ (b : Block). b ⧺ rest b) (the .same σ (S .ready .laying .settings .fits) (from .tick) (S .ready .free))
+      record { same = A .same ∙ ap (λ (b : Block). b ⧺ rest b) (the .same σ (S .ready .laying .settings .fits) (from .tick) (S .ready .free)); records = A .records }
 
   -- its END stands at the next record
   pub idle-inside : r .next < to
@@ -326,10 +322,8 @@ module _ {s : List ℕ} {i to : ℕ} {σ : Settings} {from : State} (S : Stateme
   idle-measured {p} {table} {x} few E′ =
       let E = idle-capped (the .told) E′ in
       record {
-        passed = answered-of S loop (loops.is-times S k)
-            (subst (λ (b : Block). Passes σ b (i + (2 + size (loops.body S k))) from (record { state = x; next = r .next + 1; ifs = p })) (sym laid-idle)
-            (record { late = E .late (loops.test S k); after = E .after (loops.test S k); goes = λ h. goes }));
-        noted = λ y Y l. noted-as S loop (loops.is-times S k) whole laid-idle (noted-plain few plain) y Y;
+        passed = answered idle-as (record { late = E .late (loops.test S k); after = E .after (loops.test S k); goes = λ h. goes });
+        noted = λ y Y l. noted-as idle-as (noted-plain few plain) y Y;
       }
 
 module _ {s : List ℕ} {i to : ℕ} {σ : Settings} {from : State} {p : ℕ} {table old : List ℕ} (F : StatementFits s i to σ from p table old) (k : kindAt s i ≡ TIMES) {x : Rec}
@@ -338,7 +332,7 @@ module _ {s : List ℕ} {i to : ℕ} {σ : Settings} {from : State} {p : ℕ} {t
   same-count = ap (λ (y : Rec). y .count) e
 
   fits : LaidFits σ (whole (F .statement) k same-count A o) from old
-  fits = fits-as F (loop (F .statement) k same-count A o) (loops.is-times (F .statement) k) _ (laid-idle (F .statement) k same-count A o)
+  fits = fits-as F (idle-as (F .statement) k same-count A o)
 
   -- so the ticks are told
   same-whole : checked σ (r .ticks) (testOf x) (from .tick) ≡ whole (F .statement) k same-count A o
@@ -362,7 +356,7 @@ module _ {s : List ℕ} {i to : ℕ} {σ : Settings} {from : State} {p : ℕ} {t
 
   idle-written : {new : List ℕ} {y : State} → IdleLaid σ (r .ticks) x from old new y → StatementLaid s i to σ from p old new (record { state = y; next = r .next + 1; ifs = p })
   idle-written {new} {y} I =
-      answered-as F (loop (F .statement) k same-count A o) (loops.is-times (F .statement) k) _ (laid-idle (F .statement) k same-count A o)
+      answered-as F (idle-as (F .statement) k same-count A o)
       (record {
         lays = subst (λ (b : Block). Lays σ b from old new y) same-whole (I .lays);
         goes = goes (F .statement) k same-count A o;
@@ -395,7 +389,7 @@ module _ {s : List ℕ} {i to : ℕ} {σ : Settings} {from : State} {p : ℕ} {t
         go true z =
             let k = eqb-true (x .kind) SKIP z in
             subst (λ (m : ℕ). SkipsFit σ m (recordOf x) from old) (sym (I .skip k .1))
-            (record { laying = F .statement .ready .laying; within = skip-soon F e k; room = skip-room F e k; check = λ h. absurd (h k) })
+            (record { laying = F .statement .ready .laying; within = skip-fits F e k .within; room = skip-fits F e k .room; check = λ h. absurd (h k) })
         go false z =
             let h = eqb-false (x .kind) SKIP z in
             let L = loop-fits h o in

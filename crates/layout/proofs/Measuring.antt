@@ -8,13 +8,12 @@ use lib.ListN.{length, length-append}
 use Rattle.model.specs.declared.Form.the-variants.{Equalised}
 use Rattle.model.specs.declared.Settings.{Settings}
 use Rattle.model.specs.Records.{kindAt, recordAt, SKIP, IF, TIMES}
-use Rattle.model.specs.Trees.{check, Block, nil, skip, act, branch, times, _⧺_}
-use Rattle.model.specs.Times.{ticks}
-use Rattle.model.specs.Layout.{before, idles}
+use Rattle.model.specs.Trees.{check, Block, nil, act, _⧺_}
+use Rattle.model.specs.Layout.{before}
 use Rattle.records.specs.declared.Record.{Record}
 use Rattle.records.specs.Records.{recordOf}
 use Rattle.reading.specs.Closing.{closesBlock}
-use Rattle.reading.specs.Ranges.{Stands, afterFirst}
+use Rattle.reading.specs.Ranges.{Stands}
 use Rattle.timing.specs.Times.{stepTicks}
 use Rattle.placing.specs.declared.clock.State.{State}
 use Rattle.layout.specs.declared.measure.Passage.{Passage}
@@ -22,11 +21,11 @@ use Rattle.placing.specs.States.{Stepped, Skipped, backTo}
 use Rattle.layout.specs.Ranges.{only}
 use Rattle.layout.specs.Measured.{laid, Meets, Entered, Statement, BlockPassed, StatementPassed}
 use Rattle.layout.specs.Meetings.{meetings, Noting, Noted, Notes, BlockMeasured, StatementMeasured}
-use Rattle.reading.proofs.Walking.{every, every-of, kind-there, skip-at, if-at, none-closed, none-ended}
+use Rattle.reading.proofs.Walking.{every, if-at, none-closed, none-ended}
 use Rattle.layout.proofs.Noting.{notes-++, notes-first, plain-step, plain-idles, noted-plain, noted-⧺}
-use Rattle.layout.proofs.Unrolled.{laid-skip, laid-act, rounds, rounds-none}
+use Rattle.layout.proofs.Unrolled.{rounds, rounds-none}
 use Rattle.layout.proofs.Passing.{in-time, Passing, passing-start, left, all-done, passing-done, one, passing-late, passing-next}
-use Rattle.layout.proofs.PassingSteps.{block, skip-passed, is-act, act-passed}
+use Rattle.layout.proofs.PassingSteps.{LaidAs, laid-every, skip-as, skip-passed, is-act, act-as, act-passed}
 use Rattle.layout.proofs.PassingRounds as loops
 use Rattle.layout.proofs.PassingRounds.{PassingRounds}
 use Rattle.layout.proofs.PassingBranches as ifs
@@ -93,35 +92,25 @@ side-empty E h c = measuring-closed (measuring-start E h) c
 
 -- A STATEMENT
 
-module _ {s : List ℕ} {i to : ℕ} {σ : Settings} {from : State} (S : Statement s i to σ from) {k : ℕ} where
-  -- where the block is known to be b, and its first statement is laid as c
-  pub noted-as : {n : ℕ} {old new : List ℕ} (b : Block) → block S ≡ b → (c : Block) → laid σ (only b) (from .tick) ≡ c → Noted σ c (from .tick) k n old new
-      → (y : Block) → Stands Equalised s i to y → Noted σ (laid σ (only y) (from .tick)) (from .tick) k n old new
-  noted-as {n} {old} {new} b e c f N y Y =
-      every-of (λ (z : Block). Noted σ (laid σ (only z) (from .tick)) (from .tick) k n old new) (S .here .file) e
-      (subst (λ (x : Block). Noted σ x (from .tick) k n old new) (sym f) N) y Y
+-- one that is laid as c
+pub noted-as : {s : List ℕ} {i to : ℕ} {σ : Settings} {from : State} {S : Statement s i to σ from} {c : Block} {m k n : ℕ} {old new : List ℕ} → LaidAs S c m
+    → Noted σ c (from .tick) k n old new → (y : Block) → Stands Equalised s i to y → Noted σ (laid σ (only y) (from .tick)) (from .tick) k n old new
+noted-as {σ = σ} {from} {k = k} {n} {old} {new} A N y Y = laid-every (λ (d : Block) (m : ℕ). Noted σ d (from .tick) k n old new) A N y Y
 
-  module _ (few : k ≤ 1821) {table : List ℕ} {x : Record} (e : recordOf x ≡ recordAt s i) where
-    pub skip-measured : x .kind ≡ SKIP → {r : State} → Skipped σ (x .count) from r
-        → StatementMeasured s i to σ from k table table (record { state = r; next = i + 1; ifs = k })
-    skip-measured h A =
-        let n = recordAt s i .count in
-        record {
-          passed = skip-passed S e h A;
-          noted = λ y Y l. noted-as (skip n (afterFirst (block S))) (skip-at (S .here) (kind-there (S .here) e h))
-              (idles σ n (from .tick)) (laid-skip σ n (from .tick)) (noted-plain few (plain-idles σ n (from .tick) (from .tick))) y Y;
-        }
+module _ {s : List ℕ} {i to : ℕ} {σ : Settings} {from : State} (S : Statement s i to σ from) {k : ℕ} (few : k ≤ 1821) {table : List ℕ} {x : Record} (e : recordOf x ≡ recordAt s i) where
+  pub skip-measured : x .kind ≡ SKIP → {r : State} → Skipped σ (x .count) from r
+      → StatementMeasured s i to σ from k table table (record { state = r; next = i + 1; ifs = k })
+  skip-measured h A = record {
+    passed = skip-passed S e h A;
+    noted = λ y Y l. noted-as (skip-as S e h) (noted-plain few (plain-idles σ (x .count) (from .tick) (from .tick))) y Y;
+  }
 
-    pub act-measured : (x .kind ≡ SKIP → ⊥) → (x .kind ≡ IF → ⊥) → (x .kind ≡ TIMES → ⊥) → {d : ℕ} {r : State} → d ≡ stepTicks σ (recordOf x) → Stepped σ from d r
-        → StatementMeasured s i to σ from k table table (record { state = r; next = i + 1; ifs = k })
-    act-measured a b c h T =
-        let p = is-act S e a b c in
-        let lead = before σ (from .tick) (ticks σ (p .act-of)) in
-        record {
-          passed = act-passed S e a b c h T;
-          noted = λ y Y l. noted-as (act (p .act-of) (afterFirst (block S))) (p .is) (lead ⧺ act (p .act-of) nil) (laid-act σ (p .act-of) (from .tick))
-              (noted-plain few (plain-step σ (ticks σ (p .act-of)) (p .act-of) (from .tick))) y Y;
-        }
+  pub act-measured : (x .kind ≡ SKIP → ⊥) → (x .kind ≡ IF → ⊥) → (x .kind ≡ TIMES → ⊥) → {d : ℕ} {r : State} → d ≡ stepTicks σ (recordOf x) → Stepped σ from d r
+      → StatementMeasured s i to σ from k table table (record { state = r; next = i + 1; ifs = k })
+  act-measured a b c {d} h T = record {
+    passed = act-passed S e a b c h T;
+    noted = λ y Y l. noted-as (act-as S e a b c h) (noted-plain few (plain-step σ d (is-act S e a b c .act-of) (from .tick))) y Y;
+  }
 
 -- A LOOP
 
@@ -175,8 +164,7 @@ module _ {s : List ℕ} {i to : ℕ} {σ : Settings} {from : State} {last : ℕ}
           let N = subst (λ (m : ℕ). Noted σ (rounds σ a m (from .tick)) (from .tick) k n old new) (loops.done (L .loop) (L .kind) (L .count-is) (L .turn) l) (M .noted) in
           record {
             passed = loops.rounds-passed (L .loop) (L .kind) (L .count-is) (L .turn) l T;
-            noted = λ y Y h. noted-as (L .loop) (times q (loops.count (L .loop) (L .kind)) a (afterFirst (block (L .loop)))) (loops.is-times (L .loop) (L .kind))
-                (loops.whole (L .loop) (L .kind) (L .count-is)) (loops.laid-whole (L .loop) (L .kind) (L .count-is))
+            noted = λ y Y h. noted-as (loops.times-as (L .loop) (L .kind) (L .count-is))
                 (noted-⧺ (rounds σ a last (from .tick)) (before σ u 1 ⧺ act (check q) nil) (M .few) refl N (noted-plain loop-few (plain-step σ 1 (check q) u))) y Y;
           }
 
@@ -217,5 +205,5 @@ module _ {s : List ℕ} {i to : ℕ} {σ : Settings} {from : State} (S : Stateme
         pub branch-measured : StatementMeasured s i to σ from k old new (record { state = r; next = d .next + 1; ifs = d .ifs })
         branch-measured = record {
           passed = ifs.branch-passed S c T h (A .passed) l (D .passed) m M;
-          noted = λ y Y w. noted-as S (branch (ifs.q S c T) (ifs.one S c T) (ifs.two S c T) (afterFirst (block S))) (if-at (S .here) c .is) (ifs.whole S c T) (ifs.laid-whole S c T) all-noted y Y;
+          noted = λ y Y w. noted-as (ifs.branch-as S c T) all-noted y Y;
         }

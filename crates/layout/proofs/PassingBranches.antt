@@ -20,7 +20,6 @@ use Rattle.placing.specs.declared.clock.State.{State}
 use Rattle.layout.specs.declared.measure.Passage.{Passage}
 use Rattle.placing.specs.Merging.{waits}
 use Rattle.placing.specs.States.{cap, After, Stepped, backTo}
-use Rattle.layout.specs.Ranges.{only}
 use Rattle.layout.specs.Measured.{laid, Passes, Met, Meeting, Meets, Ready, Entered, Statement, BlockPassed, StatementPassed}
 use Rattle.layout.specs.Meetings.{meetings}
 use Rattle.placing.proofs.Settling.{waits-⧺, size-settled}
@@ -29,7 +28,7 @@ use Rattle.reading.proofs.Walking.{first-in, if-at, second-in}
 use Rattle.layout.proofs.Noting.{meetings-⧺, plain-before, plain-fill}
 use Rattle.layout.proofs.Unrolled.{laid-branch, laid-free, filled-ends}
 use Rattle.layout.proofs.Passing.{in-time, too-late, passed, passed-late, laying-on}
-use Rattle.layout.proofs.PassingSteps.{block, answered-of}
+use Rattle.layout.proofs.PassingSteps.{LaidAs, laid-as, answered, block}
 
 -- An IF from t on, whose test ended at `test` and whose sides are laid as a and d and meet at e.
 module _ {σ : Settings} {from test : State} (q : Test) (a d : Block) (fits : Fits σ) (A : After σ (before σ (from .tick) 1 ⧺ act (check q) nil) from test) where
@@ -118,16 +117,13 @@ module _ {s : List ℕ} {i to : ℕ} {σ : Settings} {from : State} (S : Stateme
   abbrev pub whole : Block
   whole = lead ⧺ branch q (filled σ (test .tick) first end) (filled σ (test .tick) second end) nil
 
-  pub laid-whole : laid σ (only (branch q one two (afterFirst (block S)))) (from .tick) ≡ whole
-  laid-whole =
-      laid-branch σ q one two (from .tick)
+  pub branch-as : LaidAs S whole (3 + size one + size two)
+  branch-as =
+      laid-as (branch q one two (afterFirst (block S))) (if-at (S .here) k .is)
+      (laid-branch σ q one two (from .tick)
       ∙ ap (λ (u : ℕ).
       let e = u + max (time σ (laid σ one u)) (time σ (laid σ two u)) in
-      lead ⧺ branch q (filled σ u (laid σ one u) e) (filled σ u (laid σ two u) e) nil) (sym test-tick)
-
-  told : {r : Passage} → Passes σ whole (i + (3 + size one + size two)) from r → StatementPassed s i to σ from r
-  told {r} A =
-      answered-of S (branch q one two (afterFirst (block S))) (if-at (S .here) k .is) (subst (λ (c : Block). Passes σ c (i + (3 + size one + size two)) from r) (sym laid-whole) A)
+      lead ⧺ branch q (filled σ u (laid σ one u) e) (filled σ u (laid σ two u) e) nil) (sym test-tick))
 
   -- where each side ends, and where they meet
   pub first-free : Free σ 1 (test .tick + time σ first)
@@ -176,7 +172,7 @@ module _ {s : List ℕ} {i to : ℕ} {σ : Settings} {from : State} (S : Stateme
       )
 
   pub test-late : {m : ℕ} → σ .period < test .tick → StatementPassed s i to σ from (record { state = test; next = i; ifs = m })
-  test-late h = told (passed-late (omega (arith, not-before)) h)
+  test-late h = answered branch-as (passed-late (omega (arith, not-before)) h)
 
   module _ (h : test .tick ≤ σ .period) where
     pub ready : Ready σ test
@@ -203,7 +199,7 @@ module _ {s : List ℕ} {i to : ℕ} {σ : Settings} {from : State} (S : Stateme
       one-passes = A .right one (if-at (S .here) k .first)
 
       pub one-late : σ .period < a .state .tick → StatementPassed s i to σ from a
-      one-late l = told (passed-late (omega (arith, not-before, too-late one-passes l)) l)
+      one-late l = answered branch-as (passed-late (omega (arith, not-before, too-late one-passes l)) l)
 
       module _ (l : a .state .tick ≤ σ .period) where
         pub one-after : After σ first test (a .state)
@@ -229,7 +225,7 @@ module _ {s : List ℕ} {i to : ℕ} {σ : Settings} {from : State} (S : Stateme
           two-passes = D .right two (two-in .stands)
 
           pub two-late : σ .period < d .state .tick → StatementPassed s i to σ from d
-          two-late m = told (passed-late (omega (arith, not-before, too-late two-passes m)) m)
+          two-late m = answered branch-as (passed-late (omega (arith, not-before, too-late two-passes m)) m)
 
           module _ (m : d .state .tick ≤ σ .period) where
             pub two-after : After σ second second-start (d .state)
@@ -253,4 +249,4 @@ module _ {s : List ℕ} {i to : ℕ} {σ : Settings} {from : State} (S : Stateme
               met = M .right test first second test-wait one-after two-after
 
               pub branch-passed : {p : ℕ} → StatementPassed s i to σ from (record { state = r; next = d .next + 1; ifs = p })
-              branch-passed = told (passed (branch-after q first second (S .ready .laying .settings .fits) tested met first-free second-free) (omega (arith, two-goes)))
+              branch-passed = answered branch-as (passed (branch-after q first second (S .ready .laying .settings .fits) tested met first-free second-free) (omega (arith, two-goes)))

@@ -20,14 +20,13 @@ use Rattle.reading.specs.Walks.{OpenAt}
 use Rattle.placing.specs.declared.clock.State.{State}
 use Rattle.layout.specs.declared.measure.Passage.{Passage}
 use Rattle.placing.specs.States.{After, Stepped}
-use Rattle.layout.specs.Ranges.{only}
 use Rattle.layout.specs.Measured.{laid, Passes, Ready, Entered, Statement, BlockPassed, StatementPassed}
 use Rattle.placing.proofs.Going.{after-nil, after-⧺}
 use Rattle.reading.proofs.Walking.{times-at, open-at, first-in}
 use Rattle.layout.proofs.Standing.{some-rounds}
 use Rattle.layout.proofs.Unrolled.{rounds, rounds-none, rounds-more, laid-times, laid-free}
 use Rattle.layout.proofs.Passing.{in-time, too-late, passed, passed-late, laying-on}
-use Rattle.layout.proofs.PassingSteps.{block, answered-of}
+use Rattle.layout.proofs.PassingSteps.{LaidAs, laid-as, answered, block}
 
 -- more rounds take longer
 rounds-longer : (σ : Settings) (fits : Fits σ) (a : Block) (m k t : ℕ) → OfForm Equalised a → Free σ 0 t → time σ (rounds σ a m t) ≤ time σ (rounds σ a (m + k) t)
@@ -53,9 +52,6 @@ module _ {s : List ℕ} {i to : ℕ} {σ : Settings} {from : State} (S : Stateme
 
   abbrev pub count : ℕ
   count = recordAt s i .count
-
-  pub is-times : block S ≡ times test count body (afterFirst (block S))
-  is-times = times-at (S .here) k
 
   pub opened : OpenAt Equalised s i to (block S)
   opened = open-at (S .here) (ap opensBlock k)
@@ -86,15 +82,11 @@ module _ {s : List ℕ} {i to : ℕ} {σ : Settings} {from : State} (S : Stateme
     abbrev pub whole : Block
     whole = rounds σ body last (from .tick) ⧺ (before σ check-tick 1 ⧺ act (check test) nil)
 
-    pub laid-whole : laid σ (only (times test count body (afterFirst (block S)))) (from .tick) ≡ whole
-    laid-whole =
-        laid-times σ (S .ready .laying .settings .fits) test count body (from .tick) body-form (S .ready .free)
-        ∙ ap (λ (n : ℕ). let c = rounds σ body n (from .tick) in c ⧺ (before σ (from .tick + time σ c) 1 ⧺ act (check test) nil)) (sym R)
-
-    pub told : {r : Passage} → Passes σ whole (i + (2 + size body)) from r → StatementPassed s i to σ from r
-    told {r} A =
-        answered-of S (times test count body (afterFirst (block S))) is-times
-        (subst (λ (c : Block). Passes σ c (i + (2 + size body)) from r) (sym laid-whole) A)
+    pub times-as : LaidAs S whole (2 + size body)
+    times-as =
+        laid-as (times test count body (afterFirst (block S))) (times-at (S .here) k)
+        (laid-times σ (S .ready .laying .settings .fits) test count body (from .tick) body-form (S .ready .free)
+        ∙ ap (λ (n : ℕ). let c = rounds σ body n (from .tick) in c ⧺ (before σ (from .tick + time σ c) 1 ⧺ act (check test) nil)) (sym R))
 
     module _ {state : State} {next round : ℕ} (P : Rounding last state next round) where
       -- A ROUND
@@ -129,7 +121,7 @@ module _ {s : List ℕ} {i to : ℕ} {σ : Settings} {from : State} (S : Stateme
             )
 
         pub rounding-late : σ .period < r .state .tick → StatementPassed s i to σ from r
-        rounding-late h = told (passed-late (omega (arith, not-before, too-late passes h)) h)
+        rounding-late h = answered times-as (passed-late (omega (arith, not-before, too-late passes h)) h)
 
         pub rounding-next : r .state .tick ≤ σ .period → Rounding last (r .state) (r .next) (round + 1)
         rounding-next h =
@@ -155,7 +147,7 @@ module _ {s : List ℕ} {i to : ℕ} {σ : Settings} {from : State} (S : Stateme
         at-end = P .later (omega (arith, done, R, some-rounds (S .here) k))
 
         pub rounds-passed : {r : State} {m : ℕ} → Stepped σ state 1 r → StatementPassed s i to σ from (record { state = r; next = next + 1; ifs = m })
-        rounds-passed {r} T = told (passed (after-⧺ (rounds σ body last (from .tick)) (before σ check-tick 1 ⧺ act (check test) nil) P′ C) (omega (arith, at-end)))
+        rounds-passed {r} T = answered times-as (passed (after-⧺ (rounds σ body last (from .tick)) (before σ check-tick 1 ⧺ act (check test) nil) P′ C) (omega (arith, at-end)))
           where
             P′ : After σ (rounds σ body last (from .tick)) from state
             P′ = subst (λ (n : ℕ). After σ (rounds σ body n (from .tick)) from state) done (P .after)

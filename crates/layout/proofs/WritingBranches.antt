@@ -21,7 +21,6 @@ use Rattle.placing.specs.declared.clock.State.{State}
 use Rattle.layout.specs.declared.measure.Passage.{Passage}
 use Rattle.placing.specs.Merging.{settled, waits}
 use Rattle.placing.specs.States.{cap, backTo}
-use Rattle.layout.specs.Ranges.{only}
 use Rattle.layout.specs.Measured.{laid, Met, Statement}
 use Rattle.layout.specs.Meetings.{meetings, Holds}
 use Rattle.placing.specs.Placed.{bytesOf, stepBytes, StepLaid}
@@ -31,9 +30,10 @@ use Rattle.placing.proofs.Writing.{laidBytes}
 use Rattle.reading.proofs.Walking.{first-in, if-at, second-in}
 use Rattle.layout.proofs.Noting.{holds-first, holds-rest, holds-left, holds-right}
 use Rattle.layout.proofs.Unrolled.{laid-branch, filled-ends}
-use Rattle.layout.proofs.PassingBranches.{branch-after, one, two, tested, test-wait, end, whole, laid-whole, first-free, second-free, end-free}
+use Rattle.layout.proofs.PassingBranches.{branch-after, one, two, tested, test-wait, end, whole, branch-as, first-free, second-free, end-free}
+use Rattle.layout.proofs.PassingSteps.{laid-as, block}
 use Rattle.layout.proofs.PassingBranches.{whole-meetings, not-before, ready, ready-again}
-use Rattle.layout.proofs.WritingSteps.{block, fits-as, answered-as}
+use Rattle.layout.proofs.WritingSteps.{fits-as, holds-as, answered-as}
 
 -- the IF at i with the record x
 module _ {s : List ℕ} {i to : ℕ} {σ : Settings} {from : State} {p : ℕ} {table old : List ℕ} (F : StatementFits s i to σ from p table old) (k : kindAt s i ≡ IF)
@@ -50,11 +50,8 @@ module _ {s : List ℕ} {i to : ℕ} {σ : Settings} {from : State} {p : ℕ} {t
   abbrev w : ℕ
   w = waits (from .wait) lead
 
-  is-branch : block F ≡ branch q (firstPart (block F)) (secondPart (block F)) (afterFirst (block F))
-  is-branch = if-at (S .here) k .is
-
   is-test : x ≡ testRec IF q 0
-  is-test = e ∙ subst (λ (b : Block). At s i b) is-branch (S .here .file .stands .fills .stands) .0 .is
+  is-test = e ∙ subst (λ (b : Block). At s i b) (if-at (S .here) k .is) (S .here .file .stands .fills .stands) .0 .is
 
   -- SIZES
 
@@ -74,13 +71,13 @@ module _ {s : List ℕ} {i to : ℕ} {σ : Settings} {from : State} {p : ℕ} {t
   pub test-fits : length (stepBytes σ from 1 x) ≤ length old
   test-fits =
       let u = from .tick + time σ lead + 1 in
-      let a = laid σ (firstPart (block F)) u in
-      let d = laid σ (secondPart (block F)) u in
+      let a = laid σ (firstPart (block S)) u in
+      let d = laid σ (secondPart (block S)) u in
       let m = u + max (time σ a) (time σ d) in
       let f = filled σ u a m in
       let g = filled σ u d m in
-      let is = laid-branch σ q (firstPart (block F)) (secondPart (block F)) (from .tick) in
-      let fits = fits-as F (branch q (firstPart (block F)) (secondPart (block F)) (afterFirst (block F))) is-branch (lead ⧺ branch q f g nil) is in
+      let is = laid-branch σ q (firstPart (block S)) (secondPart (block S)) (from .tick) in
+      let fits = fits-as F (laid-as (branch q (firstPart (block S)) (secondPart (block S)) (afterFirst (block S))) (if-at (S .here) k .is) is) in
       omega (arith, fits .room .room, test-length, branch-size f g, length-block (settled (from .wait) (lead ⧺ branch q f g nil)))
 
   -- THE TEST ENDS AT `test`
@@ -101,11 +98,8 @@ module _ {s : List ℕ} {i to : ℕ} {σ : Settings} {from : State} {p : ℕ} {t
     abbrev all : Block
     all = whole S k (T .state)
 
-    is-all : laid σ (only (block F)) (from .tick) ≡ all
-    is-all = ap (λ (b : Block). laid σ (only b) (from .tick)) (if-at (S .here) k .is) ∙ laid-whole S k (T .state)
-
     the-if : LaidFits σ all from old
-    the-if = subst (λ (c : Block). LaidFits σ c from old) is-all (F .fits)
+    the-if = fits-as F (branch-as S k (T .state))
 
     sizes : size (settled (from .wait) all) ≡ size (settled (from .wait) lead) + skipRecords w + (3 + size (merge 0 (side A)) + size (merge 0 (side D)))
     sizes = branch-size (side A) (side D)
@@ -158,7 +152,7 @@ module _ {s : List ℕ} {i to : ℕ} {σ : Settings} {from : State} {p : ℕ} {t
     all-meetings = whole-meetings S k (T .state)
 
     held : Holds (meets ∷ (ms-one ++ ms-two)) p table
-    held = subst (λ (ms : List ℕ). Holds ms p table) (ap (λ (c : Block). meetings σ c (from .tick)) is-all ∙ all-meetings) (F .holds)
+    held = subst (λ (ms : List ℕ). Holds ms p table) all-meetings (holds-as F (branch-as S k (T .state)))
 
     pub table-at : (p < 1821) × (getD table p 0 ≡ meets)
     table-at = holds-first held
@@ -280,7 +274,7 @@ module _ {s : List ℕ} {i to : ℕ} {σ : Settings} {from : State} {p : ℕ} {t
 
               pub branch-laid : StatementLaid s i to σ from p old (back new-2 l zs) (record { state = d .state; next = d .next + 1; ifs = d .ifs })
               branch-laid =
-                  answered-as F (branch q A D (afterFirst (block F))) (if-at (S .here) k .is) all (laid-whole S k (T .state))
+                  answered-as F (branch-as S k (T .state))
                   (record {
                     lays = record {
                       after = branch-after q (laid σ A (test .tick)) (laid σ D (test .tick)) (S .ready .laying .settings .fits) (tested S k (T .state)) met
