@@ -23,6 +23,7 @@ use Rattle.layout.specs.Idling.{AllIdle, IdleEnds}
 use Rattle.layout.specs.Meetings.{Noting, BlockMeasured, StatementMeasured}
 use Rattle.layout.specs.Lent.{loaded, placeIn, passage, Stored, Placed}
 use Rattle.layout.specs.Clocked.{StepStarts, StepEnds, BlockLent, StatementLent, BlockClocked, StatementClocked}
+use Rattle.reading.proofs.Walking.{if-at}
 use Rattle.layout.proofs.Lending.{passage-is}
 use Rattle.layout.proofs.Passing.{statement-next, passing-on}
 use Rattle.layout.proofs.PassingSteps.{step-short, is-act, act-lasts}
@@ -75,7 +76,7 @@ module _ {s : List ℕ} {from to : ℕ} {t c : List ℕ} where
 
   module _ {now : List ℕ} {state : State} {next : ℕ} {old new : List ℕ} (C : Clocking s from to t c now state next old new) where
     pub store-fits : (length now ≡ 6) × (state .records ≤ 5462)
-    store-fits = (C .long, C .measuring .passing .rest .laying .shows .few)
+    store-fits = (C .long, C .measuring .passing .ready .laying .shows .few)
 
     module _ {d : List ℕ} (D : Stored state now d) where
       pub clocking-closed : closesBlock (kindAt s next) ≡ true → BlockClocked s from to t c d old new next
@@ -146,7 +147,7 @@ module _ {s : List ℕ} {from to : ℕ} {t c : List ℕ} where
             go false z = eqb-false (x .kind) TIMES z h
 
         pub step-starts : StepStarts (settingsIn t) (recordOf x) state
-        step-starts = record { laying = C .measuring .passing .rest .laying; fits = λ ne. step-short the e ne no-if no-times refl }
+        step-starts = record { laying = C .measuring .passing .ready .laying; fits = λ ne. step-short the e ne no-if no-times refl }
 
         module _ {r : State} (E : StepEnds (settingsIn t) (recordOf x) state r) where
           stepped : StatementMeasured s next to (settingsIn t) state (placeIn now) new new (record { state = r; next = next + 1; ifs = placeIn now })
@@ -208,7 +209,7 @@ module _ {s : List ℕ} {i to : ℕ} {t c : List ℕ} {last : ℕ} where
 
     module _ {n : Settings} (e : n ≡ settingsIn t) {x : State} (h : x ≡ loaded now) where
       pub check-laying : Laying n x
-      check-laying = subst (λ (τ : Settings). Laying τ x) (sym e) (subst (Laying (settingsIn t)) (sym h) (C .measuring .passing .turn .laying))
+      check-laying = subst (λ (τ : Settings). Laying τ x) (sym e) (subst (Laying (settingsIn t)) (sym h) (C .measuring .passing .turn .ready .laying))
 
       module _ (l : last ≤ round) {r : State} (T′ : Stepped n x 1 r) where
         U : Stepped (settingsIn t) (loaded now) 1 r
@@ -229,7 +230,7 @@ module _ {s : List ℕ} {i to : ℕ} {t c : List ℕ} {last : ℕ} where
 -- one whose body has SKIPs alone
 module _ {s : List ℕ} {i to : ℕ} {t c : List ℕ} (S : StatementLent s i to t c) {x : State} (h : x ≡ loaded c) where
   pub idle-laying : Laying (settingsIn t) x
-  idle-laying = subst (Laying (settingsIn t)) (sym h) (S .statement .entered .laying)
+  idle-laying = subst (Laying (settingsIn t)) (sym h) (S .statement .ready .laying)
 
   module _ {n : ℕ} {y : State} (E : IdleEnds (settingsIn t) n x y) where
     pub idle-few : (length c ≡ 6) × (y .records ≤ 5462)
@@ -258,7 +259,7 @@ module _ {s : List ℕ} {i to : ℕ} {t c : List ℕ} (S : StatementLent s i to 
   σ = settingsIn t
 
   pub test-laying : Laying n x
-  test-laying = subst (λ (τ : Settings). Laying τ x) (sym e) (subst (Laying σ) (sym g) (S .statement .entered .laying))
+  test-laying = subst (λ (τ : Settings). Laying τ x) (sym e) (subst (Laying σ) (sym g) (S .statement .ready .laying))
 
   module _ (k : kindAt s i ≡ IF) {test : State} (T′ : Stepped n x 1 test) where
     pub T : Stepped σ (loaded c) 1 test
@@ -268,7 +269,7 @@ module _ {s : List ℕ} {i to : ℕ} {t c : List ℕ} (S : StatementLent s i to 
     test-few = (S .lent .long, ifs.tested (S .statement) k T .shows .few)
 
     pub inside : i + 1 + size (ifs.one (S .statement) k T) + 1 + size (ifs.two (S .statement) k T) < to
-    inside = ifs.both-inside (S .statement) k T
+    inside = if-at (S .statement .here) k .ends
 
     module _ {c1 : List ℕ} (D1 : Stored test c c1) where
       pub test-late : {table : List ℕ} → σ .period < test .tick → StatementClocked s i to t c c1 table table i

@@ -11,7 +11,7 @@ use borrow.Author.Tests.{eqb-true, eqb-false, ltb-true, ltb-false}
 use Rattle.model.specs.declared.Form.the-variants.{Equalised}
 use Rattle.model.specs.declared.Settings.{Settings}
 use Rattle.model.specs.Records.{Rec, kindAt, recordAt, SKIP, TIMES}
-use Rattle.model.specs.Trees.{Test, check, Block, nil, skip, act, times, _⧺_, size}
+use Rattle.model.specs.Trees.{Test, check, Block, nil, skip, act, _⧺_, size}
 use Rattle.model.specs.Times.{time}
 use Rattle.model.specs.Layout.{before, idle, idles}
 use Rattle.model.specs.Placement.{Fits}
@@ -23,8 +23,10 @@ use Rattle.records.specs.declared.Record.{Record}
 use Rattle.records.specs.Records.{recordOf}
 use Rattle.records.proofs.Over.{lent, back}
 use Rattle.reading.specs.Closing.{closesBlock}
-use Rattle.reading.specs.Ranges.{Stands, Ranged, firstSize, afterFirst, testOf}
-use Rattle.reading.proofs.Standing.{stands-closed, stands-after, skip-at}
+use Rattle.reading.specs.Ranges.{InFile, Ranged, firstSize, afterFirst, testOf}
+use Rattle.reading.specs.Walks.{Walk}
+use Rattle.reading.proofs.FirstKinds.{kind-is}
+use Rattle.reading.proofs.Walking.{kind-there, skip-at, walk-start, none-closed, walk-end, walk-at, walk-next}
 use Rattle.placing.specs.declared.clock.State.{State}
 use Rattle.placing.specs.States.{Laying, After, Stepped, Skipped}
 use Rattle.placing.specs.Placed.{Room, Lays, stepBytes, StepLaid}
@@ -34,16 +36,16 @@ use Rattle.placing.proofs.Settling.{alike-eq}
 use Rattle.layout.specs.declared.skips.Idle.{Idle}
 use Rattle.layout.specs.Idling.{IdleBody, AllIdle, IdleLoop, IdleAt, SkipsFit, SkipsLaid, checked, checkRec, IdleEnds, IdleFits, IdleLaid}
 use Rattle.layout.specs.Ranges.{only}
-use Rattle.layout.specs.Measured.{laid, Passes, Statement}
+use Rattle.layout.specs.Measured.{laid, Statement}
 use Rattle.layout.specs.Meetings.{meetings, StatementMeasured}
 use Rattle.layout.specs.Written.{LaidFits, StatementFits, StatementLaid}
-use Rattle.layout.proofs.Unrolled.{rounds, rounds-none, rounds-first, laid-nil, laid-times, laid-free}
+use Rattle.layout.proofs.Unrolled.{rounds, rounds-none, rounds-first, laid-nil, laid-free}
 use Rattle.layout.proofs.Noting.{plain-checked, noted-plain}
 use Rattle.layout.proofs.Passing.{laying-on}
-use Rattle.layout.proofs.PassingSteps.{block, kind-there, answered-of}
+use Rattle.layout.proofs.PassingSteps.{LaidAs, answered}
 use Rattle.layout.proofs.PassingRounds as loops
 use Rattle.layout.proofs.Measuring.{noted-as}
-use Rattle.layout.proofs.WritingSteps.{fits-as, answered-as, step-fits, step-lays, skip-soon, skip-room, skip-laid}
+use Rattle.layout.proofs.WritingSteps.{fits-as, answered-as, step-fits, step-lays, skip-fits, skip-laid}
 
 -- TICKS OF SKIP
 
@@ -91,32 +93,23 @@ module _ (σ : Settings) where
 
 -- THE SCAN OF A BODY
 
--- of the block a, the SKIPs up to `next` take `sum` ticks
-pub record Scanned (s : List ℕ) (i to p : ℕ) (a : Block) (ticks next : ℕ) : Type 0 where
-  pub rest : Block
-  pub stands : Stands Equalised s next to rest
+-- of a block, the SKIPs up to `next` take `sum` ticks
+pub record Scanned {s : List ℕ} {i to : ℕ} (F : InFile Equalised s i to) (p ticks next : ℕ) : Type 0 where
+  pub walk : Walk F next
   pub sum : ℕ
   pub told : ticks ≡ min sum (p + 1)
-  pub counts : next + size rest ≡ i + size a
-  pub same : (σ : Settings) (t : ℕ) → laid σ a t ≡ idles σ sum t ⧺ laid σ rest (t + time σ (idles σ sum t))
+  pub same : (σ : Settings) (t : ℕ) → laid σ (F .block) t ≡ idles σ sum t ⧺ laid σ (walk .rest .block) (t + time σ (idles σ sum t))
 
 pub record Scanning (s : List ℕ) (i to p ticks next : ℕ) : Type 0 where
   pub range : Ranged s next to
   pub few : ticks ≤ p + 1
-  pub right : (a : Block) → Stands Equalised s i to a → Scanned s i to p a ticks next
+  pub right : (F : InFile Equalised s i to) → Scanned F p ticks next
 
 pub scan-start : {s : List ℕ} {i to p : ℕ} → Ranged s i to → Scanning s i to p 0 i
 scan-start R = record {
   range = R;
   few = omega arith;
-  right = λ a A. record {
-    rest = a;
-    stands = A;
-    sum = 0;
-    told = omega arith;
-    counts = refl;
-    same = λ σ t. ap (laid σ a) (sym (add-zero t));
-  };
+  right = λ F. record { walk = walk-start F; sum = 0; told = omega arith; same = λ σ t. ap (laid σ (F .block)) (sym (add-zero t)) };
 }
 
 -- the product of a count and of ticks that are told up to p + 1
@@ -132,49 +125,49 @@ capped-product (suc c) m p k n e f = go (ltb p m) refl
         f ∙ ap (λ (x : ℕ). min (suc c * x) (p + 1)) z
 
 module _ {s : List ℕ} {i to p ticks next : ℕ} (S : Scanning s i to p ticks next) (l : next < to) {x : Record} (e : recordOf x ≡ recordAt s next) where
-  kind-is : {k : ℕ} → x .kind ≡ k → kindAt s next ≡ k
-  kind-is h = sym (ap (λ (y : Rec). y .kind) e) ∙ h
-
   pub scan-next : x .kind ≡ SKIP → {n : ℕ} → n ≡ min (ticks + x .count) (p + 1) → Scanning s i to p n (next + 1)
   scan-next h {n} f = record {
     range = record { order = omega arith; inside = S .range .inside };
     few = omega arith;
-    right = λ a A. more (S .right a A);
+    right = λ F. more (S .right F);
   }
     where
       m : ℕ
       m = recordAt s next .count
 
-      more : {a : Block} → Scanned s i to p a ticks next → Scanned s i to p a n (next + 1)
+      more : {F : InFile Equalised s i to} → Scanned F p ticks next → Scanned F p n (next + 1)
       more R =
-          let k = kind-is h in
-          let is = skip-at (R .rest) (R .stands) l (ap closesBlock k) k in
+          let k = kind-is s next (sym e) ∙ h in
+          let is = skip-at (walk-at (R .walk) l (ap closesBlock k)) k in
           let z : x .count ≡ m = ap (λ (y : Rec). y .count) e in
-          let b = afterFirst (R .rest) in
           record {
-            rest = b;
-            stands = subst (λ (y : Block). Stands Equalised s (next + firstSize y) to b) is (stands-after (R .rest) (R .stands) l (ap closesBlock k));
+            walk = walk-next (R .walk) l (ap closesBlock k) (omega (arith, ap firstSize is));
             sum = R .sum + m;
             told = omega (arith, R .told);
-            counts = omega (arith, R .counts, ap size is);
-            same = λ σ t. R .same σ t ∙ ap (λ (y : Block). idles σ (R .sum) t ⧺ laid σ y (t + time σ (idles σ (R .sum) t))) is ∙ skips-then σ (R .sum) m b t;
+            same = λ σ t. R .same σ t ∙ ap (λ (y : Block). idles σ (R .sum) t ⧺ laid σ y (t + time σ (idles σ (R .sum) t))) is
+                ∙ skips-then σ (R .sum) m (afterFirst (R .walk .rest .block)) t;
           }
 
   -- another record ends it; r answers for c rounds
   pub scan-closed : {c : ℕ} {r : Idle} → r .only ≡ closesBlock (x .kind) → r .ticks ≡ min (c * ticks) (p + 1) → r .next ≡ next → AllIdle s i to c p r
   unfolding rounds
-  scan-closed {c} {r} o f g = record { high = omega (arith, g, S .range .order); right = λ a A y. body a A (S .right a A) (ap closesBlock (kind-is refl) ∙ sym o ∙ y) }
+  scan-closed {c} {r} o f g = record {
+    high = omega (arith, g, S .range .order);
+    right = λ a A y.
+        let F : InFile Equalised s i to = record { block = a; stands = A; inside = S .range .inside } in
+        body F (S .right F) (ap closesBlock (kind-is s next (sym e)) ∙ sym o ∙ y);
+  }
     where
-      body : (a : Block) → Stands Equalised s i to a → Scanned s i to p a ticks next → closesBlock (kindAt s next) ≡ true → IdleBody a i c p r
-      body a A R y =
-          let none = stands-closed (R .rest) (R .stands) y in
+      body : (F : InFile Equalised s i to) → Scanned F p ticks next → closesBlock (kindAt s next) ≡ true → IdleBody (F .block) i c p r
+      body F R y =
+          let none = none-closed (R .walk) y in
           record {
             all = c * R .sum;
-            same = λ σ fits t F. rounds-idle σ fits a (R .sum) (A .fills .of-form)
+            same = λ σ fits t free. rounds-idle σ fits (F .block) (R .sum) (F .stands .fills .of-form)
                 (λ u. R .same σ u ∙ ap (λ (b : Block). idles σ (R .sum) u ⧺ laid σ b (u + time σ (idles σ (R .sum) u))) none
-                ∙ ap (λ (b : Block). idles σ (R .sum) u ⧺ b) (laid-nil σ (u + time σ (idles σ (R .sum) u))) ∙ ⧺-nil (idles σ (R .sum) u)) c t F;
+                ∙ ap (λ (b : Block). idles σ (R .sum) u ⧺ b) (laid-nil σ (u + time σ (idles σ (R .sum) u))) ∙ ⧺-nil (idles σ (R .sum) u)) c t free;
             told = capped-product c (R .sum) p ticks (r .ticks) (R .told) f;
-            goes = omega (arith, g, R .counts, ap size none);
+            goes = omega (arith, g, walk-end (R .walk) none);
           }
 
 -- nothing is told of a body that has others, or none that closes it
@@ -302,25 +295,21 @@ module _ {σ : Settings} {k : ℕ} {x : Rec} {s : State} {out : List ℕ} (F : I
 module _ {s : List ℕ} {i to : ℕ} {σ : Settings} {from : State} (S : Statement s i to σ from) (k : kindAt s i ≡ TIMES) {c : ℕ} (e : c ≡ recordAt s i .count) {r : Idle}
     (A : AllIdle s (i + 1) to c (σ .period) r) (o : r .only ≡ true) where
   the : IdleBody (loops.body S k) (i + 1) c (σ .period) r
-  the = A .right (loops.body S k) (loops.body-there S k) o
+  the = A .right (loops.body S k) (loops.opened S k .first) o
 
   abbrev whole : Block
   whole = checked σ (the .all) (loops.test S k) (from .tick)
 
-  abbrev loop : Block
-  loop = times (loops.test S k) (loops.count S k) (loops.body S k) (afterFirst (block S))
-
-  laid-idle : laid σ (only loop) (from .tick) ≡ whole
+  idle-as : LaidAs S whole (2 + size (loops.body S k))
   unfolding rounds
-  laid-idle =
+  idle-as =
+      let A = loops.times-as S k e in
       let rest : Block → Block = λ b. before σ (from .tick + time σ b) 1 ⧺ act (check (loops.test S k)) nil in
-      laid-times σ (S .entered .laying .settings .fits) (loops.test S k) (loops.count S k) (loops.body S k) (from .tick) (loops.body-form S k) (S .entered .free)
-      ∙ ap (λ (n : ℕ). let b = rounds σ (loops.body S k) n (from .tick) in b ⧺ rest b) (sym e)
-      ∙ ap (λ (b : Block). b ⧺ rest b) (the .same σ (S .entered .laying .settings .fits) (from .tick) (S .entered .free))
+      record { same = A .same ∙ ap (λ (b : Block). b ⧺ rest b) (the .same σ (S .ready .laying .settings .fits) (from .tick) (S .ready .free)); records = A .records }
 
   -- its END stands at the next record
   pub idle-inside : r .next < to
-  idle-inside = omega (arith, the .goes, loops.body-inside S k)
+  idle-inside = omega (arith, the .goes, loops.opened S k .ends)
 
   goes : r .next + 1 ≡ i + (2 + size (loops.body S k))
   goes = omega (arith, the .goes)
@@ -333,10 +322,8 @@ module _ {s : List ℕ} {i to : ℕ} {σ : Settings} {from : State} (S : Stateme
   idle-measured {p} {table} {x} few E′ =
       let E = idle-capped (the .told) E′ in
       record {
-        passed = answered-of S loop (loops.is-times S k)
-            (subst (λ (b : Block). Passes σ b (i + (2 + size (loops.body S k))) from (record { state = x; next = r .next + 1; ifs = p })) (sym laid-idle)
-            (record { late = E .late (loops.test S k); after = E .after (loops.test S k); goes = λ h. goes }));
-        noted = λ y Y l. noted-as S loop (loops.is-times S k) whole laid-idle (noted-plain few plain) y Y;
+        passed = answered idle-as (record { late = E .late (loops.test S k); after = E .after (loops.test S k); goes = λ h. goes });
+        noted = λ y Y l. noted-as idle-as (noted-plain few plain) y Y;
       }
 
 module _ {s : List ℕ} {i to : ℕ} {σ : Settings} {from : State} {p : ℕ} {table old : List ℕ} (F : StatementFits s i to σ from p table old) (k : kindAt s i ≡ TIMES) {x : Rec}
@@ -345,7 +332,7 @@ module _ {s : List ℕ} {i to : ℕ} {σ : Settings} {from : State} {p : ℕ} {t
   same-count = ap (λ (y : Rec). y .count) e
 
   fits : LaidFits σ (whole (F .statement) k same-count A o) from old
-  fits = fits-as F (loop (F .statement) k same-count A o) (loops.is-times (F .statement) k) _ (laid-idle (F .statement) k same-count A o)
+  fits = fits-as F (idle-as (F .statement) k same-count A o)
 
   -- so the ticks are told
   same-whole : checked σ (r .ticks) (testOf x) (from .tick) ≡ whole (F .statement) k same-count A o
@@ -365,11 +352,11 @@ module _ {s : List ℕ} {i to : ℕ} {σ : Settings} {from : State} {p : ℕ} {t
   idle-fits : IdleFits σ (r .ticks) x from old
   idle-fits =
       let L = subst (λ (b : Block). LaidFits σ b from old) (sym same-whole) fits in
-      record { laying = F .statement .entered .laying; within = L .within; room = L .room }
+      record { laying = F .statement .ready .laying; within = L .within; room = L .room }
 
   idle-written : {new : List ℕ} {y : State} → IdleLaid σ (r .ticks) x from old new y → StatementLaid s i to σ from p old new (record { state = y; next = r .next + 1; ifs = p })
   idle-written {new} {y} I =
-      answered-as F (loop (F .statement) k same-count A o) (loops.is-times (F .statement) k) _ (laid-idle (F .statement) k same-count A o)
+      answered-as F (idle-as (F .statement) k same-count A o)
       (record {
         lays = subst (λ (b : Block). Lays σ b from old new y) same-whole (I .lays);
         goes = goes (F .statement) k same-count A o;
@@ -387,12 +374,12 @@ module _ {s : List ℕ} {i to : ℕ} {σ : Settings} {from : State} {p : ℕ} {t
 
     loop-fits : IdleFits σ (r .ticks) (recordOf x) from old
     loop-fits =
-        subst (λ (k : ℕ). IdleFits σ k (recordOf x) from old) (sym (it .ticks)) (idle-fits F (kind-there (F .statement) e (it .kind)) e (it .all) (it .only))
+        subst (λ (k : ℕ). IdleFits σ k (recordOf x) from old) (sym (it .ticks)) (idle-fits F (kind-there (F .statement .here) e (it .kind)) e (it .all) (it .only))
 
     loop-laid : {new : List ℕ} {y : State} → IdleLaid σ (r .ticks) (recordOf x) from old new y → StatementLaid s i to σ from p old new (record { state = y; next = r .next; ifs = p })
     loop-laid {new} {y} L =
         subst (λ (j : ℕ). StatementLaid s i to σ from p old new (record { state = y; next = j; ifs = p })) (sym (it .next))
-        (idle-written F (kind-there (F .statement) e (it .kind)) e (it .all) (it .only) (subst (λ (k : ℕ). IdleLaid σ k (recordOf x) from old new y) (it .ticks) L))
+        (idle-written F (kind-there (F .statement .here) e (it .kind)) e (it .all) (it .only) (subst (λ (k : ℕ). IdleLaid σ k (recordOf x) from old new y) (it .ticks) L))
 
   module _ (o : r .only ≡ true) where
     pub skips-fit : SkipsFit σ (r .ticks) (recordOf x) from old
@@ -402,7 +389,7 @@ module _ {s : List ℕ} {i to : ℕ} {σ : Settings} {from : State} {p : ℕ} {t
         go true z =
             let k = eqb-true (x .kind) SKIP z in
             subst (λ (m : ℕ). SkipsFit σ m (recordOf x) from old) (sym (I .skip k .1))
-            (record { laying = F .statement .entered .laying; within = skip-soon F e k; room = skip-room F e k; check = λ h. absurd (h k) })
+            (record { laying = F .statement .ready .laying; within = skip-fits F e k .within; room = skip-fits F e k .room; check = λ h. absurd (h k) })
         go false z =
             let h = eqb-false (x .kind) SKIP z in
             let L = loop-fits h o in

@@ -1,20 +1,19 @@
 -- Measuring, with the meetings that it notes: block, statement and loop, turn by turn.
 use Prim.Native.Nat.{ℕ, _+_, _≤_, _<_, min}
 use native.Mathlib.Omega.{arith}
-use mathlib.Core.Path.{_≡_, refl, ap, sym, subst, _∙_}
+use mathlib.Core.Path.{_≡_, refl, ap, sym, subst}
 use mathlib.Core.Bool.{true, false}
 use mathlib.Core.List.{List, _++_}
 use lib.ListN.{length, length-append}
 use Rattle.model.specs.declared.Form.the-variants.{Equalised}
 use Rattle.model.specs.declared.Settings.{Settings}
 use Rattle.model.specs.Records.{kindAt, recordAt, SKIP, IF, TIMES}
-use Rattle.model.specs.Trees.{check, Block, nil, skip, act, branch, times, _⧺_}
-use Rattle.model.specs.Times.{ticks}
-use Rattle.model.specs.Layout.{before, idles}
+use Rattle.model.specs.Trees.{check, Block, nil, act, _⧺_}
+use Rattle.model.specs.Layout.{before}
 use Rattle.records.specs.declared.Record.{Record}
 use Rattle.records.specs.Records.{recordOf}
 use Rattle.reading.specs.Closing.{closesBlock}
-use Rattle.reading.specs.Ranges.{Stands, afterFirst}
+use Rattle.reading.specs.Ranges.{Stands}
 use Rattle.timing.specs.Times.{stepTicks}
 use Rattle.placing.specs.declared.clock.State.{State}
 use Rattle.layout.specs.declared.measure.Passage.{Passage}
@@ -22,11 +21,11 @@ use Rattle.placing.specs.States.{Stepped, Skipped, backTo}
 use Rattle.layout.specs.Ranges.{only}
 use Rattle.layout.specs.Measured.{laid, Meets, Entered, Statement, BlockPassed, StatementPassed}
 use Rattle.layout.specs.Meetings.{meetings, Noting, Noted, Notes, BlockMeasured, StatementMeasured}
-use Rattle.reading.proofs.Standing.{stands-once, skip-at}
+use Rattle.reading.proofs.Walking.{every, if-at, none-closed, none-ended}
 use Rattle.layout.proofs.Noting.{notes-++, notes-first, plain-step, plain-idles, noted-plain, noted-⧺}
-use Rattle.layout.proofs.Unrolled.{laid-skip, laid-act, rounds, rounds-none}
-use Rattle.layout.proofs.Passing.{in-time, Passing, passing-start, left, all-done, none-closed, none-ended, passing-done, one, passing-late, passing-next}
-use Rattle.layout.proofs.PassingSteps.{block, stands, kind-there, skip-passed, is-act, act-passed}
+use Rattle.layout.proofs.Unrolled.{rounds, rounds-none}
+use Rattle.layout.proofs.Passing.{in-time, Passing, passing-start, left, all-done, passing-done, one, passing-late, passing-next}
+use Rattle.layout.proofs.PassingSteps.{LaidAs, laid-every, skip-as, skip-passed, is-act, act-as, act-passed}
 use Rattle.layout.proofs.PassingRounds as loops
 use Rattle.layout.proofs.PassingRounds.{PassingRounds}
 use Rattle.layout.proofs.PassingBranches as ifs
@@ -63,16 +62,15 @@ module _ {s : List ℕ} {from to : ℕ} {σ : Settings} {at state : State} {next
   measured : left P ≡ nil → BlockMeasured s from to σ at k old new (record { state = state; next = next; ifs = n })
   measured e = record {
     passed = passing-done P e;
-    noted = λ b B l.
-        subst (λ (c : Block). Noted σ c (at .tick) k n old new)
-        (sym (all-done P e) ∙ ap (λ (x : Block). laid σ x (at .tick)) (stands-once (P .all .file .block) b (P .all .file .stands) B)) (M .noted);
+    noted = λ b B l. every (λ (x : Block). Noted σ (laid σ x (at .tick)) (at .tick) k n old new) (P .all)
+        (subst (λ (c : Block). Noted σ c (at .tick) k n old new) (sym (all-done P e)) (M .noted)) b B;
   }
 
   pub measuring-closed : closesBlock (kindAt s next) ≡ true → BlockMeasured s from to σ at k old new (record { state = state; next = next; ifs = n })
-  measuring-closed c = measured (none-closed P c)
+  measuring-closed c = measured (none-closed (P .walk) c)
 
   pub measuring-ended : to ≤ next → BlockMeasured s from to σ at k old new (record { state = state; next = next; ifs = n })
-  measuring-ended l = measured (none-ended P l)
+  measuring-ended l = measured (none-ended (P .walk) l)
 
   module _ (l : next < to) (c : closesBlock (kindAt s next) ≡ false) {table : List ℕ} {r : Passage} (S : StatementMeasured s next to σ state n new table r) where
     pub measuring-late : σ .period < r .state .tick → BlockMeasured s from to σ at k old table r
@@ -83,7 +81,7 @@ module _ {s : List ℕ} {from to : ℕ} {σ : Settings} {at state : State} {next
     measuring-next h = record {
       passing = passing-next P l c (S .passed) h;
       noted = noted-⧺ (P .done) (laid σ (only (left P)) (state .tick)) (M .few) (P .after .tick) (M .noted)
-          (S .noted (left P) (P .rest .file .stands) (in-time (S .passed .right (left P) (P .rest .file .stands)) h));
+          (S .noted (left P) (P .walk .rest .stands) (in-time (S .passed .right (left P) (P .walk .rest .stands)) h));
       few = M .few;
     }
 
@@ -94,35 +92,25 @@ side-empty E h c = measuring-closed (measuring-start E h) c
 
 -- A STATEMENT
 
-module _ {s : List ℕ} {i to : ℕ} {σ : Settings} {from : State} (S : Statement s i to σ from) {k : ℕ} where
-  -- where the block is known to be b, and its first statement is laid as c
-  pub noted-as : {n : ℕ} {old new : List ℕ} (b : Block) → block S ≡ b → (c : Block) → laid σ (only b) (from .tick) ≡ c → Noted σ c (from .tick) k n old new
-      → (y : Block) → Stands Equalised s i to y → Noted σ (laid σ (only y) (from .tick)) (from .tick) k n old new
-  noted-as {n} {old} {new} b e c f N y Y =
-      subst (λ (x : Block). Noted σ x (from .tick) k n old new)
-      (sym f ∙ ap (λ (z : Block). laid σ (only z) (from .tick)) (sym e ∙ stands-once (block S) y (stands S) Y)) N
+-- one that is laid as c
+pub noted-as : {s : List ℕ} {i to : ℕ} {σ : Settings} {from : State} {S : Statement s i to σ from} {c : Block} {m k n : ℕ} {old new : List ℕ} → LaidAs S c m
+    → Noted σ c (from .tick) k n old new → (y : Block) → Stands Equalised s i to y → Noted σ (laid σ (only y) (from .tick)) (from .tick) k n old new
+noted-as {σ = σ} {from} {k = k} {n} {old} {new} A N y Y = laid-every (λ (d : Block) (m : ℕ). Noted σ d (from .tick) k n old new) A N y Y
 
-  module _ (few : k ≤ 1821) {table : List ℕ} {x : Record} (e : recordOf x ≡ recordAt s i) where
-    pub skip-measured : x .kind ≡ SKIP → {r : State} → Skipped σ (x .count) from r
-        → StatementMeasured s i to σ from k table table (record { state = r; next = i + 1; ifs = k })
-    skip-measured h A =
-        let n = recordAt s i .count in
-        record {
-          passed = skip-passed S e h A;
-          noted = λ y Y l. noted-as (skip n (afterFirst (block S))) (skip-at (block S) (stands S) (S .early) (S .goes-on) (kind-there S e h))
-              (idles σ n (from .tick)) (laid-skip σ n (from .tick)) (noted-plain few (plain-idles σ n (from .tick) (from .tick))) y Y;
-        }
+module _ {s : List ℕ} {i to : ℕ} {σ : Settings} {from : State} (S : Statement s i to σ from) {k : ℕ} (few : k ≤ 1821) {table : List ℕ} {x : Record} (e : recordOf x ≡ recordAt s i) where
+  pub skip-measured : x .kind ≡ SKIP → {r : State} → Skipped σ (x .count) from r
+      → StatementMeasured s i to σ from k table table (record { state = r; next = i + 1; ifs = k })
+  skip-measured h A = record {
+    passed = skip-passed S e h A;
+    noted = λ y Y l. noted-as (skip-as S e h) (noted-plain few (plain-idles σ (x .count) (from .tick) (from .tick))) y Y;
+  }
 
-    pub act-measured : (x .kind ≡ SKIP → ⊥) → (x .kind ≡ IF → ⊥) → (x .kind ≡ TIMES → ⊥) → {d : ℕ} {r : State} → d ≡ stepTicks σ (recordOf x) → Stepped σ from d r
-        → StatementMeasured s i to σ from k table table (record { state = r; next = i + 1; ifs = k })
-    act-measured a b c h T =
-        let p = is-act S e a b c in
-        let lead = before σ (from .tick) (ticks σ (p .act-of)) in
-        record {
-          passed = act-passed S e a b c h T;
-          noted = λ y Y l. noted-as (act (p .act-of) (afterFirst (block S))) (p .is) (lead ⧺ act (p .act-of) nil) (laid-act σ (p .act-of) (from .tick))
-              (noted-plain few (plain-step σ (ticks σ (p .act-of)) (p .act-of) (from .tick))) y Y;
-        }
+  pub act-measured : (x .kind ≡ SKIP → ⊥) → (x .kind ≡ IF → ⊥) → (x .kind ≡ TIMES → ⊥) → {d : ℕ} {r : State} → d ≡ stepTicks σ (recordOf x) → Stepped σ from d r
+      → StatementMeasured s i to σ from k table table (record { state = r; next = i + 1; ifs = k })
+  act-measured a b c {d} h T = record {
+    passed = act-passed S e a b c h T;
+    noted = λ y Y l. noted-as (act-as S e a b c h) (noted-plain few (plain-step σ d (is-act S e a b c .act-of) (from .tick))) y Y;
+  }
 
 -- A LOOP
 
@@ -163,7 +151,7 @@ module _ {s : List ℕ} {i to : ℕ} {σ : Settings} {from : State} {last : ℕ}
             };
             noted = subst (λ (c : Block). Noted σ c (from .tick) k (r .ifs) old table) (sym (loops.more (L .loop) (L .kind) (L .count-is) (L .turn) l (B .passed)))
                 (noted-⧺ (rounds σ a round (from .tick)) (laid σ a (state .tick)) (M .few) (L .turn .after .tick) (M .noted)
-                (B .noted a (loops.body-there (L .loop) (L .kind)) (in-time (loops.passes (L .loop) (L .kind) (L .count-is) (L .turn) l (B .passed)) h)));
+                (B .noted a (loops.opened (L .loop) (L .kind) .first) (in-time (loops.passes (L .loop) (L .kind) (L .count-is) (L .turn) l (B .passed)) h)));
             few = M .few;
           }
 
@@ -176,8 +164,7 @@ module _ {s : List ℕ} {i to : ℕ} {σ : Settings} {from : State} {last : ℕ}
           let N = subst (λ (m : ℕ). Noted σ (rounds σ a m (from .tick)) (from .tick) k n old new) (loops.done (L .loop) (L .kind) (L .count-is) (L .turn) l) (M .noted) in
           record {
             passed = loops.rounds-passed (L .loop) (L .kind) (L .count-is) (L .turn) l T;
-            noted = λ y Y h. noted-as (L .loop) (times q (loops.count (L .loop) (L .kind)) a (afterFirst (block (L .loop)))) (loops.is-times (L .loop) (L .kind))
-                (loops.whole (L .loop) (L .kind) (L .count-is)) (loops.laid-whole (L .loop) (L .kind) (L .count-is))
+            noted = λ y Y h. noted-as (loops.times-as (L .loop) (L .kind) (L .count-is))
                 (noted-⧺ (rounds σ a last (from .tick)) (before σ u 1 ⧺ act (check q) nil) (M .few) refl N (noted-plain loop-few (plain-step σ 1 (check q) u))) y Y;
           }
 
@@ -188,7 +175,7 @@ module _ {s : List ℕ} {i to : ℕ} {σ : Settings} {from : State} (S : Stateme
   -- the first place behind its own
   module _ {n : ℕ} (e : n ≡ min (k + 1) 1821) {old mid : List ℕ} {a : Passage} (A : BlockMeasured s (i + 1) to σ test n old mid a) (l : a .state .tick ≤ σ .period) where
     first-noted : Noted σ (ifs.first S c T) (test .tick) n (a .ifs) old mid
-    first-noted = A .noted (ifs.one S c T) (ifs.one-there S c T) (in-time (A .passed .right (ifs.one S c T) (ifs.one-there S c T)) l)
+    first-noted = A .noted (ifs.one S c T) (if-at (S .here) c .first) (in-time (A .passed .right (ifs.one S c T) (if-at (S .here) c .first)) l)
 
     pub first-few : a .ifs ≤ 1821
     first-few = omega (arith, first-noted .next)
@@ -196,7 +183,7 @@ module _ {s : List ℕ} {i to : ℕ} {σ : Settings} {from : State} (S : Stateme
     module _ {end : List ℕ} {d : Passage} (D : BlockMeasured s (a .next + 1) to σ (backTo test 0 (a .state .records)) (a .ifs) mid end d) (m : d .state .tick ≤ σ .period) where
       second-noted : Noted σ (ifs.second S c T) (test .tick) (a .ifs) (d .ifs) mid end
       second-noted =
-          let there = ifs.two-at S c T h (A .passed) l in
+          let there = ifs.two-in S c T h (A .passed) l .stands in
           D .noted (ifs.two S c T) there (in-time (D .passed .right (ifs.two S c T) there) m)
 
       module _ {r : State} (M : Meets σ (a .state) (d .state) r) {new : List ℕ} (N : Noting k (r .tick) end new) where
@@ -218,5 +205,5 @@ module _ {s : List ℕ} {i to : ℕ} {σ : Settings} {from : State} (S : Stateme
         pub branch-measured : StatementMeasured s i to σ from k old new (record { state = r; next = d .next + 1; ifs = d .ifs })
         branch-measured = record {
           passed = ifs.branch-passed S c T h (A .passed) l (D .passed) m M;
-          noted = λ y Y w. noted-as S (branch (ifs.q S c T) (ifs.one S c T) (ifs.two S c T) (afterFirst (block S))) (ifs.is-if S c T) (ifs.whole S c T) (ifs.laid-whole S c T) all-noted y Y;
+          noted = λ y Y w. noted-as (ifs.branch-as S c T) all-noted y Y;
         }

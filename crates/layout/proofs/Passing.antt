@@ -15,15 +15,15 @@ use Rattle.model.proofs.Trees.{⧺-nil, ⧺-assoc}
 use Rattle.theory.proofs.Times.{time-⧺}
 use Rattle.theory.proofs.Windows.{Free}
 use Rattle.reading.specs.Closing.{closesBlock}
-use Rattle.reading.specs.Ranges.{Stands, firstSize, afterFirst}
-use Rattle.reading.proofs.Filled.{size-first}
+use Rattle.reading.specs.Ranges.{InFile, firstSize, afterFirst}
+use Rattle.reading.specs.Walks.{Walk}
+use Rattle.reading.proofs.Walking.{every, walk-start, walk-end, walk-at, walk-on, walk-next}
 use Rattle.placing.specs.declared.clock.State.{State}
 use Rattle.layout.specs.declared.measure.Passage.{Passage}
 use Rattle.placing.specs.States.{Laying, After}
 use Rattle.layout.specs.Ranges.{only}
-use Rattle.layout.specs.Measured.{laid, Passes, Entered, Statement, BlockPassed, StatementPassed}
+use Rattle.layout.specs.Measured.{laid, Passes, Ready, Entered, Statement, BlockPassed, StatementPassed}
 use Rattle.placing.proofs.Going.{after-nil, after-⧺}
-use Rattle.reading.proofs.Standing.{stands-once, stands-closed, stands-end, stands-some, stands-after}
 use Rattle.layout.proofs.Unrolled.{only-form, laid-first, laid-nil, laid-free}
 
 -- WHAT AN ANSWER SAYS
@@ -62,64 +62,54 @@ laying-on L A h = record { settings = L .settings; shows = A .shows; within = h 
 
 -- of the block at `from`, laid from `at` on, the records from `next` on are left
 pub record Passing (s : List ℕ) (from to : ℕ) (σ : Settings) (at state : State) (next : ℕ) : Type 0 where
-  pub all : Entered s from to σ at
-  pub rest : Entered s next to σ state
-  pub on : from ≤ next
-  pub counts : next + size (rest .file .block) ≡ from + size (all .file .block)
+  pub all : InFile Equalised s from to
+  pub walk : Walk all next
+  pub ready : Ready σ state
   pub done : Block
-  pub same : laid σ (all .file .block) (at .tick) ≡ done ⧺ laid σ (rest .file .block) (state .tick)
+  pub same : laid σ (all .block) (at .tick) ≡ done ⧺ laid σ (walk .rest .block) (state .tick)
   pub after : After σ done at state
 
 unfoldable pub passing-start : {s : List ℕ} {from to : ℕ} {σ : Settings} {at : State} → Entered s from to σ at → Passing s from to σ at at from
-passing-start E = record { all = E; rest = E; on = omega arith; counts = refl; done = nil; same = refl; after = after-nil (E .laying .shows) }
+passing-start E = record { all = E .file; walk = walk-start (E .file); ready = E .ready; done = nil; same = refl; after = after-nil (E .ready .laying .shows) }
 
 module _ {s : List ℕ} {from to : ℕ} {σ : Settings} {at state : State} {next : ℕ} (P : Passing s from to σ at state next) where
   abbrev pub left : Block
-  left = P .rest .file .block
+  left = P .walk .rest .block
 
   -- what holds of the block that was asked about holds of every block at its place
-  answered : {r : Passage} → Passes σ (laid σ (P .all .file .block) (at .tick)) (from + size (P .all .file .block)) at r → BlockPassed s from to σ at r
-  answered {r} A = record {
-    right = λ b B.
-        subst (λ (x : Block). Passes σ (laid σ x (at .tick)) (from + size x) at r) (stands-once (P .all .file .block) b (P .all .file .stands) B) A;
-  }
+  answered : {r : Passage} → Passes σ (laid σ (P .all .block) (at .tick)) (from + size (P .all .block)) at r → BlockPassed s from to σ at r
+  answered {r} A = record { right = every (λ (x : Block). Passes σ (laid σ x (at .tick)) (from + size x) at r) (P .all) A }
+
+  -- what is left is its first statement and what follows it
+  abbrev pub one : Block
+  one = laid σ (only left) (state .tick)
+
+  abbrev pub two : Block
+  two = laid σ (afterFirst left) (state .tick + time σ one)
+
+  pub first : laid σ left (state .tick) ≡ one ⧺ two
+  first = laid-first σ (P .ready .laying .settings .fits) left (state .tick) (P .walk .rest .stands .fills .of-form) (P .ready .free)
+
+  pub split : laid σ (P .all .block) (at .tick) ≡ (P .done ⧺ one) ⧺ two
+  split = P .same ∙ ap (λ (c : Block). P .done ⧺ c) first ∙ sym (⧺-assoc (P .done) one two)
 
   -- nothing is left
-  pub all-done : left ≡ nil → laid σ (P .all .file .block) (at .tick) ≡ P .done
+  pub all-done : left ≡ nil → laid σ (P .all .block) (at .tick) ≡ P .done
   all-done e = P .same ∙ ap (λ (b : Block). P .done ⧺ laid σ b (state .tick)) e ∙ ap (λ (c : Block). P .done ⧺ c) (laid-nil σ (state .tick)) ∙ ⧺-nil (P .done)
 
-  pub none-closed : closesBlock (kindAt s next) ≡ true → left ≡ nil
-  none-closed k = stands-closed left (P .rest .file .stands) k
-
-  pub none-ended : to ≤ next → left ≡ nil
-  none-ended l = stands-end left (P .rest .file .stands) l
-
   pub passing-done : {m : ℕ} → left ≡ nil → BlockPassed s from to σ at (record { state = state; next = next; ifs = m })
-  passing-done e = answered (passed (subst (λ (c : Block). After σ c at state) (sym (all-done e)) (P .after)) (omega (arith, P .counts, ap size e)))
+  passing-done e = answered (passed (subst (λ (c : Block). After σ c at state) (sym (all-done e)) (P .after)) (walk-end (P .walk) e))
 
   -- a statement is left
   module _ (l : next < to) (k : closesBlock (kindAt s next) ≡ false) where
     unfoldable pub statement-next : Statement s next to σ state
-    statement-next = record { entered = P .rest; early = l; goes-on = k }
+    statement-next = record { here = walk-at (P .walk) l k; ready = P .ready }
 
     module _ {r : Passage} (S : StatementPassed s next to σ state r) where
-      abbrev pub one : Block
-      one = laid σ (only left) (state .tick)
+      step : Passes σ one (next + firstSize left) state r
+      step = S .right left (P .walk .rest .stands)
 
-      abbrev two : Block
-      two = laid σ (afterFirst left) (state .tick + time σ one)
-
-      pub step : Passes σ one (next + firstSize left) state r
-      step = S .right left (P .rest .file .stands)
-
-      -- what is left is the statement and what follows it
-      pub split : laid σ (P .all .file .block) (at .tick) ≡ (P .done ⧺ one) ⧺ two
-      split =
-          P .same
-          ∙ ap (λ (c : Block). P .done ⧺ c) (laid-first σ (P .rest .laying .settings .fits) left (state .tick) (P .rest .file .stands .fills .of-form) (P .rest .free))
-          ∙ sym (⧺-assoc (P .done) one two)
-
-      lasts : at .tick + time σ (laid σ (P .all .file .block) (at .tick)) ≡ state .tick + time σ one + time σ two
+      lasts : at .tick + time σ (laid σ (P .all .block) (at .tick)) ≡ state .tick + time σ one + time σ two
       lasts = omega (arith, ap (time σ) split, time-⧺ σ (P .done ⧺ one) two, time-⧺ σ (P .done) one, P .after .tick)
 
       pub passing-late : σ .period < r .state .tick → BlockPassed s from to σ at r
@@ -133,22 +123,17 @@ module _ {s : List ℕ} {from to : ℕ} {σ : Settings} {at state : State} {next
         goes = step .goes (in-time step h)
 
         pub passing-on : next < r .next
-        passing-on = omega (arith, goes, stands-some left (P .rest .file .stands) l k)
-
-        pub behind : Stands Equalised s (r .next) to (afterFirst left)
-        behind = subst (λ (j : ℕ). Stands Equalised s j to (afterFirst left)) (sym goes) (stands-after left (P .rest .file .stands) l k)
+        passing-on = walk-on (P .walk) l k goes
 
         unfoldable pub passing-next : Passing s from to σ at (r .state) (r .next)
         passing-next = record {
           all = P .all;
-          rest = record {
-            file = record { block = afterFirst left; stands = behind; inside = P .rest .file .inside };
-            laying = laying-on (P .rest .laying) stepped h;
-            free = subst (Free σ 0) (sym (stepped .tick))
-                (laid-free σ (P .rest .laying .settings .fits) (only left) 0 (state .tick) (only-form left (P .rest .file .stands .fills .of-form)) (omega arith) (P .rest .free));
+          walk = walk-next (P .walk) l k goes;
+          ready = record {
+            laying = laying-on (P .ready .laying) stepped h;
+            free = subst (Free σ 0) (sym (stepped .tick)) (laid-free σ (P .ready .laying .settings .fits) (only left) 0 (state .tick)
+                (only-form left (P .walk .rest .stands .fills .of-form)) (omega arith) (P .ready .free));
           };
-          on = omega (arith, P .on, passing-on);
-          counts = omega (arith, P .counts, goes, size-first left);
           done = P .done ⧺ one;
           same = split ∙ ap (λ (t : ℕ). (P .done ⧺ one) ⧺ laid σ (afterFirst left) t) (sym (stepped .tick));
           after = after-⧺ (P .done) one (P .after) stepped;

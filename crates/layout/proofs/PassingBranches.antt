@@ -14,21 +14,21 @@ use Rattle.model.specs.Placement.{Fits}
 use Rattle.theory.proofs.Times.{time-⧺}
 use Rattle.theory.proofs.Windows.{Free, later, free-tested, free-later}
 use Rattle.records.proofs.Blocks.{size-waiting}
-use Rattle.reading.specs.Ranges.{Stands, firstPart, secondPart, afterFirst, testOf}
+use Rattle.reading.specs.Closing.{opensBlock}
+use Rattle.reading.specs.Ranges.{InFile, firstPart, secondPart, afterFirst, testOf}
 use Rattle.placing.specs.declared.clock.State.{State}
 use Rattle.layout.specs.declared.measure.Passage.{Passage}
 use Rattle.placing.specs.Merging.{waits}
-use Rattle.placing.specs.States.{cap, Laying, After, Stepped, backTo}
-use Rattle.layout.specs.Ranges.{only}
-use Rattle.layout.specs.Measured.{laid, Passes, Met, Meeting, Meets, Entered, Statement, BlockPassed, StatementPassed}
+use Rattle.placing.specs.States.{cap, After, Stepped, backTo}
+use Rattle.layout.specs.Measured.{laid, Passes, Met, Meeting, Meets, Ready, Entered, Statement, BlockPassed, StatementPassed}
 use Rattle.layout.specs.Meetings.{meetings}
 use Rattle.placing.proofs.Settling.{waits-⧺, size-settled}
 use Rattle.placing.proofs.Moves.{shows-on}
-use Rattle.reading.proofs.Standing.{if-at, first-side, second-side, sides-end}
+use Rattle.reading.proofs.Walking.{first-in, if-at, second-in}
 use Rattle.layout.proofs.Noting.{meetings-⧺, plain-before, plain-fill}
 use Rattle.layout.proofs.Unrolled.{laid-branch, laid-free, filled-ends}
 use Rattle.layout.proofs.Passing.{in-time, too-late, passed, passed-late, laying-on}
-use Rattle.layout.proofs.PassingSteps.{block, stands, answered-of}
+use Rattle.layout.proofs.PassingSteps.{LaidAs, laid-as, answered, block}
 
 -- An IF from t on, whose test ended at `test` and whose sides are laid as a and d and meet at e.
 module _ {σ : Settings} {from test : State} (q : Test) (a d : Block) (fits : Fits σ) (A : After σ (before σ (from .tick) 1 ⧺ act (check q) nil) from test) where
@@ -86,18 +86,6 @@ module _ {s : List ℕ} {i to : ℕ} {σ : Settings} {from : State} (S : Stateme
   abbrev pub q : Test
   q = testOf (recordAt s i)
 
-  pub is-if : block S ≡ branch q one two (afterFirst (block S))
-  is-if = if-at (block S) (stands S) (S .early) (S .goes-on) k
-
-  pub one-there : Stands Equalised s (i + 1) to one
-  one-there = first-side (block S) (stands S) (S .early) (S .goes-on) k
-
-  pub two-there : Stands Equalised s (i + 1 + size one + 1) to two
-  two-there = second-side (block S) (stands S) (S .early) (S .goes-on) k
-
-  pub both-inside : i + 1 + size one + 1 + size two < to
-  both-inside = sides-end (block S) (stands S) (S .early) (S .goes-on) k
-
   -- THE TEST
 
   abbrev lead : Block
@@ -113,7 +101,7 @@ module _ {s : List ℕ} {i to : ℕ} {σ : Settings} {from : State} (S : Stateme
   test-wait = tested .wait ∙ waits-⧺ (from .wait) lead (act (check q) nil)
 
   pub test-free : Free σ 1 (test .tick)
-  test-free = subst (Free σ 1) (sym test-tick) (free-tested σ (S .entered .laying .settings .fits) 0 (from .tick) (S .entered .free))
+  test-free = subst (Free σ 1) (sym test-tick) (free-tested σ (S .ready .laying .settings .fits) 0 (from .tick) (S .ready .free))
 
   -- THE WHOLE
 
@@ -129,26 +117,23 @@ module _ {s : List ℕ} {i to : ℕ} {σ : Settings} {from : State} (S : Stateme
   abbrev pub whole : Block
   whole = lead ⧺ branch q (filled σ (test .tick) first end) (filled σ (test .tick) second end) nil
 
-  pub laid-whole : laid σ (only (branch q one two (afterFirst (block S)))) (from .tick) ≡ whole
-  laid-whole =
-      laid-branch σ q one two (from .tick)
+  pub branch-as : LaidAs S whole (3 + size one + size two)
+  branch-as =
+      laid-as (branch q one two (afterFirst (block S))) (if-at (S .here) k .is)
+      (laid-branch σ q one two (from .tick)
       ∙ ap (λ (u : ℕ).
       let e = u + max (time σ (laid σ one u)) (time σ (laid σ two u)) in
-      lead ⧺ branch q (filled σ u (laid σ one u) e) (filled σ u (laid σ two u) e) nil) (sym test-tick)
-
-  told : {r : Passage} → Passes σ whole (i + (3 + size one + size two)) from r → StatementPassed s i to σ from r
-  told {r} A =
-      answered-of S (branch q one two (afterFirst (block S))) is-if (subst (λ (c : Block). Passes σ c (i + (3 + size one + size two)) from r) (sym laid-whole) A)
+      lead ⧺ branch q (filled σ u (laid σ one u) e) (filled σ u (laid σ two u) e) nil) (sym test-tick))
 
   -- where each side ends, and where they meet
   pub first-free : Free σ 1 (test .tick + time σ first)
-  first-free = laid-free σ (S .entered .laying .settings .fits) one 1 (test .tick) (one-there .fills .of-form) (omega arith) test-free
+  first-free = laid-free σ (S .ready .laying .settings .fits) one 1 (test .tick) (if-at (S .here) k .first .fills .of-form) (omega arith) test-free
 
   pub second-free : Free σ 1 (test .tick + time σ second)
-  second-free = laid-free σ (S .entered .laying .settings .fits) two 1 (test .tick) (two-there .fills .of-form) (omega arith) test-free
+  second-free = laid-free σ (S .ready .laying .settings .fits) two 1 (test .tick) (if-at (S .here) k .second .fills .of-form) (omega arith) test-free
 
   pub end-free : Free σ 1 end
-  end-free = free-later σ (S .entered .laying .settings .fits) end (test .tick + time σ first) (test .tick + time σ second) (omega arith) first-free second-free
+  end-free = free-later σ (S .ready .laying .settings .fits) end (test .tick + time σ first) (test .tick + time σ second) (omega arith) first-free second-free
 
   -- its meeting, and those in its sides
   side-meetings : (a : Block) → meetings σ (filled σ (test .tick) a end) (test .tick) ≡ meetings σ a (test .tick)
@@ -163,8 +148,8 @@ module _ {s : List ℕ} {i to : ℕ} {σ : Settings} {from : State} (S : Stateme
       let F = filled σ (test .tick) first end in
       let G = filled σ (test .tick) second end in
       let v = from .tick + time σ lead in
-      let f = filled-ends σ (S .entered .laying .settings .fits) first (test .tick) end first-free end-free (omega arith) in
-      let g = filled-ends σ (S .entered .laying .settings .fits) second (test .tick) end second-free end-free (omega arith) in
+      let f = filled-ends σ (S .ready .laying .settings .fits) first (test .tick) end first-free end-free (omega arith) in
+      let g = filled-ends σ (S .ready .laying .settings .fits) second (test .tick) end second-free end-free (omega arith) in
       let e : test .tick + max (time σ F) (time σ G) ≡ end = omega arith in
       meetings-⧺ σ lead (branch q F G nil) (from .tick)
       ∙ ap (λ (ms : List ℕ). ms ++ meetings σ (branch q F G nil) v) (plain-before σ (from .tick) 1 (from .tick))
@@ -187,26 +172,34 @@ module _ {s : List ℕ} {i to : ℕ} {σ : Settings} {from : State} (S : Stateme
       )
 
   pub test-late : {m : ℕ} → σ .period < test .tick → StatementPassed s i to σ from (record { state = test; next = i; ifs = m })
-  test-late h = told (passed-late (omega (arith, not-before)) h)
+  test-late h = answered branch-as (passed-late (omega (arith, not-before)) h)
 
   module _ (h : test .tick ≤ σ .period) where
-    pub laying : Laying σ test
-    laying = laying-on (S .entered .laying) tested h
+    pub ready : Ready σ test
+    ready = record { laying = laying-on (S .ready .laying) tested h; free = later σ (S .ready .laying .settings .fits) 0 (test .tick) (omega arith) test-free }
 
-    pub side-free : Free σ 0 (test .tick)
-    side-free = later σ (laying .settings .fits) 0 (test .tick) (omega arith) test-free
+    -- and once the first side has been laid, up to n records
+    pub ready-again : {n : ℕ} → n ≤ 5462 → Ready σ (backTo test 0 n)
+    ready-again few = record {
+      laying = record {
+        settings = S .ready .laying .settings;
+        shows = shows-on 0 (ready .laying .shows) (omega arith) (omega arith) refl (omega arith) few;
+        within = h;
+      };
+      free = ready .free;
+    }
 
     -- THE FIRST SIDE
 
     unfoldable pub one-entered : Entered s (i + 1) to σ test
-    one-entered = record { file = record { block = one; stands = one-there; inside = S .entered .file .inside }; laying = laying; free = side-free }
+    one-entered = record { file = first-in (S .here) (ap opensBlock k); ready = ready }
 
     module _ {a : Passage} (A : BlockPassed s (i + 1) to σ test a) where
       one-passes : Passes σ first (i + 1 + size one) test a
-      one-passes = A .right one one-there
+      one-passes = A .right one (if-at (S .here) k .first)
 
       pub one-late : σ .period < a .state .tick → StatementPassed s i to σ from a
-      one-late l = told (passed-late (omega (arith, not-before, too-late one-passes l)) l)
+      one-late l = answered branch-as (passed-late (omega (arith, not-before, too-late one-passes l)) l)
 
       module _ (l : a .state .tick ≤ σ .period) where
         pub one-after : After σ first test (a .state)
@@ -217,29 +210,22 @@ module _ {s : List ℕ} {i to : ℕ} {σ : Settings} {from : State} (S : Stateme
 
         -- THE SECOND
 
-        pub two-at : Stands Equalised s (a .next + 1) to two
-        two-at = subst (λ (j : ℕ). Stands Equalised s j to two) (sym (ap (λ (j : ℕ). j + 1) one-goes)) two-there
+        abbrev pub two-in : InFile Equalised s (a .next + 1) to
+        two-in = second-in (S .here) k one-goes
 
         -- its records are counted after those of the first
         abbrev pub second-start : State
         second-start = backTo test 0 (a .state .records)
 
-        pub second-laying : Laying σ second-start
-        second-laying = record {
-          settings = laying .settings;
-          shows = shows-on 0 (laying .shows) (omega arith) (omega arith) refl (omega arith) (one-after .shows .few);
-          within = h;
-        }
-
         unfoldable pub two-entered : Entered s (a .next + 1) to σ second-start
-        two-entered = record { file = record { block = two; stands = two-at; inside = S .entered .file .inside }; laying = second-laying; free = side-free }
+        two-entered = record { file = two-in; ready = ready-again (one-after .shows .few) }
 
         module _ {d : Passage} (D : BlockPassed s (a .next + 1) to σ second-start d) where
           two-passes : Passes σ second (a .next + 1 + size two) second-start d
-          two-passes = D .right two two-at
+          two-passes = D .right two (two-in .stands)
 
           pub two-late : σ .period < d .state .tick → StatementPassed s i to σ from d
-          two-late m = told (passed-late (omega (arith, not-before, too-late two-passes m)) m)
+          two-late m = answered branch-as (passed-late (omega (arith, not-before, too-late two-passes m)) m)
 
           module _ (m : d .state .tick ≤ σ .period) where
             pub two-after : After σ second second-start (d .state)
@@ -252,8 +238,8 @@ module _ {s : List ℕ} {i to : ℕ} {σ : Settings} {from : State} (S : Stateme
 
             pub meeting : Meeting σ (a .state) (d .state)
             meeting = record {
-              one = laying-on laying one-after l;
-              two = laying-on second-laying two-after m;
+              one = laying-on (ready .laying) one-after l;
+              two = laying-on (ready-again (one-after .shows .few) .laying) two-after m;
               free-one = subst (Free σ 1) (sym (one-after .tick)) first-free;
               free-two = subst (Free σ 1) (sym (two-after .tick)) second-free;
             }
@@ -263,4 +249,4 @@ module _ {s : List ℕ} {i to : ℕ} {σ : Settings} {from : State} (S : Stateme
               met = M .right test first second test-wait one-after two-after
 
               pub branch-passed : {p : ℕ} → StatementPassed s i to σ from (record { state = r; next = d .next + 1; ifs = p })
-              branch-passed = told (passed (branch-after q first second (laying .settings .fits) tested met first-free second-free) (omega (arith, two-goes)))
+              branch-passed = answered branch-as (passed (branch-after q first second (S .ready .laying .settings .fits) tested met first-free second-free) (omega (arith, two-goes)))

@@ -15,18 +15,18 @@ use Rattle.model.proofs.Sound.{OfForm}
 use Rattle.theory.proofs.Times.{time-⧺}
 use Rattle.theory.proofs.Windows.{Free}
 use Rattle.reading.specs.Closing.{opensBlock}
-use Rattle.reading.specs.Ranges.{Stands, firstPart, afterFirst, testOf}
+use Rattle.reading.specs.Ranges.{firstPart, afterFirst, testOf}
+use Rattle.reading.specs.Walks.{OpenAt}
 use Rattle.placing.specs.declared.clock.State.{State}
 use Rattle.layout.specs.declared.measure.Passage.{Passage}
-use Rattle.placing.specs.States.{Laying, After, Stepped}
-use Rattle.layout.specs.Ranges.{only}
-use Rattle.layout.specs.Measured.{laid, Passes, Entered, Statement, BlockPassed, StatementPassed}
+use Rattle.placing.specs.States.{After, Stepped}
+use Rattle.layout.specs.Measured.{laid, Passes, Ready, Entered, Statement, BlockPassed, StatementPassed}
 use Rattle.placing.proofs.Going.{after-nil, after-⧺}
-use Rattle.reading.proofs.Standing.{times-at, body-stands, body-ends}
+use Rattle.reading.proofs.Walking.{times-at, open-at, first-in}
 use Rattle.layout.proofs.Standing.{some-rounds}
 use Rattle.layout.proofs.Unrolled.{rounds, rounds-none, rounds-more, laid-times, laid-free}
 use Rattle.layout.proofs.Passing.{in-time, too-late, passed, passed-late, laying-on}
-use Rattle.layout.proofs.PassingSteps.{block, stands, answered-of}
+use Rattle.layout.proofs.PassingSteps.{LaidAs, laid-as, answered, block}
 
 -- more rounds take longer
 rounds-longer : (σ : Settings) (fits : Fits σ) (a : Block) (m k t : ℕ) → OfForm Equalised a → Free σ 0 t → time σ (rounds σ a m t) ≤ time σ (rounds σ a (m + k) t)
@@ -53,32 +53,24 @@ module _ {s : List ℕ} {i to : ℕ} {σ : Settings} {from : State} (S : Stateme
   abbrev pub count : ℕ
   count = recordAt s i .count
 
-  pub is-times : block S ≡ times test count body (afterFirst (block S))
-  is-times = times-at (block S) (stands S) (S .early) (S .goes-on) k
-
-  pub body-there : Stands Equalised s (i + 1) to body
-  body-there = body-stands (block S) (stands S) (S .early) (S .goes-on) (ap opensBlock k) (λ e. omega (arith, e, k))
+  pub opened : OpenAt Equalised s i to (block S)
+  opened = open-at (S .here) (ap opensBlock k)
 
   pub body-form : OfForm Equalised body
-  body-form = body-there .fills .of-form
-
-  pub body-inside : i + 1 + size body < to
-  body-inside = body-ends (block S) (stands S) (S .early) (S .goes-on) (ap opensBlock k) (λ e. omega (arith, e, k))
+  body-form = opened .first .fills .of-form
 
   -- so many rounds are laid, of `last`
   pub record Rounding (last : ℕ) (state : State) (next round : ℕ) : Type 0 where
     pub upto : round ≤ last
-    pub laying : Laying σ state
-    pub free : Free σ 0 (state .tick)
+    pub ready : Ready σ state
     pub after : After σ (rounds σ body round (from .tick)) from state
     pub later : 1 ≤ round → next ≡ i + 1 + size body
 
   unfoldable pub rounding-start : (last : ℕ) → Rounding last from (i + 1) 0
   rounding-start last = record {
     upto = omega arith;
-    laying = S .entered .laying;
-    free = S .entered .free;
-    after = subst (λ (c : Block). After σ c from from) (sym (rounds-none σ body (from .tick))) (after-nil (S .entered .laying .shows));
+    ready = S .ready;
+    after = subst (λ (c : Block). After σ c from from) (sym (rounds-none σ body (from .tick))) (after-nil (S .ready .laying .shows));
     later = λ h. absurd (omega arith);
   }
 
@@ -90,32 +82,28 @@ module _ {s : List ℕ} {i to : ℕ} {σ : Settings} {from : State} (S : Stateme
     abbrev pub whole : Block
     whole = rounds σ body last (from .tick) ⧺ (before σ check-tick 1 ⧺ act (check test) nil)
 
-    pub laid-whole : laid σ (only (times test count body (afterFirst (block S)))) (from .tick) ≡ whole
-    laid-whole =
-        laid-times σ (S .entered .laying .settings .fits) test count body (from .tick) body-form (S .entered .free)
-        ∙ ap (λ (n : ℕ). let c = rounds σ body n (from .tick) in c ⧺ (before σ (from .tick + time σ c) 1 ⧺ act (check test) nil)) (sym R)
-
-    pub told : {r : Passage} → Passes σ whole (i + (2 + size body)) from r → StatementPassed s i to σ from r
-    told {r} A =
-        answered-of S (times test count body (afterFirst (block S))) is-times
-        (subst (λ (c : Block). Passes σ c (i + (2 + size body)) from r) (sym laid-whole) A)
+    pub times-as : LaidAs S whole (2 + size body)
+    times-as =
+        laid-as (times test count body (afterFirst (block S))) (times-at (S .here) k)
+        (laid-times σ (S .ready .laying .settings .fits) test count body (from .tick) body-form (S .ready .free)
+        ∙ ap (λ (n : ℕ). let c = rounds σ body n (from .tick) in c ⧺ (before σ (from .tick + time σ c) 1 ⧺ act (check test) nil)) (sym R))
 
     module _ {state : State} {next round : ℕ} (P : Rounding last state next round) where
       -- A ROUND
 
       unfoldable pub body-entered : Entered s (i + 1) to σ state
-      body-entered = record { file = record { block = body; stands = body-there; inside = S .entered .file .inside }; laying = P .laying; free = P .free }
+      body-entered = record { file = first-in (S .here) (ap opensBlock k); ready = P .ready }
 
       module _ (l : round < last) {r : Passage} (B : BlockPassed s (i + 1) to σ state r) where
         abbrev pub one : Block
         one = laid σ body (state .tick)
 
         pub passes : Passes σ one (i + 1 + size body) state r
-        passes = B .right body body-there
+        passes = B .right body (opened .first)
 
         pub more : rounds σ body (round + 1) (from .tick) ≡ rounds σ body round (from .tick) ⧺ one
         more =
-            rounds-more σ (S .entered .laying .settings .fits) body round (from .tick) body-form (S .entered .free)
+            rounds-more σ (S .ready .laying .settings .fits) body round (from .tick) body-form (S .ready .free)
             ∙ ap (λ (t : ℕ). rounds σ body round (from .tick) ⧺ laid σ body t) (sym (P .after .tick))
 
         -- they end where this one does, or later
@@ -127,21 +115,23 @@ module _ {s : List ℕ} {i to : ℕ} {σ : Settings} {from : State} (S : Stateme
               P .after .tick,
               ap (time σ) more,
               time-⧺ σ (rounds σ body round (from .tick)) one,
-              rounds-longer σ (S .entered .laying .settings .fits) body (round + 1) (last - (round + 1)) (from .tick) body-form (S .entered .free),
+              rounds-longer σ (S .ready .laying .settings .fits) body (round + 1) (last - (round + 1)) (from .tick) body-form (S .ready .free),
               ap (λ (m : ℕ). time σ (rounds σ body m (from .tick))) n,
               time-⧺ σ (rounds σ body last (from .tick)) (before σ check-tick 1 ⧺ act (check test) nil),
             )
 
         pub rounding-late : σ .period < r .state .tick → StatementPassed s i to σ from r
-        rounding-late h = told (passed-late (omega (arith, not-before, too-late passes h)) h)
+        rounding-late h = answered times-as (passed-late (omega (arith, not-before, too-late passes h)) h)
 
         pub rounding-next : r .state .tick ≤ σ .period → Rounding last (r .state) (r .next) (round + 1)
         rounding-next h =
             let A = passes .after (in-time passes h) in
             record {
               upto = omega arith;
-              laying = laying-on (P .laying) A h;
-              free = subst (Free σ 0) (sym (A .tick)) (laid-free σ (P .laying .settings .fits) body 0 (state .tick) body-form (omega arith) (P .free));
+              ready = record {
+                laying = laying-on (P .ready .laying) A h;
+                free = subst (Free σ 0) (sym (A .tick)) (laid-free σ (P .ready .laying .settings .fits) body 0 (state .tick) body-form (omega arith) (P .ready .free));
+              };
               after = subst (λ (c : Block). After σ c from (r .state)) (sym more) (after-⧺ (rounds σ body round (from .tick)) one (P .after) A);
               later = λ z. passes .goes (in-time passes h);
             }
@@ -154,10 +144,10 @@ module _ {s : List ℕ} {i to : ℕ} {σ : Settings} {from : State} (S : Stateme
 
         -- the END stands at next
         pub at-end : next ≡ i + 1 + size body
-        at-end = P .later (omega (arith, done, R, some-rounds (block S) (stands S) (S .early) (S .goes-on) k))
+        at-end = P .later (omega (arith, done, R, some-rounds (S .here) k))
 
         pub rounds-passed : {r : State} {m : ℕ} → Stepped σ state 1 r → StatementPassed s i to σ from (record { state = r; next = next + 1; ifs = m })
-        rounds-passed {r} T = told (passed (after-⧺ (rounds σ body last (from .tick)) (before σ check-tick 1 ⧺ act (check test) nil) P′ C) (omega (arith, at-end)))
+        rounds-passed {r} T = answered times-as (passed (after-⧺ (rounds σ body last (from .tick)) (before σ check-tick 1 ⧺ act (check test) nil) P′ C) (omega (arith, at-end)))
           where
             P′ : After σ (rounds σ body last (from .tick)) from state
             P′ = subst (λ (n : ℕ). After σ (rounds σ body n (from .tick)) from state) done (P .after)

@@ -35,6 +35,7 @@ use Rattle.placing.proofs.Going.{after-⧺, after-alike}
 use Rattle.placing.proofs.Ticking.{left-is}
 use Rattle.layout.proofs.Noting.{holds-notes, meetings-⧺, few-meetings}
 use Rattle.reading.proofs.Standing.{stands-file}
+use Rattle.reading.proofs.Walking.{whole-file}
 
 -- TICK 0
 
@@ -76,9 +77,8 @@ module _ {σ : Settings} (L : Layable σ) {o : State} (A : After σ opening star
 
   pub file-entered : {s : List ℕ} → SoundFile Equalised s → o .tick ≤ σ .period → Entered s 0 (length s / 12) σ o
   file-entered {s} S h = record {
-    file = record { block = fileTree s; stands = stands-file Equalised s S; inside = omega arith };
-    laying = record { settings = L; shows = A .shows; within = h };
-    free = subst (Free σ 0) (sym start-tick) (free-start σ (L .fits));
+    file = whole-file S;
+    ready = record { laying = record { settings = L; shows = A .shows; within = h }; free = subst (Free σ 0) (sym start-tick) (free-start σ (L .fits)) };
   }
 
   -- the steps up to the last one are the commands and the laid block

@@ -15,25 +15,25 @@ use Rattle.model.proofs.Stands.{At}
 use Rattle.records.specs.Blocks.{blockBytes, skipRecords, skipBytes}
 use Rattle.records.proofs.Blocks.{waiting-bytes, branch-bytes, size-waiting, length-block}
 use Rattle.records.proofs.Over.{Part, lent, back, part-first, part-fits, part-fits-last, part-lent, part-last, part-at, part-length}
-use Rattle.reading.specs.Ranges.{Stands, firstPart, secondPart, afterFirst, testOf}
+use Rattle.reading.specs.Closing.{opensBlock}
+use Rattle.reading.specs.Ranges.{InFile, firstPart, secondPart, afterFirst, testOf}
 use Rattle.placing.specs.declared.clock.State.{State}
 use Rattle.layout.specs.declared.measure.Passage.{Passage}
 use Rattle.placing.specs.Merging.{settled, waits}
 use Rattle.placing.specs.States.{cap, backTo}
-use Rattle.layout.specs.Ranges.{only}
 use Rattle.layout.specs.Measured.{laid, Met, Statement}
 use Rattle.layout.specs.Meetings.{meetings, Holds}
 use Rattle.placing.specs.Placed.{bytesOf, stepBytes, StepLaid}
 use Rattle.layout.specs.Written.{LaidFits, SideFits, SideLays, SideLaid, StatementFits, StatementLaid}
 use Rattle.placing.proofs.Settling.{size-settled, bytes-settled}
-use Rattle.placing.proofs.Moves.{shows-on}
 use Rattle.placing.proofs.Writing.{laidBytes}
-use Rattle.reading.proofs.Standing.{if-at}
+use Rattle.reading.proofs.Walking.{first-in, if-at, second-in}
 use Rattle.layout.proofs.Noting.{holds-first, holds-rest, holds-left, holds-right}
 use Rattle.layout.proofs.Unrolled.{laid-branch, filled-ends}
-use Rattle.layout.proofs.PassingBranches.{branch-after, one, two, is-if, one-there, two-there, tested, test-wait, end, whole, laid-whole, first-free, second-free, end-free}
-use Rattle.layout.proofs.PassingBranches.{whole-meetings, not-before, laying, side-free}
-use Rattle.layout.proofs.WritingSteps.{block, fits-as, answered-as}
+use Rattle.layout.proofs.PassingBranches.{branch-after, one, two, tested, test-wait, end, whole, branch-as, first-free, second-free, end-free}
+use Rattle.layout.proofs.PassingSteps.{laid-as, block}
+use Rattle.layout.proofs.PassingBranches.{whole-meetings, not-before, ready, ready-again}
+use Rattle.layout.proofs.WritingSteps.{fits-as, holds-as, answered-as}
 
 -- the IF at i with the record x
 module _ {s : List ℕ} {i to : ℕ} {σ : Settings} {from : State} {p : ℕ} {table old : List ℕ} (F : StatementFits s i to σ from p table old) (k : kindAt s i ≡ IF)
@@ -50,11 +50,8 @@ module _ {s : List ℕ} {i to : ℕ} {σ : Settings} {from : State} {p : ℕ} {t
   abbrev w : ℕ
   w = waits (from .wait) lead
 
-  is-branch : block F ≡ branch q (firstPart (block F)) (secondPart (block F)) (afterFirst (block F))
-  is-branch = if-at (block F) (S .entered .file .stands) (S .early) (S .goes-on) k
-
   is-test : x ≡ testRec IF q 0
-  is-test = e ∙ subst (λ (b : Block). At s i b) is-branch (S .entered .file .stands .fills .stands) .0 .is
+  is-test = e ∙ subst (λ (b : Block). At s i b) (if-at (S .here) k .is) (S .here .file .stands .fills .stands) .0 .is
 
   -- SIZES
 
@@ -74,13 +71,13 @@ module _ {s : List ℕ} {i to : ℕ} {σ : Settings} {from : State} {p : ℕ} {t
   pub test-fits : length (stepBytes σ from 1 x) ≤ length old
   test-fits =
       let u = from .tick + time σ lead + 1 in
-      let a = laid σ (firstPart (block F)) u in
-      let d = laid σ (secondPart (block F)) u in
+      let a = laid σ (firstPart (block S)) u in
+      let d = laid σ (secondPart (block S)) u in
       let m = u + max (time σ a) (time σ d) in
       let f = filled σ u a m in
       let g = filled σ u d m in
-      let is = laid-branch σ q (firstPart (block F)) (secondPart (block F)) (from .tick) in
-      let fits = fits-as F (branch q (firstPart (block F)) (secondPart (block F)) (afterFirst (block F))) is-branch (lead ⧺ branch q f g nil) is in
+      let is = laid-branch σ q (firstPart (block S)) (secondPart (block S)) (from .tick) in
+      let fits = fits-as F (laid-as (branch q (firstPart (block S)) (secondPart (block S)) (afterFirst (block S))) (if-at (S .here) k .is) is) in
       omega (arith, fits .room .room, test-length, branch-size f g, length-block (settled (from .wait) (lead ⧺ branch q f g nil)))
 
   -- THE TEST ENDS AT `test`
@@ -101,11 +98,8 @@ module _ {s : List ℕ} {i to : ℕ} {σ : Settings} {from : State} {p : ℕ} {t
     abbrev all : Block
     all = whole S k (T .state)
 
-    is-all : laid σ (only (block F)) (from .tick) ≡ all
-    is-all = ap (λ (b : Block). laid σ (only b) (from .tick)) (is-if S k (T .state)) ∙ laid-whole S k (T .state)
-
     the-if : LaidFits σ all from old
-    the-if = subst (λ (c : Block). LaidFits σ c from old) is-all (F .fits)
+    the-if = fits-as F (branch-as S k (T .state))
 
     sizes : size (settled (from .wait) all) ≡ size (settled (from .wait) lead) + skipRecords w + (3 + size (merge 0 (side A)) + size (merge 0 (side D)))
     sizes = branch-size (side A) (side D)
@@ -158,7 +152,7 @@ module _ {s : List ℕ} {i to : ℕ} {σ : Settings} {from : State} {p : ℕ} {t
     all-meetings = whole-meetings S k (T .state)
 
     held : Holds (meets ∷ (ms-one ++ ms-two)) p table
-    held = subst (λ (ms : List ℕ). Holds ms p table) (ap (λ (c : Block). meetings σ c (from .tick)) is-all ∙ all-meetings) (F .holds)
+    held = subst (λ (ms : List ℕ). Holds ms p table) all-meetings (holds-as F (branch-as S k (T .state)))
 
     pub table-at : (p < 1821) × (getD table p 0 ≡ meets)
     table-at = holds-first held
@@ -185,11 +179,7 @@ module _ {s : List ℕ} {i to : ℕ} {σ : Settings} {from : State} {p : ℕ} {t
       pub one-fits : SideFits s (i + 1) to σ test m elseRec (p + 1) table (lent new n)
       one-fits =
           subst (λ (j : ℕ). SideFits s (i + 1) to σ test j elseRec (p + 1) table (lent new n)) meets-at (record {
-            entered = record {
-              file = record { block = A; stands = one-there S k (T .state); inside = S .entered .file .inside };
-              laying = laying S k (T .state) soon;
-              free = side-free S k (T .state) soon;
-            };
+            entered = record { file = first-in (S .here) (ap opensBlock k); ready = ready S k (T .state) soon };
             reaches = omega arith;
             upto = in-time;
             free = end-free S k (T .state);
@@ -205,7 +195,7 @@ module _ {s : List ℕ} {i to : ℕ} {σ : Settings} {from : State} {p : ℕ} {t
 
         one-lays : SideLays σ A meets elseRec (i + 1 + size A) (p + 1) test (lent new n) ys a
         one-lays =
-            subst (λ (j : ℕ). SideLays σ A j elseRec (i + 1 + size A) (p + 1) test (lent new n) ys a) (sym meets-at) (L .right A (one-there S k (T .state)))
+            subst (λ (j : ℕ). SideLays σ A j elseRec (i + 1 + size A) (p + 1) test (lent new n) ys a) (sym meets-at) (L .right A (if-at (S .here) k .first))
 
         one-records : a .state .records ≡ test .records + size (merge 0 (side A)) + 1
         one-records = omega (arith, one-lays .closed .records, ap (λ (w : ℕ). size (merge w (side A))) no-wait)
@@ -240,22 +230,14 @@ module _ {s : List ℕ} {i to : ℕ} {σ : Settings} {from : State} {p : ℕ} {t
           pub one-long : length new-2 ≡ length old
           one-long = part-length one-part
 
-          two-at : Stands Equalised s (a .next + 1) to D
-          two-at = subst (λ (j : ℕ). Stands Equalised s (j + 1) to D) (sym one-ends) (two-there S k (T .state))
+          abbrev two-in : InFile Equalised s (a .next + 1) to
+          two-in = second-in (S .here) k one-ends
 
           module _ {z : State} (st : z ≡ starts (a .state .records)) where
             pub two-fits : SideFits s (a .next + 1) to σ z m endRec (a .ifs) table (lent new-2 l)
             two-fits = subst (λ (z : State). SideFits s (a .next + 1) to σ z m endRec (a .ifs) table (lent new-2 l)) (sym st)
                 (subst (λ (j : ℕ). SideFits s (a .next + 1) to σ (starts (a .state .records)) j endRec (a .ifs) table (lent new-2 l)) meets-at (record {
-                  entered = record {
-                    file = record { block = D; stands = two-at; inside = S .entered .file .inside };
-                    laying = record {
-                      settings = S .entered .laying .settings;
-                      shows = shows-on 0 (laying S k (T .state) soon .shows) (omega arith) (omega arith) refl (omega arith) (one-upto .1);
-                      within = soon;
-                    };
-                    free = side-free S k (T .state) soon;
-                  };
+                  entered = record { file = two-in; ready = ready-again S k (T .state) soon (one-upto .1) };
                   reaches = omega arith;
                   upto = in-time;
                   free = end-free S k (T .state);
@@ -268,14 +250,14 @@ module _ {s : List ℕ} {i to : ℕ} {σ : Settings} {from : State} {p : ℕ} {t
               two-lays : SideLays σ D meets endRec (a .next + 1 + size D) (a .ifs) (starts (a .state .records)) (lent new-2 l) zs d
               two-lays =
                   subst (λ (j : ℕ). SideLays σ D j endRec (a .next + 1 + size D) (a .ifs) (starts (a .state .records)) (lent new-2 l) zs d) (sym meets-at)
-                  (subst (λ (z : State). SideLaid s (a .next + 1) to σ z m endRec (a .ifs) (lent new-2 l) zs d) st E .right D two-at)
+                  (subst (λ (z : State). SideLaid s (a .next + 1) to σ z m endRec (a .ifs) (lent new-2 l) zs d) st E .right D (two-in .stands))
 
               pub two-ends : d .next ≡ i + 1 + size A + 1 + size D
               two-ends = omega (arith, two-lays .goes, one-ends)
 
               ends-at : d .state .tick ≡ meets
               ends-at = two-lays .closed .tick
-                  ∙ filled-ends σ (S .entered .laying .settings .fits) (laid σ D (test .tick)) (test .tick) meets (second-free S k (T .state)) (end-free S k (T .state)) (omega arith)
+                  ∙ filled-ends σ (S .ready .laying .settings .fits) (laid σ D (test .tick)) (test .tick) meets (second-free S k (T .state)) (end-free S k (T .state)) (omega arith)
 
               met : Met σ test (laid σ A (test .tick)) (laid σ D (test .tick)) (d .state)
               met = record {
@@ -292,10 +274,10 @@ module _ {s : List ℕ} {i to : ℕ} {σ : Settings} {from : State} {p : ℕ} {t
 
               pub branch-laid : StatementLaid s i to σ from p old (back new-2 l zs) (record { state = d .state; next = d .next + 1; ifs = d .ifs })
               branch-laid =
-                  answered-as F (branch q A D (afterFirst (block F))) (is-if S k (T .state)) all (laid-whole S k (T .state))
+                  answered-as F (branch-as S k (T .state))
                   (record {
                     lays = record {
-                      after = branch-after q (laid σ A (test .tick)) (laid σ D (test .tick)) (S .entered .laying .settings .fits) (tested S k (T .state)) met
+                      after = branch-after q (laid σ A (test .tick)) (laid σ D (test .tick)) (S .ready .laying .settings .fits) (tested S k (T .state)) met
                           (first-free S k (T .state)) (second-free S k (T .state));
                       wrote = part-last one-part (two-lays .wrote);
                     };

@@ -7,13 +7,12 @@ use mathlib.Core.List.{List, _++_, append-nil}
 use lib.ListN.{length, length-append}
 use Rattle.model.specs.declared.Settings.{Settings}
 use Rattle.model.specs.Records.{Rec, kindAt, recordAt, TIMES}
-use Rattle.model.specs.Trees.{check, Block, nil, act, times, _⧺_, size, actRec}
+use Rattle.model.specs.Trees.{check, Block, nil, act, _⧺_, size, actRec}
 use Rattle.model.specs.Times.{time}
 use Rattle.model.specs.Layout.{before}
 use Rattle.model.proofs.Trees.{⧺-nil, ⧺-assoc}
 use Rattle.theory.proofs.Times.{time-⧺}
 use Rattle.records.proofs.Over.{lent, back}
-use Rattle.reading.specs.Ranges.{afterFirst}
 use Rattle.placing.specs.declared.clock.State.{State}
 use Rattle.layout.specs.declared.measure.Passage.{Passage}
 use Rattle.layout.specs.Measured.{laid, BlockPassed}
@@ -25,9 +24,9 @@ use Rattle.layout.proofs.Unrolled.{rounds, rounds-none, rounds-first}
 use Rattle.placing.proofs.Writing.{laidBytes, Writing, writing-start, writing-same, writing-room, writing-next, writing-end}
 use Rattle.layout.proofs.Noting.{holds-left, holds-right, meetings-⧺, plain-step}
 use Rattle.layout.proofs.Passing.{passed}
-use Rattle.layout.proofs.PassingRounds.{body, test, count, is-times, body-there, body-form, check-tick, whole, laid-whole}
+use Rattle.layout.proofs.PassingRounds.{body, test, opened, body-form, check-tick, whole, times-as}
 use Rattle.layout.proofs.PassingRounds.{Rounding, rounding-start, body-entered, more, rounding-next, at-end}
-use Rattle.layout.proofs.WritingSteps.{block, fits-as, holds-as, answered-as, step-fits, step-lays}
+use Rattle.layout.proofs.WritingSteps.{fits-as, holds-as, answered-as, step-fits, step-lays}
 
 -- a block that is laid has passed
 pub block-passed : {s : List ℕ} {i to : ℕ} {σ : Settings} {at : State} {k : ℕ} {old new : List ℕ} {r : Passage} → BlockLaid s i to σ at k old new r → BlockPassed s i to σ at r
@@ -47,8 +46,7 @@ module _ {s : List ℕ} {i to : ℕ} {σ : Settings} {from : State} {p : ℕ} {t
   all = whole (F .statement) k R
 
   the-loop : LaidFits σ all from old
-  the-loop =
-      fits-as F (times (test (F .statement) k) (count (F .statement) k) a (afterFirst (block F))) (is-times (F .statement) k) all (laid-whole (F .statement) k R)
+  the-loop = fits-as F (times-as (F .statement) k R)
 
   -- its meetings are those of its rounds
   the-meetings : meetings σ all (from .tick) ≡ meetings σ (rounds σ a last (from .tick)) (from .tick)
@@ -59,9 +57,7 @@ module _ {s : List ℕ} {i to : ℕ} {σ : Settings} {from : State} {p : ℕ} {t
       ∙ append-nil (meetings σ (rounds σ a last (from .tick)) (from .tick))
 
   held : Holds (meetings σ (rounds σ a last (from .tick)) (from .tick)) p table
-  held =
-      subst (λ (ms : List ℕ). Holds ms p table) the-meetings
-      (holds-as F (times (test (F .statement) k) (count (F .statement) k) a (afterFirst (block F))) (is-times (F .statement) k) all (laid-whole (F .statement) k R))
+  held = subst (λ (ms : List ℕ). Holds ms p table) the-meetings (holds-as F (times-as (F .statement) k R))
 
   -- what is left after some rounds
   abbrev left-from : State → ℕ → Block
@@ -76,7 +72,7 @@ module _ {s : List ℕ} {i to : ℕ} {σ : Settings} {from : State} {p : ℕ} {t
   pub rounds-start : WritingRounds from (i + 1) 0 p old
   rounds-start = record {
     rounding = rounding-start (F .statement) k last;
-    writing = writing-same (writing-start (F .statement .entered .laying .shows) (the-loop .room))
+    writing = writing-same (writing-start (F .statement .ready .laying .shows) (the-loop .room))
         (alike-eq (ap (λ (n : ℕ). rounds σ a n (from .tick) ⧺ check-from (check-tick (F .statement) k R)) (sym (sub-zero last))));
     ifs = omega (arith, ap (λ (c : Block). length (meetings σ c (from .tick))) (rounds-none σ a (from .tick)));
     holds = subst (λ (n : ℕ). Holds (meetings σ (rounds σ a n (from .tick)) (from .tick)) p table) (sym (sub-zero last)) held;
@@ -99,7 +95,7 @@ module _ {s : List ℕ} {i to : ℕ} {σ : Settings} {from : State} {p : ℕ} {t
       first =
           let m : last - round ≡ suc (last - (round + 1)) = omega arith in
           ap (λ (j : ℕ). rounds σ a j (state .tick)) m
-          ∙ rounds-first σ (W .rounding .laying .settings .fits) a (last - (round + 1)) (state .tick) (body-form (F .statement) k) (W .rounding .free)
+          ∙ rounds-first σ (W .rounding .ready .laying .settings .fits) a (last - (round + 1)) (state .tick) (body-form (F .statement) k) (W .rounding .ready .free)
 
       split : Writing σ all (one ⧺ others) from state old new
       split = writing-same (W .writing) (alike-eq (
@@ -134,7 +130,7 @@ module _ {s : List ℕ} {i to : ℕ} {σ : Settings} {from : State} {p : ℕ} {t
         B = subst (λ (v : ℕ). BlockLaid s (i + 1) to σ state n (lent new v) ys r) h B′
 
         laid-one : LaysTo σ one (i + 1 + size a) n state (lent new (laidBytes from state)) ys r
-        laid-one = B .right a (body-there (F .statement) k)
+        laid-one = B .right a (opened (F .statement) k .first)
 
         more-meetings : meetings σ (rounds σ a (round + 1) (from .tick)) (from .tick) ≡ meetings σ (rounds σ a round (from .tick)) (from .tick) ++ meetings σ one (state .tick)
         more-meetings =
@@ -187,7 +183,7 @@ module _ {s : List ℕ} {i to : ℕ} {σ : Settings} {from : State} {p : ℕ} {t
         rounds-laid {ys} {r} L′ =
             let L = subst (λ (v : ℕ). StepLaid σ state 1 x (lent new v) ys r) h L′ in
             subst (λ (v : ℕ). StatementLaid s i to σ from p old (back new v ys) (record { state = r; next = next + 1; ifs = n })) (sym h)
-            (answered-as F (times (test (F .statement) k) (count (F .statement) k) a (afterFirst (block F))) (is-times (F .statement) k) all (laid-whole (F .statement) k R)
+            (answered-as F (times-as (F .statement) k R)
             (record {
               lays = writing-end (writing-next (check-from (state .tick)) nil final (step-lays σ 1 (check (test (F .statement) k)) e refl L));
               goes = omega (arith, at-end (F .statement) k R (W .rounding) l);

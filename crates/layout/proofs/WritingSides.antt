@@ -22,7 +22,7 @@ use Rattle.layout.specs.Measured.{laid}
 use Rattle.placing.specs.Placed.{bytesOf, closingBytes, EndFits, Closed, EndLaid}
 use Rattle.layout.specs.Written.{BlockFits, BlockLaid, LaysTo, sideBytes, SideFits, SideLays, SideLaid}
 use Rattle.placing.proofs.Settling.{waits-⧺, bytes-settled, bytes-merge}
-use Rattle.reading.proofs.Standing.{stands-once}
+use Rattle.reading.proofs.Walking.{every}
 use Rattle.placing.proofs.Writing.{laidBytes}
 use Rattle.layout.proofs.Meeting.{size-merges}
 use Rattle.layout.proofs.Passing.{laying-on}
@@ -101,7 +101,7 @@ module _ {s : List ℕ} {i to : ℕ} {σ : Settings} {at : State} {e : ℕ} {x :
       pub end-fits : EndFits σ (r .state) e x (lent new n)
       end-fits = record {
         can = record {
-          laying = laying-on (F .entered .laying) after (omega (arith, after .tick, F .reaches, F .upto));
+          laying = laying-on (F .entered .ready .laying) after (omega (arith, after .tick, F .reaches, F .upto));
           reaches = omega (arith, after .tick, F .reaches);
           upto = F .upto;
           free = F .free;
@@ -121,9 +121,7 @@ module _ {s : List ℕ} {i to : ℕ} {σ : Settings} {at : State} {e : ℕ} {x :
 
         pub side-laid : SideLaid s i to σ at e x k old (back new n ys) (record { state = q; next = r .next; ifs = r .ifs })
         side-laid = record {
-          right = λ d D.
-              subst (λ (z : Block). SideLays σ z e x (i + size z) k at old (back new n ys) (record { state = q; next = r .next; ifs = r .ifs }))
-              (stands-once (F .entered .file .block) d (F .entered .file .stands) D)
+          right = every (λ (z : Block). SideLays σ z e x (i + size z) k at old (back new n ys) (record { state = q; next = r .next; ifs = r .ifs })) (F .entered .file)
               (record {
                 closed = closed;
                 wrote = part-last part (E .wrote ∙ ap (λ (bs : List ℕ). over bs (lent new n)) ends);

@@ -4,33 +4,28 @@ use native.Mathlib.Omega.{arith}
 use mathlib.Core.Path.{_≡_, refl, ap, sym, subst, _∙_}
 use mathlib.Core.List.{List, _++_}
 use lib.ListN.{length}
-use Rattle.model.specs.declared.Form.the-variants.{Equalised}
 use Rattle.model.specs.declared.Settings.{Settings}
 use Rattle.model.specs.Records.{Rec, recordAt, SKIP, IF, TIMES, over}
-use Rattle.model.specs.Trees.{Act, Block, nil, skip, act, _⧺_, actRec}
-use Rattle.model.specs.Times.{ticks, time}
+use Rattle.model.specs.Trees.{Act, Block, nil, act, _⧺_, actRec}
+use Rattle.model.specs.Times.{ticks}
 use Rattle.model.specs.Layout.{before, idles}
 use Rattle.records.specs.declared.Record.{Record}
 use Rattle.records.specs.Records.{recordOf}
 use Rattle.records.specs.Blocks.{skipBytes}
 use Rattle.records.proofs.Blocks.{waiting-bytes, act-bytes}
-use Rattle.reading.specs.Ranges.{Stands, firstSize, afterFirst}
 use Rattle.reading.proofs.FirstKinds.{IsAct}
 use Rattle.timing.specs.Times.{stepTicks}
 use Rattle.placing.specs.declared.clock.State.{State}
 use Rattle.layout.specs.declared.measure.Passage.{Passage}
 use Rattle.placing.specs.Merging.{waits}
-use Rattle.layout.specs.Ranges.{only}
 use Rattle.layout.specs.Measured.{laid, StatementPassed}
 use Rattle.layout.specs.Meetings.{meetings, Holds}
 use Rattle.placing.specs.Placed.{bytesOf, Room, Lays, stepBytes, StepLaid}
 use Rattle.layout.specs.Written.{LaidFits, StatementFits, LaysTo, StatementLaid}
 use Rattle.placing.proofs.Settling.{bytes-settled}
-use Rattle.reading.proofs.Standing.{stands-once, skip-at}
-use Rattle.layout.proofs.Unrolled.{laid-skip, laid-act}
 use Rattle.layout.proofs.Noting.{plain-idles, plain-step}
 use Rattle.layout.proofs.Passing.{passed}
-use Rattle.layout.proofs.PassingSteps.{kind-there, count-there, is-act, act-lasts}
+use Rattle.layout.proofs.PassingSteps.{LaidAs, laid-every, skip-as, is-act, act-lasts, act-as}
 
 -- A STEP
 
@@ -58,74 +53,43 @@ pub laid-passed : {s : List ℕ} {i to : ℕ} {σ : Settings} {at : State} {k : 
 laid-passed L = record { right = λ b B. passed (L .right b B .lays .after) (L .right b B .goes) }
 
 module _ {s : List ℕ} {i to : ℕ} {σ : Settings} {from : State} {k : ℕ} {table old : List ℕ} (F : StatementFits s i to σ from k table old) where
-  abbrev pub block : Block
-  block = F .statement .entered .file .block
-
-  pub stands : Stands Equalised s i to block
-  stands = F .statement .entered .file .stands
-
-  -- where the block is known to be b, and its first statement is laid as c
-  module _ (b : Block) (e : block ≡ b) (c : Block) (f : laid σ (only b) (from .tick) ≡ c) where
+  -- where it is laid as c
+  module _ {c : Block} {n : ℕ} (A : LaidAs (F .statement) c n) where
     pub fits-as : LaidFits σ c from old
-    fits-as = subst (λ (x : Block). LaidFits σ x from old) (ap (λ (y : Block). laid σ (only y) (from .tick)) e ∙ f) (F .fits)
+    fits-as = subst (λ (x : Block). LaidFits σ x from old) (A .same) (F .fits)
 
     pub holds-as : Holds (meetings σ c (from .tick)) k table
-    holds-as = subst (λ (x : Block). Holds (meetings σ x (from .tick)) k table) (ap (λ (y : Block). laid σ (only y) (from .tick)) e ∙ f) (F .holds)
+    holds-as = subst (λ (x : Block). Holds (meetings σ x (from .tick)) k table) (A .same) (F .holds)
 
-    pub answered-as : {new : List ℕ} {r : Passage} → LaysTo σ c (i + firstSize b) k from old new r → StatementLaid s i to σ from k old new r
-    answered-as {new} {r} L = record {
-      right = λ y Y.
-          subst (λ (z : Block). LaysTo σ (laid σ (only z) (from .tick)) (i + firstSize z) k from old new r) (sym e ∙ stands-once block y stands Y)
-          (subst (λ (x : Block). LaysTo σ x (i + firstSize b) k from old new r) (sym f) L);
-    }
+    pub answered-as : {new : List ℕ} {r : Passage} → LaysTo σ c (i + n) k from old new r → StatementLaid s i to σ from k old new r
+    answered-as {new} {r} L = record { right = laid-every (λ (d : Block) (m : ℕ). LaysTo σ d (i + m) k from old new r) A L }
 
   -- the record at i
   module _ {x : Record} (e : recordOf x ≡ recordAt s i) where
     -- a SKIP
     module _ (h : x .kind ≡ SKIP) where
-      abbrev n : ℕ
-      n = recordAt s i .count
-
-      is-skip : block ≡ skip n (afterFirst block)
-      is-skip = skip-at block stands (F .statement .early) (F .statement .goes-on) (kind-there (F .statement) e h)
-
-      as-skips : laid σ (only (skip n (afterFirst block))) (from .tick) ≡ idles σ (x .count) (from .tick)
-      as-skips = laid-skip σ n (from .tick) ∙ ap (λ (m : ℕ). idles σ m (from .tick)) (sym (count-there (F .statement) e))
-
-      skip-fits : LaidFits σ (idles σ (x .count) (from .tick)) from old
-      skip-fits = fits-as (skip n (afterFirst block)) is-skip _ as-skips
-
-      pub skip-soon : from .tick + time σ (idles σ (x .count) (from .tick)) ≤ σ .period
-      skip-soon = skip-fits .within
-
-      pub skip-room : Room (idles σ (x .count) (from .tick)) from old
-      skip-room = skip-fits .room
+      pub skip-fits : LaidFits σ (idles σ (x .count) (from .tick)) from old
+      skip-fits = fits-as (skip-as (F .statement) e h)
 
       pub skip-laid : {new : List ℕ} {r : State} → Lays σ (idles σ (x .count) (from .tick)) from old new r
           → StatementLaid s i to σ from k old new (record { state = r; next = i + 1; ifs = k })
-      skip-laid L = answered-as (skip n (afterFirst block)) is-skip _ as-skips
+      skip-laid L = answered-as (skip-as (F .statement) e h)
           (record { lays = L; goes = refl; ifs = omega (arith, ap length (plain-idles σ (x .count) (from .tick) (from .tick))) })
 
     -- any other is a step
     module _ (no : x .kind ≡ SKIP → ⊥) (m : x .kind ≡ IF → ⊥) (l : x .kind ≡ TIMES → ⊥) {d : ℕ} (h : d ≡ stepTicks σ (recordOf x)) where
-      abbrev the : IsAct (recordAt s i) block
+      abbrev the : IsAct (recordAt s i) (F .statement .here .file .block)
       the = is-act (F .statement) e no m l
 
-      lasts : ticks σ (the .act-of) ≡ d
-      lasts = act-lasts (F .statement) e no m l ∙ sym h
-
-      as-step : laid σ (only (act (the .act-of) (afterFirst block))) (from .tick) ≡ before σ (from .tick) d ⧺ act (the .act-of) nil
-      as-step = laid-act σ (the .act-of) (from .tick) ∙ ap (λ (n : ℕ). before σ (from .tick) n ⧺ act (the .act-of) nil) lasts
-
       pub act-fits : length (stepBytes σ from d (recordOf x)) ≤ length old
-      act-fits = step-fits σ d (the .act-of) (e ∙ the .same) (fits-as (act (the .act-of) (afterFirst block)) (the .is) _ as-step .room)
+      act-fits = step-fits σ d (the .act-of) (e ∙ the .same) (fits-as (act-as (F .statement) e no m l h) .room)
 
       pub act-laid : {new : List ℕ} {r : State} → StepLaid σ from d (recordOf x) old new r
           → StatementLaid s i to σ from k old new (record { state = r; next = i + 1; ifs = k })
       act-laid L =
-          answered-as (act (the .act-of) (afterFirst block)) (the .is) _ as-step
+          answered-as (act-as (F .statement) e no m l h)
           (record {
-            lays = step-lays σ d (the .act-of) (e ∙ the .same) lasts L;
+            lays = step-lays σ d (the .act-of) (e ∙ the .same) (act-lasts (F .statement) e no m l ∙ sym h) L;
             goes = refl;
             ifs = omega (arith, ap length (plain-step σ d (the .act-of) (from .tick)));
           })

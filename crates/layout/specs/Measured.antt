@@ -1,19 +1,17 @@
 -- What measuring answers: the state once a part of the file is laid, or a tick above P.
 use Prim.Native.Nat.{ℕ, _+_, _≤_, _<_, max}
 use mathlib.Core.Path.{_≡_}
-use mathlib.Core.Bool.{false}
 use mathlib.Core.List.{List}
 use Rattle.model.specs.declared.Form.the-variants.{Equalised}
 use Rattle.model.specs.declared.Settings.{Settings}
-use Rattle.model.specs.Records.{kindAt}
 use Rattle.model.specs.Trees.{Block, size, fileTree}
 use Rattle.model.specs.Times.{time}
 use Rattle.model.specs.Equalising.{merge}
 use Rattle.model.specs.Layout.{unroll, filled, lay, opened}
 use Rattle.theory.proofs.Windows.{Free}
 use Rattle.records.specs.Blocks.{skipRecords}
-use Rattle.reading.specs.Closing.{closesBlock}
 use Rattle.reading.specs.Ranges.{Stands, InFile, firstSize}
+use Rattle.reading.specs.Walks.{StatementAt}
 use Rattle.placing.specs.declared.clock.State.{State}
 use Rattle.layout.specs.declared.measure.Passage.{Passage}
 use Rattle.placing.specs.States.{cap, Shows, Laying, After, backTo, started}
@@ -51,17 +49,19 @@ pub record Meeting (σ : Settings) (x y : State) : Type 0 where
 pub record Meets (σ : Settings) (x y r : State) : Type 0 where
   pub right : (s : State) (a d : Block) → s .wait ≡ 0 → After σ a s x → After σ d (backTo s 0 (x .records)) y → Met σ s a d r
 
--- a block of the file is laid from s on
-pub record Entered (s : List ℕ) (i to : ℕ) (σ : Settings) (at : State) : Type 0 where
-  pub file : InFile Equalised s i to
+-- a block may be laid from a state on
+pub record Ready (σ : Settings) (at : State) : Type 0 where
   pub laying : Laying σ at
   pub free : Free σ 0 (at .tick)
 
--- and it is not empty
+-- a block of the file is, or its first statement
+pub record Entered (s : List ℕ) (i to : ℕ) (σ : Settings) (at : State) : Type 0 where
+  pub file : InFile Equalised s i to
+  pub ready : Ready σ at
+
 pub record Statement (s : List ℕ) (i to : ℕ) (σ : Settings) (at : State) : Type 0 where
-  pub entered : Entered s i to σ at
-  pub early : i < to
-  pub goes-on : closesBlock (kindAt s i) ≡ false
+  pub here : StatementAt Equalised s i to
+  pub ready : Ready σ at
 
 -- what measuring answers for a block and for a statement of the file
 pub record BlockPassed (s : List ℕ) (i to : ℕ) (σ : Settings) (at : State) (r : Passage) : Type 0 where

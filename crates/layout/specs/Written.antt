@@ -34,8 +34,8 @@ pub record BlockFits (s : List ℕ) (i to : ℕ) (σ : Settings) (at : State) (k
 
 pub record StatementFits (s : List ℕ) (i to : ℕ) (σ : Settings) (at : State) (k : ℕ) (table out : List ℕ) : Type 0 where
   pub statement : Statement s i to σ at
-  pub fits : LaidFits σ (laid σ (only (statement .entered .file .block)) (at .tick)) at out
-  pub holds : Holds (meetings σ (laid σ (only (statement .entered .file .block)) (at .tick)) (at .tick)) k table
+  pub fits : LaidFits σ (laid σ (only (statement .here .file .block)) (at .tick)) at out
+  pub holds : Holds (meetings σ (laid σ (only (statement .here .file .block)) (at .tick)) (at .tick)) k table
 
 -- a side of an IF with the block b from s on, filled up to tick e and closed by the record x
 abbrev pub sideBytes : Settings → State → Block → ℕ → Rec → List ℕ

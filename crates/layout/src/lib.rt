@@ -21,6 +21,7 @@ use model::Settings;
 use records::no_room;
 use records::settings::Decoded;
 use records::skips::skip_records;
+use timing::ticks::later;
 use timing::ticks::ticks_of;
 use write::write_file;
 
@@ -28,10 +29,7 @@ use write::write_file;
 fn longest_step(n: Settings) -> u32
     ensures { λ r. ⌜ r ≡ longest n ⌝ }
 {
-    measure::later(
-        measure::later(n.set, n.multiply),
-        measure::later(n.read, n.write),
-    )
+    later(later(n.set, n.multiply), later(n.read, n.write))
 }
 
 // Refusal 7.

@@ -1,7 +1,7 @@
 // The first pass: where laying a block ends, how many records it takes, and the tick where the sides of each IF meet. Only the period
 // ends it early. The settings are a lent table, t, whose last number is the period; the first number of the clock is the tick.
 ghost use mathlib.Core.Path.{_≡_};
-ghost use Prim.Native.Nat.{_+_, _≤_, _<_, max};
+ghost use Prim.Native.Nat.{_+_, _≤_, _<_};
 ghost use mathlib.Core.Bool.{true, _||_};
 ghost use lib.Dec.{eqb};
 ghost use Rattle.model.specs.declared.Form.the-variants.{Equalised};
@@ -43,15 +43,6 @@ pub struct Passage {
     pub state: State,
     pub next: usize,
     pub ifs: usize,
-}
-
-pub fn later(x: u32, y: u32) -> u32
-    ensures { λ r. ⌜ r ≡ max x y ⌝ }
-{
-    if x < y {
-        return y;
-    }
-    x
 }
 
 // The clock of the later side, after the records that are counted up to there.

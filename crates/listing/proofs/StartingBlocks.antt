@@ -1,7 +1,7 @@
 -- The starts of a block, statement by statement.
 use Prim.Native.Nat.{ℕ, _+_, _≤_, _<_}
 use native.Mathlib.Omega.{arith}
-use mathlib.Core.Path.{_≡_, refl, ap, sym, subst, _∙_}
+use mathlib.Core.Path.{_≡_, refl, ap, sym, _∙_}
 use mathlib.Core.Bool.{true, false, false≢true}
 use mathlib.Core.List.{List, [], _∷_}
 use lib.ListN.{length, set as setAt}
@@ -14,8 +14,9 @@ use Rattle.model.specs.Times.{time}
 use Rattle.model.specs.Listing.{startTicks}
 use Rattle.reading.specs.Closing.{closesBlock}
 use Rattle.reading.specs.Ranges.{Stands, firstSize, afterFirst}
-use Rattle.reading.proofs.Filled.{size-first}
-use Rattle.reading.proofs.Standing.{stands-once, stands-closed, stands-end, stands-some, stands-after}
+use Rattle.reading.specs.Walks.{Walk}
+use Rattle.reading.proofs.FirstKinds.{kind-is}
+use Rattle.reading.proofs.Walking.{every, every-of, block, some, walk-start, none-closed, none-ended, walk-end, walk-at, walk-on, walk-next}
 use Rattle.timing.specs.Times.{stepTicks}
 use Rattle.timing.specs.Blocks.{firstTime}
 use Rattle.timing.proofs.Firsts.{time-first, act-ticks}
@@ -30,20 +31,10 @@ place t j = record { tick = t; next = j }
 -- A STATEMENT
 
 module _ {s : List ℕ} {i to : ℕ} {σ : Settings} {t : ℕ} {out : List ℕ} (S : Statement s i to σ t out) where
-  abbrev pub block : Block
-  block = S .entered .file .block
-
-  pub stands : Stands Laid s i to block
-  stands = S .entered .file .stands
-
-  some : 1 ≤ firstSize block
-  some = stands-some block stands (S .inside) (S .goes-on)
-
-  -- what holds of the block that was asked about holds of every block at its place
-  pub told : {new : List ℕ} {r : Place} → Stored (firstStarts σ block t) (firstTime σ block) (firstSize block) i t out new r → StatementStarted s i to σ t out new r
-  told {new} {r} A = record {
-    right = λ b B. subst (λ (x : Block). Stored (firstStarts σ x t) (firstTime σ x) (firstSize x) i t out new r) (stands-once block b stands B) A;
-  }
+  -- what holds of the block that was asked about, which is b, holds of every block at its place
+  pub told : {new : List ℕ} {r : Place} (b : Block) → block (S .here) ≡ b → Stored (firstStarts σ b t) (firstTime σ b) (firstSize b) i t out new r
+      → StatementStarted s i to σ t out new r
+  told {new} {r} b e A = record { right = every-of (λ (x : Block). Stored (firstStarts σ x t) (firstTime σ x) (firstSize x) i t out new r) (S .here .file) e A }
 
   -- a record that opens no block: a laid file has no loop
   record Plain (b : Block) : Type 0 where
@@ -55,23 +46,23 @@ module _ {s : List ℕ} {i to : ℕ} {σ : Settings} {t : ℕ} {out : List ℕ} 
   plain nil B h x = absurd (omega arith)
   plain (skip n b) B h x = record { starts-there = refl; lasts = ap (stepTicks σ) (B .fills .stands .0); alone = refl }
   plain (act p b) B h x = record { starts-there = refl; lasts = ap (stepTicks σ) (B .fills .stands .0) ∙ act-ticks σ p; alone = refl }
-  plain (branch q a d b) B h x = absurd (x (ap (λ (r : Rec). r .kind) (B .fills .stands .0 .is)))
+  plain (branch q a d b) B h x = absurd (x (kind-is s i (B .fills .stands .0 .is)))
   plain (while q n a b) B h x = absurd (false≢true (B .fills .of-form .0 .kind))
   plain (times q n a b) B h x = absurd (false≢true (B .fills .of-form .0 .kind))
 
   module _ {r : Rec} (h : r ≡ recordAt s i) (x : r .kind ≡ IF → ⊥) {d : ℕ} (l : d ≡ stepTicks σ r) where
-    is-plain : Plain block
-    is-plain = plain block stands some (λ e. x (ap (λ (y : Rec). y .kind) h ∙ e))
+    is-plain : Plain (block (S .here))
+    is-plain = plain (block (S .here)) (S .here .file .stands) (some (S .here)) (λ e. x (sym (kind-is s i (sym h)) ∙ e))
 
-    takes : d ≡ firstTime σ block
+    takes : d ≡ firstTime σ (block (S .here))
     takes = l ∙ ap (stepTicks σ) h ∙ is-plain .lasts
 
     pub step-early : t + d ≤ 1000000
-    step-early = omega (arith, takes, time-first σ block, S .entered .early)
+    step-early = omega (arith, takes, time-first σ (block (S .here)), S .early)
 
     pub step-started : StatementStarted s i to σ t out (setAt out i t) (place (t + d) (i + 1))
     step-started =
-        told (record {
+        told (block (S .here)) refl (record {
           table = ap (sets out i) (sym (is-plain .starts-there));
           tick = ap (λ (m : ℕ). t + m) takes;
           next = omega (arith, is-plain .alone);
@@ -82,83 +73,59 @@ module _ {s : List ℕ} {i to : ℕ} {σ : Settings} {t : ℕ} {out : List ℕ} 
 -- of the block at `from`, which starts at tick t₀, the records from `next` on are left at tick t
 pub record Starting (s : List ℕ) (from to : ℕ) (σ : Settings) (t₀ : ℕ) (old w : List ℕ) (t next : ℕ) : Type 0 where
   pub all : Entered s from to σ t₀ old
-  pub rest : Entered s next to σ t w
-  pub on : from ≤ next
+  pub walk : Walk (all .file) next
   pub kept : length w ≡ length old
-  pub counts : next + size (rest .file .block) ≡ from + size (all .file .block)
-  pub lasts : t + time σ (rest .file .block) ≡ t₀ + time σ (all .file .block)
-  pub same : sets w next (startTicks σ (rest .file .block) t) ≡ sets old from (startTicks σ (all .file .block) t₀)
+  pub lasts : t + time σ (walk .rest .block) ≡ t₀ + time σ (all .file .block)
+  pub same : sets w next (startTicks σ (walk .rest .block) t) ≡ sets old from (startTicks σ (all .file .block) t₀)
 
 pub starting-start : {s : List ℕ} {from to : ℕ} {σ : Settings} {t : ℕ} {out : List ℕ} → Entered s from to σ t out → Starting s from to σ t out out t from
-starting-start E = record { all = E; rest = E; on = omega arith; kept = refl; counts = refl; lasts = refl; same = refl }
+starting-start E = record { all = E; walk = walk-start (E .file); kept = refl; lasts = refl; same = refl }
 
 module _ {s : List ℕ} {from to : ℕ} {σ : Settings} {t₀ : ℕ} {old w : List ℕ} {t next : ℕ} (P : Starting s from to σ t₀ old w t next) where
-  abbrev whole : Block
-  whole = P .all .file .block
-
   abbrev left : Block
-  left = P .rest .file .block
+  left = P .walk .rest .block
 
   -- nothing is left
-  done : left ≡ nil → w ≡ sets old from (startTicks σ whole t₀)
-  done e = ap (λ (b : Block). sets w next (startTicks σ b t)) (sym e) ∙ P .same
-
   ended : left ≡ nil → BlockStarted s from to σ t₀ old w (place t next)
-  ended e =
-      let A : Stored (startTicks σ whole t₀) (time σ whole) (size whole) from t₀ old w (place t next) = record {
-        table = done e;
-        tick = omega (arith, P .lasts, ap (time σ) e);
-        next = omega (arith, P .counts, ap size e);
-      } in
-      record {
-        right = λ b B.
-            subst (λ (x : Block). Stored (startTicks σ x t₀) (time σ x) (size x) from t₀ old w (place t next)) (stands-once whole b (P .all .file .stands) B) A;
-      }
+  ended e = record {
+    right = every (λ (x : Block). Stored (startTicks σ x t₀) (time σ x) (size x) from t₀ old w (place t next)) (P .all .file) (record {
+      table = ap (λ (b : Block). sets w next (startTicks σ b t)) (sym e) ∙ P .same;
+      tick = omega (arith, P .lasts, ap (time σ) e);
+      next = walk-end (P .walk) e;
+    });
+  }
 
   pub starting-closed : closesBlock (kindAt s next) ≡ true → BlockStarted s from to σ t₀ old w (place t next)
-  starting-closed k = ended (stands-closed left (P .rest .file .stands) k)
+  starting-closed k = ended (none-closed (P .walk) k)
 
   pub starting-ended : to ≤ next → BlockStarted s from to σ t₀ old w (place t next)
-  starting-ended l = ended (stands-end left (P .rest .file .stands) l)
+  starting-ended l = ended (none-ended (P .walk) l)
 
   -- a statement is left
   module _ (l : next < to) (k : closesBlock (kindAt s next) ≡ false) where
     pub statement-next : Statement s next to σ t w
-    statement-next = record { entered = P .rest; inside = l; goes-on = k }
+    statement-next = record { here = walk-at (P .walk) l k; room = omega (arith, P .all .room, P .kept); early = omega (arith, P .all .early, P .lasts) }
 
     module _ {new : List ℕ} {r : Place} (S : StatementStarted s next to σ t w new r) where
       step : Stored (firstStarts σ left t) (firstTime σ left) (firstSize left) next t w new r
-      step = S .right left (P .rest .file .stands)
+      step = S .right left (P .walk .rest .stands)
 
       pub starting-on : next < r .next
-      starting-on = omega (arith, step .next, stands-some left (P .rest .file .stands) l k)
+      starting-on = walk-on (P .walk) l k (step .next)
 
       follows : sets new (r .next) (startTicks σ (afterFirst left) (r .tick)) ≡ sets w next (startTicks σ left t)
       follows =
-          let f = P .rest .file .stands .fills .of-form in
+          let f = P .walk .rest .stands .fills .of-form in
           let after = startTicks σ (afterFirst left) (t + firstTime σ left) in
           ap (λ (u : ℕ). sets new (r .next) (startTicks σ (afterFirst left) u)) (step .tick)
           ∙ stored-on w next (firstStarts σ left t) after (step .table) (omega (arith, first-length σ left t f, step .next)) refl
           ∙ ap (sets w next) (sym (starts-first σ left t f))
 
-      same-room : length new ≡ length w
-      same-room = ap length (step .table) ∙ length-sets w next (firstStarts σ left t)
-
       pub starting-next : Starting s from to σ t₀ old new (r .tick) (r .next)
       starting-next = record {
         all = P .all;
-        rest = record {
-          file = record {
-            block = afterFirst left;
-            stands = subst (λ (j : ℕ). Stands Laid s j to (afterFirst left)) (sym (step .next)) (stands-after left (P .rest .file .stands) l k);
-            inside = P .rest .file .inside;
-          };
-          room = omega (arith, P .rest .room, same-room);
-          early = omega (arith, P .rest .early, step .tick, time-first σ left);
-        };
-        on = omega (arith, P .on, starting-on);
-        kept = same-room ∙ P .kept;
-        counts = omega (arith, P .counts, step .next, size-first left);
+        walk = walk-next (P .walk) l k (step .next);
+        kept = ap length (step .table) ∙ length-sets w next (firstStarts σ left t) ∙ P .kept;
         lasts = omega (arith, P .lasts, step .tick, time-first σ left);
         same = follows ∙ P .same;
       }

@@ -1,18 +1,16 @@
 -- Where the records of a laid file start, and what the functions that fill the table of it answer.
-use Prim.Native.Nat.{ℕ, _+_, _≤_, _<_, max}
+use Prim.Native.Nat.{ℕ, _+_, _≤_, max}
 use mathlib.Core.Path.{_≡_}
-use mathlib.Core.Bool.{false}
 use mathlib.Core.List.{List, [], _∷_, _++_}
 use lib.ListN.{length}
 use lib.Seq.{sets}
 use Rattle.model.specs.declared.Form.the-variants.{Laid}
 use Rattle.model.specs.declared.Settings.{Settings}
-use Rattle.model.specs.Records.{kindAt}
 use Rattle.model.specs.Trees.{Block, nil, skip, act, branch, while, times, size}
 use Rattle.model.specs.Times.{time}
 use Rattle.model.specs.Listing.{startTicks}
-use Rattle.reading.specs.Closing.{closesBlock}
 use Rattle.reading.specs.Ranges.{Stands, InFile, firstSize}
+use Rattle.reading.specs.Walks.{StatementAt}
 use Rattle.timing.specs.Blocks.{firstTime}
 use Rattle.listing.specs.declared.starts.Place.{Place}
 
@@ -37,11 +35,11 @@ pub record Entered (s : List ℕ) (i to : ℕ) (σ : Settings) (t : ℕ) (out : 
   pub room : to ≤ length out
   pub early : t + time σ (file .block) ≤ 1000000
 
--- and it is not empty
+-- its first statement does
 pub record Statement (s : List ℕ) (i to : ℕ) (σ : Settings) (t : ℕ) (out : List ℕ) : Type 0 where
-  pub entered : Entered s i to σ t out
-  pub inside : i < to
-  pub goes-on : closesBlock (kindAt s i) ≡ false
+  pub here : StatementAt Laid s i to
+  pub room : to ≤ length out
+  pub early : t + time σ (here .file .block) ≤ 1000000
 
 pub record BlockStarted (s : List ℕ) (i to : ℕ) (σ : Settings) (t : ℕ) (old new : List ℕ) (r : Place) : Type 0 where
   pub right : (b : Block) → Stands Laid s i to b → Stored (startTicks σ b t) (time σ b) (size b) i t old new r

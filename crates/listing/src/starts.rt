@@ -1,6 +1,5 @@
 // The tick at which each record of a laid file starts, put into a table by one pass.
 ghost use mathlib.Core.Path.{_≡_};
-ghost use Prim.Native.Nat.{max};
 ghost use Rattle.model.specs.Records.{kindAt, IF};
 ghost use Rattle.listing.specs.Starts.{Entered, Statement, BlockStarted, StatementStarted};
 use model::Settings;
@@ -8,21 +7,13 @@ use reading::blocks::closes;
 use records::kind_at;
 use records::kinds;
 use records::record_at;
+use timing::ticks::later;
 use timing::ticks::step_ticks;
 
 // The tick at which the records from `next` on start.
 pub struct Place {
     pub tick: u32,
     pub next: usize,
-}
-
-fn later(x: u32, y: u32) -> u32
-    ensures { λ r. ⌜ r ≡ max x y ⌝ }
-{
-    if x < y {
-        return y;
-    }
-    x
 }
 
 // The IF at i: both sides start at the next tick, as ELSE does, and END where the later one ends.

@@ -7,12 +7,14 @@ use mathlib.Core.Bool.{true, false, true≢false}
 use mathlib.Core.List.{List}
 use lib.ListN.{length}
 use Rattle.model.specs.declared.Form.{Form}
-use Rattle.model.specs.Records.{kindAt, recordAt, SKIP, IF, WHILE, TIMES}
+use Rattle.model.specs.Records.{Rec, kindAt, recordAt, SKIP, IF, WHILE, TIMES}
 use Rattle.model.specs.Trees.{Block, nil, skip, while, times, size, depth, fileTree}
+use Rattle.records.specs.declared.Record.{Record}
+use Rattle.records.specs.Records.{recordOf}
 use Rattle.reading.specs.Closing.{opensBlock, closesBlock}
 use Rattle.reading.specs.Ranges.{SoundFile, Fills, Stands, InFile, firstSize, firstPart, secondPart, afterFirst, testOf}
 use Rattle.reading.specs.Walks.{StatementAt, OpenAt, IfAt, Walk}
-use Rattle.reading.proofs.FirstKinds.{IsAct, skip-is, act-is, if-is, while-is, times-is}
+use Rattle.reading.proofs.FirstKinds.{kind-is, IsAct, skip-is, act-is, if-is, while-is, times-is}
 use Rattle.reading.proofs.Filled.{size-first, fills-after, first-some}
 use Rattle.reading.proofs.Standing.{stands-file, stands-last, stands-once, stands-closed, stands-end, stands-one, stands-two, stands-open}
 
@@ -23,8 +25,12 @@ abbrev pub whole-file : {f : Form} {s : List ℕ} → SoundFile f s → InFile f
 whole-file {f} {s} S = record { block = fileTree s; stands = stands-file f s S; inside = omega arith }
 
 -- what holds of the block that stands at a place holds of every block that stands there
-pub every : {f g : Form} {s : List ℕ} {i to : ℕ} (P : Block → Type 0) (F : InFile f s i to) → P (F .block) → (b : Block) → Stands g s i to b → P b
-every P F h b B = subst P (stands-once (F .block) b (F .stands) B) h
+module _ {f g : Form} {s : List ℕ} {i to : ℕ} (P : Block → Type 0) (F : InFile f s i to) where
+  pub every-of : {a : Block} → F .block ≡ a → P a → (b : Block) → Stands g s i to b → P b
+  every-of e h b B = subst P (sym e ∙ stands-once (F .block) b (F .stands) B) h
+
+  pub every : P (F .block) → (b : Block) → Stands g s i to b → P b
+  every h b B = every-of refl h b B
 
 -- A STATEMENT
 
@@ -62,6 +68,14 @@ module _ {f : Form} {s : List ℕ} {i to : ℕ} (A : StatementAt f s i to) where
   behind e = elsewhere (afterFirst block) (subst (λ (j : ℕ). Stands f s j to (afterFirst block)) (sym e) stands-behind)
 
   -- BY THE KIND OF ITS RECORD
+
+  -- x is the record that was read there
+  module _ {x : Record} (e : recordOf x ≡ recordAt s i) where
+    pub kind-there : {k : ℕ} → x .kind ≡ k → kindAt s i ≡ k
+    kind-there h = kind-is s i (sym e) ∙ h
+
+    pub count-there : x .count ≡ recordAt s i .count
+    count-there = ap (λ (y : Rec). y .count) e
 
   pub skip-at : kindAt s i ≡ SKIP → block ≡ skip (recordAt s i .count) (afterFirst block)
   skip-at e = skip-is begun block (A .file .stands .fills) e

@@ -1,4 +1,4 @@
-// The times of single statements, each up to the period, by how much one is above another, and the settings as a table that can be lent.
+// The times of single statements, each up to the period, by how much one is above another, the larger of two, and the settings as a table that can be lent.
 ghost use mathlib.Core.Path.{_≡_};
 ghost use Prim.Native.Nat.{ℕ, _+_, _-_, _%_, _^_, _≤_, max};
 ghost use lib.Dec.{eqb};
@@ -34,6 +34,16 @@ pub fn beyond(x: u32, y: u32) -> u32
         return 0;
     }
     x - y
+}
+
+// The larger of two.
+pub fn later(x: u32, y: u32) -> u32
+    ensures { λ r. ⌜ r ≡ max x y ⌝ }
+{
+    if x < y {
+        return y;
+    }
+    x
 }
 
 // Whether a SET of that operation multiplies.

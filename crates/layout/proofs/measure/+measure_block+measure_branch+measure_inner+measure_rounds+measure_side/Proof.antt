@@ -1,13 +1,15 @@
 -- A block is measured statement by statement on a lent clock; the laws of proofs/Clocking.antt say what each turn and each answer comes to.
 use Prim.Native.Nat.{ℕ, _+_, _*_, _-_, _<_}
 use native.Mathlib.Omega.{arith}
-use mathlib.Core.Path.{refl, ap, sym, _∙_}
+use mathlib.Core.Path.{_≡_, refl, ap, sym, _∙_}
+use mathlib.Core.Bool.{false}
 use borrow.Author.Needs.{needs}
 use Rattle.timing.specs.Times.{settingsIn}
-use Rattle.model.specs.Records.{Rec}
-use Rattle.reading.proofs.Standing.{closing-told}
-use Rattle.layout.proofs.PassingSteps.{kind-there, count-there}
-use Rattle.layout.proofs.PassingRounds.{body-inside, at-end}
+use Rattle.model.specs.Records.{Rec, kindAt}
+use Rattle.reading.specs.Closing.{closesBlock}
+use Rattle.reading.proofs.Standing.{told}
+use Rattle.reading.proofs.Walking.{kind-there, count-there}
+use Rattle.layout.proofs.PassingRounds.{opened, at-end}
 use Rattle.layout.proofs.IdleLoops.{idle-inside}
 use Rattle.layout.proofs.Clocking.{kinds-told, Clocking, clocking-start, clocking-empty, store-fits, clocking-closed, clocking-ended, inner-lent, inner-late, inner-on, inner-next}
 use Rattle.layout.proofs.Clocking.{step-starts, step-few, step-late, step-next, ClockingRounds, rounds-start, body-lent, rounds-late}
@@ -175,11 +177,17 @@ measure-rounds-claims t = (
 abbrev measure-side-claims : ℕ → measure-side-lts.Claims
 measure-side-claims t = (kind-at-reads.Asked, kind-at-reads.Learnt, closes-reads.Asked, closes-reads.Learnt, measure-block-below t, measure-block.Post)
 
+-- the next record closes no block
+goes-on : (t : ℕ) (c : measure-block-lts.Else1 (measure-block-claims t) (measure-block-at t) measure-block.Post measure-block-Inv-loop measure-block-μ-loop) →
+    let a = c .before .before .before .before .before .before .before .before .args in
+    closesBlock (kindAt (a .s .now) (c .before .before .before .before .loop .next)) ≡ false
+goes-on t c = told closesBlock (ap (λ (y : Rec). y .kind) (c .before .before .record-at .ensures)) (c .before .closes .ensures) (c .if1 .left)
+
 measure-block-returns : (t : ℕ) → measure-block-lts.Need-returns (measure-block-claims t) (measure-block-at t) measure-block.Post measure-block-Inv-loop measure-block-μ-loop
 measure-block-returns t c =
     let at-loop = c .before .before .before .before .before .before in
     clocking-closed ((at-loop .loop) .inv) ((c .store) .ensures)
-    (closing-told (ap (λ (y : Rec). y .kind) ((c .before .before .before .before .record-at) .ensures)) ((c .before .before .before .closes) .ensures)
+    (told closesBlock (ap (λ (y : Rec). y .kind) ((c .before .before .before .before .record-at) .ensures)) ((c .before .before .before .closes) .ensures)
     ((c .before .before .if1) .taken))
 
 measure-block-measure-inner-requires : (t : ℕ) → measure-block-lts.Need-measure-inner-requires (measure-block-claims t) (measure-block-at t) measure-block.Post measure-block-Inv-loop measure-block-μ-loop
@@ -187,10 +195,10 @@ measure-block-measure-inner-requires t c κs =
     let at-if1 = c .before .before .before .before .before .before in
     let at-record-at = at-if1 .before .before in
     let at-loop = at-record-at .before .before in (
-      omega (arith, (at-loop .loop) .inv .measuring .passing .on),
+      omega (arith, (at-loop .loop) .inv .measuring .passing .walk .on),
       (
         inner-lent ((at-loop .loop) .inv) ((at-record-at .before .loop-test) .taken)
-            (closing-told (ap (λ (y : Rec). y .kind) ((at-record-at .record-at) .ensures)) ((at-if1 .before .closes) .ensures) ((at-if1 .if1) .left))
+            (goes-on t at-if1)
             ((c .before .before .store2) .ensures),
         (kinds-told ((at-record-at .record-at) .ensures) ((c .before .before .before .before .before .nests) .ensures)
             ((c .before .before .before .before .if2) .taken)),
@@ -203,8 +211,7 @@ measure-block-returns-2 t c =
     let at-store2 = c .before .before .before .before .before .before .before .before in
     let at-record-at = at-store2 .before .before .before .before .before .before in
     inner-late ((at-record-at .before .before .loop) .inv) ((at-record-at .before .loop-test) .taken)
-    (closing-told (ap (λ (y : Rec). y .kind) ((at-record-at .record-at) .ensures)) ((at-store2 .before .before .before .before .before .closes) .ensures)
-    ((at-store2 .before .before .before .before .if1) .left)) ((at-store2 .store2) .ensures) ((c .before .before .before .before .before .measure-inner) .ensures)
+    (goes-on t (at-store2 .before .before .before .before)) ((at-store2 .store2) .ensures) ((c .before .before .before .before .before .measure-inner) .ensures)
     ((c .before .before .before .load2) .ensures) ((c .if3) .taken)
 
 measure-block-loop-less : (t : ℕ) → measure-block-lts.Need-loop-less (measure-block-claims t) (measure-block-at t) measure-block.Post measure-block-Inv-loop measure-block-μ-loop
@@ -215,8 +222,7 @@ measure-block-loop-less t c =
     omega (
       arith,
       inner-on ((at-record-at .before .before .loop) .inv) ((at-record-at .before .loop-test) .taken)
-          (closing-told (ap (λ (y : Rec). y .kind) ((at-record-at .record-at) .ensures)) ((at-store2 .before .before .before .before .before .closes) .ensures)
-          ((at-store2 .before .before .before .before .if1) .left)) ((at-store2 .store2) .ensures) ((c .before .before .before .before .before .measure-inner) .ensures)
+          (goes-on t (at-store2 .before .before .before .before)) ((at-store2 .store2) .ensures) ((c .before .before .before .before .before .measure-inner) .ensures)
           ((c .before .before .before .load2) .ensures) ((c .if3) .left),
     )
 
@@ -226,15 +232,14 @@ measure-block-loop-again t c =
     let at-store2 = c .before .before .before .before .before .before .before .before in
     let at-record-at = at-store2 .before .before .before .before .before .before in
     inner-next ((at-record-at .before .before .loop) .inv) ((at-record-at .before .loop-test) .taken)
-    (closing-told (ap (λ (y : Rec). y .kind) ((at-record-at .record-at) .ensures)) ((at-store2 .before .before .before .before .before .closes) .ensures)
-    ((at-store2 .before .before .before .before .if1) .left)) ((at-store2 .store2) .ensures) ((c .before .before .before .before .before .measure-inner) .ensures)
+    (goes-on t (at-store2 .before .before .before .before)) ((at-store2 .store2) .ensures) ((c .before .before .before .before .before .measure-inner) .ensures)
     ((c .before .before .before .load2) .ensures) ((c .if3) .left)
 
 measure-block-measure-step-requires : (t : ℕ) → measure-block-lts.Need-measure-step-requires (measure-block-claims t) (measure-block-at t) measure-block.Post measure-block-Inv-loop measure-block-μ-loop
 measure-block-measure-step-requires t c κs =
     let at-record-at = c .before .before .before .before in
     step-starts ((at-record-at .before .before .loop) .inv) ((at-record-at .before .loop-test) .taken)
-    (closing-told (ap (λ (y : Rec). y .kind) ((at-record-at .record-at) .ensures)) ((c .before .before .before .closes) .ensures) ((c .before .before .if1) .left))
+    (goes-on t (c .before .before))
     ((at-record-at .record-at) .ensures) (sym ((c .before .nests) .ensures) ∙ (c .if2) .left)
 
 measure-block-add-next : (t : ℕ) → measure-block-lts.Need-add-next (measure-block-claims t) (measure-block-at t) measure-block.Post measure-block-Inv-loop measure-block-μ-loop
@@ -243,7 +248,7 @@ measure-block-add-next t c =
     omega (
       arith,
       (at-loop-test .loop-test) .taken,
-      (at-loop-test .before .loop) .inv .measuring .passing .rest .file .inside,
+      (at-loop-test .before .loop) .inv .measuring .passing .walk .rest .inside,
       (at-loop-test .before .before .before .before .before .good) .0 .0,
     )
 
@@ -254,7 +259,7 @@ measure-block-store-requires-3 t c κs =
     let at-loop = at-record-at .before .before in (
       (at-loop .loop) .inv .long,
       step-few ((at-loop .loop) .inv) ((at-record-at .before .loop-test) .taken)
-          (closing-told (ap (λ (y : Rec). y .kind) ((at-record-at .record-at) .ensures)) ((at-nests .before .before .closes) .ensures) ((at-nests .before .if1) .left))
+          (goes-on t (at-nests .before))
           ((at-record-at .record-at) .ensures) (sym ((at-nests .nests) .ensures) ∙ (c .before .before .before .before .before .if2) .left)
           ((c .before .before .before .before .measure-step) .ensures),
     )
@@ -265,8 +270,7 @@ measure-block-returns-3 t c =
     let at-if2 = c .before .before .before .before .before .before in
     let at-record-at = at-if2 .before .before .before .before in
     step-late ((at-record-at .before .before .loop) .inv) ((at-record-at .before .loop-test) .taken)
-    (closing-told (ap (λ (y : Rec). y .kind) ((at-record-at .record-at) .ensures)) ((at-if2 .before .before .before .closes) .ensures)
-    ((at-if2 .before .before .if1) .left)) ((at-record-at .record-at) .ensures) (sym ((at-if2 .before .nests) .ensures) ∙ (at-if2 .if2) .left)
+    (goes-on t (at-if2 .before .before)) ((at-record-at .record-at) .ensures) (sym ((at-if2 .before .nests) .ensures) ∙ (at-if2 .if2) .left)
     ((c .before .before .before .before .before .measure-step) .ensures) ((c .before .before .if4) .taken) ((c .store3) .ensures)
 
 measure-block-loop-again-2 : (t : ℕ) → measure-block-lts.Need-loop-again-2 (measure-block-claims t) (measure-block-at t) measure-block.Post measure-block-Inv-loop measure-block-μ-loop
@@ -275,7 +279,7 @@ measure-block-loop-again-2 t c =
     let at-if1 = c .before .before .before .before .before .before in
     let at-record-at = at-if1 .before .before in
     step-next ((at-record-at .before .before .loop) .inv) ((at-record-at .before .loop-test) .taken)
-    (closing-told (ap (λ (y : Rec). y .kind) ((at-record-at .record-at) .ensures)) ((at-if1 .before .closes) .ensures) ((at-if1 .if1) .left))
+    (goes-on t at-if1)
     ((at-record-at .record-at) .ensures) (sym ((c .before .before .before .before .before .nests) .ensures) ∙ (c .before .before .before .before .if2) .left)
     ((c .before .before .before .measure-step) .ensures) ((c .if4) .left)
 
@@ -311,7 +315,7 @@ measure-branch-place-requires t c κs =
 measure-branch-add-measure-side : (t : ℕ) → measure-branch-lts.Need-add-measure-side (measure-branch-claims t) (measure-branch-at t) measure-branch.Post
 measure-branch-add-measure-side t c =
     let start = c .before .before .before .before .before .before .before .before .before .before .before .before in
-    omega (arith, (start .pre) .1 .0 .statement .early, (start .pre) .1 .0 .statement .entered .file .inside, (start .good) .0 .0)
+    omega (arith, (start .pre) .1 .0 .statement .here .early, (start .pre) .1 .0 .statement .here .file .inside, (start .good) .0 .0)
 
 measure-branch-measure-side-requires : (t : ℕ) → measure-branch-lts.Need-measure-side-requires (measure-branch-claims t) (measure-branch-at t) measure-branch.Post
 unfolding settingsIn
@@ -321,7 +325,7 @@ measure-branch-measure-side-requires t c κs =
     let at-load = at-stepped .before in
     let at-settings-in = at-load .before .before in
     let start = at-settings-in .before .before in (
-      omega (arith, (start .pre) .0, (start .pre) .1 .0 .statement .early),
+      omega (arith, (start .pre) .0, (start .pre) .1 .0 .statement .here .early),
       (
         one-lent ((start .pre) .1 .0) ((at-settings-in .settings-in) .ensures) ((at-load .load) .ensures) ((start .pre) .1 .1) ((at-stepped .stepped) .ensures)
             ((at-store .store) .ensures) ((c .before .before .before .before .if1) .left) ((c .before .before .place) .ensures .1),
@@ -367,8 +371,7 @@ measure-branch-add-measure-side-2 t c =
           ((at-load2 .before .before .measure-side) .ensures) ((at-load2 .load2) .ensures) ((c .before .before .before .if2) .left),
       inside ((start .pre) .1 .0)
           ((at-settings-in .settings-in) .ensures) ((at-load .load) .ensures) ((start .pre) .1 .1) ((at-stepped .stepped) .ensures),
-      (start .pre) .1 .0 .statement .entered
-          .file .inside,
+      (start .pre) .1 .0 .statement .here .file .inside,
       (start .good) .0 .0,
     )
 
@@ -393,7 +396,7 @@ measure-branch-measure-side-requires-2 t c κs = (
     (c .before .before .before .before .before .before .before .before .before .before .before .before .before .before .before .before .before .before .before .before .before
         .before .before .before .before .pre) .0,
     (c .before .before .before .before .before .before .before .before .before .before .before .before .before .before .before .before .before .before .before .before .before
-        .before .before .before .before .pre) .1 .0 .statement .early,
+        .before .before .before .before .pre) .1 .0 .statement .here .early,
   ),
   (
     two-lent ((c .before .before .before .before .before .before .before .before .before .before .before .before .before .before .before .before .before .before .before .before
@@ -502,7 +505,7 @@ measure-branch-add-result t c =
           ((at-if3 .before .before .before .load3) .ensures) ((at-if3 .if3) .left),
       inside ((start .pre) .1 .0) ((at-settings-in .settings-in) .ensures)
           ((at-load .load) .ensures) ((start .pre) .1 .1) ((at-stepped .stepped) .ensures),
-      (start .pre) .1 .0 .statement .entered .file .inside,
+      (start .pre) .1 .0 .statement .here .file .inside,
       (start .good) .0 .0,
     )
 
@@ -523,7 +526,7 @@ measure-branch-returns-4 t c =
     ((c .before .before .before .before .meet) .ensures) ((c .before .before .store3) .ensures) ((at-place .place) .ensures .0) ((c .note) .ensures)
 
 measure-inner-record-at-requires : (t : ℕ) → measure-inner-lts.Need-record-at-requires (measure-inner-claims t) (measure-inner-at t) measure-inner.Post
-measure-inner-record-at-requires t c κs = omega (arith, (c .before .pre) .1 .0 .statement .early, (c .before .pre) .1 .0 .statement .entered .file .inside)
+measure-inner-record-at-requires t c κs = omega (arith, (c .before .pre) .1 .0 .statement .here .early, (c .before .pre) .1 .0 .statement .here .file .inside)
 
 measure-inner-measure-branch-requires : (t : ℕ) → measure-inner-lts.Need-measure-branch-requires (measure-inner-claims t) (measure-inner-at t) measure-inner.Post
 measure-inner-measure-branch-requires t c κs =
@@ -531,19 +534,19 @@ measure-inner-measure-branch-requires t c κs =
       omega arith,
       (
         (start .pre) .1 .0,
-        kind-there ((start .pre) .1 .0 .statement) ((c .before .before .before .before .record-at) .ensures)
+        kind-there ((start .pre) .1 .0 .statement .here) ((c .before .before .before .before .record-at) .ensures)
             ((c .before .before .if1) .taken),
       ),
     )
 
 measure-inner-add-idle-rounds : (t : ℕ) → measure-inner-lts.Need-add-idle-rounds (measure-inner-claims t) (measure-inner-at t) measure-inner.Post
-measure-inner-add-idle-rounds t c = omega (arith, c .before .before .before .before .pre .1 .0 .statement .early, c .before .before .before .before .pre .1 .0 .statement .entered .file .inside)
+measure-inner-add-idle-rounds t c = omega (arith, c .before .before .before .before .pre .1 .0 .statement .here .early, c .before .before .before .before .pre .1 .0 .statement .here .file .inside)
 
 measure-inner-idle-rounds-requires : (t : ℕ) → measure-inner-lts.Need-idle-rounds-requires (measure-inner-claims t) (measure-inner-at t) measure-inner.Post
 unfolding settingsIn
 measure-inner-idle-rounds-requires t c κs =
     let S = c .before .before .before .before .before .pre .1 .0 .statement in
-    (record { order = omega (arith, S .early); inside = S .entered .file .inside }, S .entered .laying .settings .short)
+    (record { order = omega (arith, S .here .early); inside = S .here .file .inside }, S .ready .laying .settings .short)
 
 measure-inner-measure-idle-requires : (t : ℕ) → measure-inner-lts.Need-measure-idle-requires (measure-inner-claims t) (measure-inner-at t) measure-inner.Post
 measure-inner-measure-idle-requires t c κs = idle-laying (c .before .before .before .before .before .before .before .before .before .before .pre .1 .0) (c .load .ensures)
@@ -562,9 +565,9 @@ measure-inner-add-result t c =
       idle-inside S (other-kind _ (c .before .before .before .before .before .before .before .before .before .before .before .before .before .pre .1 .1)
           (λ h. c .before .before .before .before .before .before .before .before .before .if1 .left
           (ap (λ (y : Rec). y .kind) (c .before .before .before .before .before .before .before .before .before .before .before .record-at .ensures) ∙ h)))
-          (count-there S (c .before .before .before .before .before .before .before .before .before .before .before .record-at .ensures))
+          (count-there (S .here) (c .before .before .before .before .before .before .before .before .before .before .before .record-at .ensures))
           (c .before .before .before .before .before .before .before .idle-rounds .ensures) (c .before .before .before .before .before .before .if2 .taken),
-      S .entered .file .inside,
+      S .here .file .inside,
       c .before .before .before .before .before .before .before .before .before .before .before .before .before .good .0 .0,
     )
 
@@ -576,7 +579,7 @@ measure-inner-returns-2 t c =
     (other-kind _ (c .before .before .before .before .before .before .before .before .before .before .before .before .before .pre .1 .1)
     (λ h. c .before .before .before .before .before .before .before .before .before .if1 .left
     (ap (λ (y : Rec). y .kind) (c .before .before .before .before .before .before .before .before .before .before .before .record-at .ensures) ∙ h)))
-    (count-there (S .statement) (c .before .before .before .before .before .before .before .before .before .before .before .record-at .ensures))
+    (count-there (S .statement .here) (c .before .before .before .before .before .before .before .before .before .before .before .record-at .ensures))
     (c .before .before .before .before .before .before .before .idle-rounds .ensures) (c .before .before .before .before .before .before .if2 .taken) refl
     (c .before .store .ensures)
 
@@ -587,7 +590,7 @@ measure-inner-measure-rounds-requires t c κs = (
     (c .before .before .before .before .before .before .before .before .before .pre) .1 .0,
     other-kind _ ((c .before .before .before .before .before .before .before .before .before .pre) .1 .1)
         (λ h. (c .before .before .before .before .before .if1) .left (ap (λ (y : Rec). y .kind) ((c .before .before .before .before .before .before .before .record-at) .ensures) ∙ h)),
-    count-there ((c .before .before .before .before .before .before .before .before .before .pre) .1 .0 .statement) ((c .before .before .before .before .before .before .before .record-at) .ensures),
+    count-there ((c .before .before .before .before .before .before .before .before .before .pre) .1 .0 .statement .here) ((c .before .before .before .before .before .before .before .record-at) .ensures),
   ),
 )
 
@@ -598,12 +601,12 @@ abbrev measure-rounds-μ-loop : measure-rounds-lts.MeasureT-loop
 measure-rounds-μ-loop s i to count t clock₀ meets₀ body next₀ round₀ clock meets next round = count - round
 
 measure-rounds-add-body : (t : ℕ) → measure-rounds-lts.Need-add-body (measure-rounds-claims t) (measure-rounds-at t) measure-rounds.Post measure-rounds-Inv-loop measure-rounds-μ-loop
-measure-rounds-add-body t c = omega (arith, (c .before .pre) .1 .0 .statement .early, (c .before .pre) .1 .0 .statement .entered .file .inside)
+measure-rounds-add-body t c = omega (arith, (c .before .pre) .1 .0 .statement .here .early, (c .before .pre) .1 .0 .statement .here .file .inside)
 
 measure-rounds-measure-block-requires : (t : ℕ) → measure-rounds-lts.Need-measure-block-requires (measure-rounds-claims t) (measure-rounds-at t) measure-rounds.Post measure-rounds-Inv-loop measure-rounds-μ-loop
 measure-rounds-measure-block-requires t c κs =
     let start = c .before .before .before .before .before in
-    (omega (arith, (start .pre) .0, (start .pre) .1 .0 .statement .early), body-lent ((c .before .before .before .loop) .inv))
+    (omega (arith, (start .pre) .0, (start .pre) .1 .0 .statement .here .early), body-lent ((c .before .before .before .loop) .inv))
 
 measure-rounds-returns : (t : ℕ) → measure-rounds-lts.Need-returns (measure-rounds-claims t) (measure-rounds-at t) measure-rounds.Post measure-rounds-Inv-loop measure-rounds-μ-loop
 unfolding settingsIn
@@ -636,9 +639,9 @@ measure-rounds-add-result t c =
           ((c .before .before .before .before .before .before .before .loop) .inv .measuring .passing .kind)
           ((c .before .before .before .before .before .before .before .loop) .inv .measuring .passing .count-is)
           ((c .before .before .before .before .before .before .before .loop) .inv .measuring .passing .turn) ((c .before .before .before .before .before .before .loop-test) .left),
-      body-inside ((c .before .before .before .before .before .before .before .loop) .inv .measuring .passing .loop)
-          ((c .before .before .before .before .before .before .before .loop) .inv .measuring .passing .kind),
-      (c .before .before .before .before .before .before .before .loop) .inv .measuring .passing .loop .entered .file .inside,
+      opened ((c .before .before .before .before .before .before .before .loop) .inv .measuring .passing .loop)
+          ((c .before .before .before .before .before .before .before .loop) .inv .measuring .passing .kind) .ends,
+      (c .before .before .before .before .before .before .before .loop) .inv .measuring .passing .loop .here .file .inside,
       (c .before .before .before .before .before .before .before .before .before .good) .0 .0,
     )
 
@@ -649,14 +652,14 @@ measure-rounds-returns-2 t c =
     ((at-loop-test .loop-test) .left) ((c .before .before .stepped) .ensures) ((c .store) .ensures)
 
 measure-side-returns : (t : ℕ) → measure-side-lts.Need-returns (measure-side-claims t) (measure-side-at t) measure-side.Post
-measure-side-returns t c = clocking-empty ((c .before .before .before .before .pre) .1 .0) (closing-told ((c .before .before .kind-at) .ensures) ((c .before .closes) .ensures) ((c .if1) .taken))
+measure-side-returns t c = clocking-empty ((c .before .before .before .before .pre) .1 .0) (told closesBlock ((c .before .before .kind-at) .ensures) ((c .before .closes) .ensures) ((c .if1) .taken))
 
 pub +measure-block+measure-branch+measure-inner+measure-rounds+measure-side-spec : {M : Type 1} → statement M
 +measure-block+measure-branch+measure-inner+measure-rounds+measure-side-spec =
     close μ-measure-block μ-measure-branch μ-measure-inner μ-measure-rounds μ-measure-side
     (λ t. measure-block-lts.spec (measure-block-claims t) (measure-block-at t) measure-block.Post measure-block-Inv-loop
     measure-block-μ-loop (search needs) (λ c. clocking-start ((c .before .before .before .pre) .1) ((c .load) .ensures))
-    (λ c κs. omega (arith, (c .before .loop) .inv .measuring .passing .rest .file .inside)) (search needs)
+    (λ c κs. omega (arith, (c .before .loop) .inv .measuring .passing .walk .rest .inside)) (search needs)
     (λ c κs. store-fits ((c .before .before .before .before .before .loop) .inv)) (measure-block-returns t) (search needs)
     (λ c κs. store-fits ((c .before .before .before .before .before .before .before .loop) .inv)) (measure-block-measure-inner-requires t)
     (search needs) (search needs) (measure-block-returns-2 t) (measure-block-loop-less t) (measure-block-loop-again t)

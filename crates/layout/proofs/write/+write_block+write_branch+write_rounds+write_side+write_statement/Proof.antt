@@ -1,15 +1,18 @@
 -- A block is written statement by statement; the laws of proofs/Writing*.antt say what is laid after each call.
 use Prim.Native.Nat.{ℕ, _+_, _*_, _-_, _<_}
 use native.Mathlib.Omega.{arith}
-use mathlib.Core.Path.{refl, ap, _∙_}
+use mathlib.Core.Path.{_≡_, refl, ap, _∙_}
+use mathlib.Core.Bool.{false}
 use borrow.Author.Needs.{needs}
 use Rattle.records.proofs.Over.{part-length}
 use Rattle.layout.specs.Idling.{checkRec}
 use Rattle.placing.proofs.Writing.{writing-upto, writing-at}
-use Rattle.reading.proofs.Standing.{closing-told}
-use Rattle.layout.proofs.PassingSteps.{kind-there, count-there, step-short}
-use Rattle.layout.proofs.PassingRounds.{body-inside, at-end}
-use Rattle.layout.proofs.PassingBranches.{both-inside}
+use Rattle.model.specs.Records.{kindAt}
+use Rattle.reading.specs.Closing.{closesBlock}
+use Rattle.reading.proofs.Standing.{told}
+use Rattle.reading.proofs.Walking.{kind-there, count-there, if-at}
+use Rattle.layout.proofs.PassingSteps.{step-short}
+use Rattle.layout.proofs.PassingRounds.{opened, at-end}
 use Rattle.layout.proofs.WritingSteps.{act-fits, act-laid}
 use Rattle.layout.proofs.IdleLoops.{skips-fit, skips-laid, no-skip}
 use Rattle.layout.proofs.WritingBlocks.{WritingBlock, block-start, block-closed, block-ended, statement-fits, block-on, block-next}
@@ -128,15 +131,21 @@ write-statement-claims t = (
   put-step-reads.Learnt,
 )
 
+-- the next record closes no block
+goes-on : (t : ℕ) (c : write-block-lts.Else1 (write-block-claims t) (write-block-at t) write-block.Post write-block-Inv-loop write-block-μ-loop) →
+    let a = c .before .before .before .before .before .before .before .args in
+    closesBlock (kindAt (a .s .now) (c .before .before .before .before .loop .next)) ≡ false
+goes-on t c = told closesBlock (c .before .before .kind-at .ensures) (c .before .closes .ensures) (c .if1 .left)
+
 write-block-returns : (t : ℕ) → write-block-lts.Need-returns (write-block-claims t) (write-block-at t) write-block.Post write-block-Inv-loop write-block-μ-loop
-write-block-returns t c = block-closed ((c .before .before .before .before .loop) .inv) (closing-told ((c .before .before .kind-at) .ensures) ((c .before .closes) .ensures) ((c .if1) .taken))
+write-block-returns t c = block-closed ((c .before .before .before .before .loop) .inv) (told closesBlock ((c .before .before .kind-at) .ensures) ((c .before .closes) .ensures) ((c .if1) .taken))
 
 write-block-write-statement-requires : (t : ℕ) → write-block-lts.Need-write-statement-requires (write-block-claims t) (write-block-at t) write-block.Post write-block-Inv-loop write-block-μ-loop
 write-block-write-statement-requires t c κs =
     let at-loop = c .before .before .before .before .before .before in (
-      omega (arith, (at-loop .loop) .inv .passing .on),
+      omega (arith, (at-loop .loop) .inv .passing .walk .on),
       statement-fits ((at-loop .loop) .inv) ((c .before .before .before .before .before .loop-test) .taken)
-          (closing-told ((c .before .before .before .before .kind-at) .ensures) ((c .before .before .before .closes) .ensures) ((c .before .before .if1) .left))
+          (goes-on t (c .before .before))
           ((c .before .written) .ensures),
     )
 
@@ -146,7 +155,7 @@ write-block-loop-less t c =
     omega (
       arith,
       block-on ((at-if1 .before .before .before .before .loop) .inv) ((at-if1 .before .before .before .loop-test) .taken)
-          (closing-told ((at-if1 .before .before .kind-at) .ensures) ((at-if1 .before .closes) .ensures) ((at-if1 .if1) .left))
+          (goes-on t at-if1)
           ((c .before .before .before .before .before .written) .ensures) ((c .before .before .before .write-statement) .ensures),
     )
 
@@ -154,13 +163,13 @@ write-block-loop-again : (t : ℕ) → write-block-lts.Need-loop-again (write-bl
 write-block-loop-again t c =
     let at-if1 = c .before .before .before .before .before .before in
     block-next ((at-if1 .before .before .before .before .loop) .inv) ((at-if1 .before .before .before .loop-test) .taken)
-    (closing-told ((at-if1 .before .before .kind-at) .ensures) ((at-if1 .before .closes) .ensures) ((at-if1 .if1) .left))
+    (goes-on t at-if1)
     ((c .before .before .before .before .before .written) .ensures) ((c .before .before .before .write-statement) .ensures)
 
 write-branch-put-step-requires : (t : ℕ) → write-branch-lts.Need-put-step-requires (write-branch-claims t) (write-branch-at t) write-branch.Post
 write-branch-put-step-requires t c κs =
     let start = c .before .before .before in
-    ((start .pre) .1 .0 .statement .entered .laying, omega arith, omega arith, test-fits ((start .pre) .1 .0) ((start .pre) .1 .2) ((start .pre) .1 .1))
+    ((start .pre) .1 .0 .statement .ready .laying, omega arith, omega arith, test-fits ((start .pre) .1 .0) ((start .pre) .1 .2) ((start .pre) .1 .1))
 
 write-branch-written-requires : (t : ℕ) → write-branch-lts.Need-written-requires (write-branch-claims t) (write-branch-at t) write-branch.Post
 write-branch-written-requires t c κs =
@@ -178,7 +187,7 @@ write-branch-element-copy-out-end t c =
     table-at ((start .pre) .1 .0) ((start .pre) .1 .2) ((start .pre) .1 .1) ((c .before .before .before .put-step) .ensures) .0
 
 write-branch-add-write-side : (t : ℕ) → write-branch-lts.Need-add-write-side (write-branch-claims t) (write-branch-at t) write-branch.Post
-write-branch-add-write-side t c = omega (arith, (c .before .before .before .before .before .before .before .before .pre) .1 .0 .statement .early)
+write-branch-add-write-side t c = omega (arith, (c .before .before .before .before .before .before .before .before .pre) .1 .0 .statement .here .early)
 
 write-branch-add-write-side-2 : (t : ℕ) → write-branch-lts.Need-add-write-side-2 (write-branch-claims t) (write-branch-at t) write-branch.Post
 write-branch-add-write-side-2 t c =
@@ -198,7 +207,7 @@ write-branch-part-write-side-start t c =
 write-branch-write-side-requires : (t : ℕ) → write-branch-lts.Need-write-side-requires (write-branch-claims t) (write-branch-at t) write-branch.Post
 write-branch-write-side-requires t c κs =
     let start = c .before .before .before .before .before .before .before .before .before in (
-      omega (arith, (start .pre) .1 .0 .statement .early),
+      omega (arith, (start .pre) .1 .0 .statement .here .early),
       one-fits ((start .pre) .1 .0) ((start .pre) .1 .2) ((start .pre) .1 .1)
           ((c .before .before .before .before .before .put-step) .ensures) refl ((c .before .before .written) .ensures),
     )
@@ -219,10 +228,9 @@ write-branch-add-write-side-3 t c =
           ((c .before .before .before .before .before .before .before .before .before .before .before .before .before .before .before .pre) .1 .1)
           ((c .before .before .before .before .before .before .before .before .before .before .before .put-step) .ensures) refl
           ((c .before .before .before .before .before .before .before .before .written) .ensures) ((c .before .before .before .before .before .write-side) .ensures),
-      both-inside ((c .before .before .before .before .before .before .before .before .before .before .before .before .before .before .before .pre) .1 .0 .statement)
-          ((c .before .before .before .before .before .before .before .before .before .before .before .before .before .before .before .pre) .1 .2)
-          ((c .before .before .before .before .before .before .before .before .before .before .before .put-step) .ensures .state),
-      (c .before .before .before .before .before .before .before .before .before .before .before .before .before .before .before .pre) .1 .0 .statement .entered .file .inside,
+      if-at ((c .before .before .before .before .before .before .before .before .before .before .before .before .before .before .before .pre) .1 .0 .statement .here)
+          ((c .before .before .before .before .before .before .before .before .before .before .before .before .before .before .before .pre) .1 .2) .ends,
+      (c .before .before .before .before .before .before .before .before .before .before .before .before .before .before .before .pre) .1 .0 .statement .here .file .inside,
       (c .before .before .before .before .before .before .before .before .before .before .before .before .before .before .before .good) .0 .0,
     )
 
@@ -253,7 +261,7 @@ write-branch-write-side-requires-2 t c κs =
         one-ends ((start .pre) .1 .0) ((start .pre) .1 .2) ((start .pre) .1 .1) ((at-put-step .put-step) .ensures) refl ((at-written .written) .ensures)
             ((at-write-side .write-side) .ensures),
         (start .pre) .0,
-        (start .pre) .1 .0 .statement .early,
+        (start .pre) .1 .0 .statement .here .early,
       ),
       two-fits ((start .pre) .1 .0) ((start .pre) .1 .2)
           ((start .pre) .1 .1) ((at-put-step .put-step) .ensures) refl ((at-written .written) .ensures) ((at-write-side .write-side) .ensures)
@@ -273,13 +281,12 @@ write-branch-add-t24 t c =
           ((c .before .before .before .before .before .before .before .before .before .before .before .before .write-side) .ensures)
           ((c .before .before .before .before .before .before .before .before .written2) .ensures) ((c .before .before .before .before .before .before .back) .ensures)
           ((c .before .before .before .before .write-side2) .ensures),
-      both-inside ((c .before .before .before .before .before .before .before .before .before .before .before .before .before .before .before .before .before .before .before
-          .before .before .before .pre) .1 .0 .statement)
+      if-at ((c .before .before .before .before .before .before .before .before .before .before .before .before .before .before .before .before .before .before .before
+          .before .before .before .pre) .1 .0 .statement .here)
           ((c .before .before .before .before .before .before .before .before .before .before .before .before .before .before .before .before .before .before .before .before .before
-          .before .pre) .1 .2) ((c .before .before .before .before .before .before .before .before .before .before .before .before .before .before .before .before .before .before
-          .put-step) .ensures .state),
+          .before .pre) .1 .2) .ends,
       (c .before .before .before .before .before .before .before .before .before .before .before .before .before .before .before .before .before .before .before .before .before
-          .before .pre) .1 .0 .statement .entered .file .inside,
+          .before .pre) .1 .0 .statement .here .file .inside,
       (c .before .before .before .before .before .before .before .before .before .before .before .before .before .before .before .before .before .before .before .before .before .before .good) .0 .0,
     )
 
@@ -309,19 +316,19 @@ abbrev write-rounds-μ-loop : write-rounds-lts.MeasureT-loop
 write-rounds-μ-loop s i to r n from ifs meets out₀ body last state₀ next₀ k₀ round₀ out state next k round = last - round
 
 write-rounds-add-body : (t : ℕ) → write-rounds-lts.Need-add-body (write-rounds-claims t) (write-rounds-at t) write-rounds.Post write-rounds-Inv-loop write-rounds-μ-loop
-write-rounds-add-body t c = omega (arith, (c .before .before .pre) .1 .0 .statement .early, (c .before .before .pre) .1 .0 .statement .entered .file .inside)
+write-rounds-add-body t c = omega (arith, (c .before .before .pre) .1 .0 .statement .here .early, (c .before .before .pre) .1 .0 .statement .here .file .inside)
 
 write-rounds-loop-holds : (t : ℕ) → write-rounds-lts.Need-loop-holds (write-rounds-claims t) (write-rounds-at t) write-rounds.Post write-rounds-Inv-loop write-rounds-μ-loop
 write-rounds-loop-holds t c =
     let p = c .before .before .pre .1 in
-    let R = count-there (p .0 .statement) (p .1) in
+    let R = count-there (p .0 .statement .here) (p .1) in
     record { loop = p .0; kind = p .2; count-is = R; turn = rounds-start (p .0) (p .2) R }
 
 write-rounds-write-block-requires : (t : ℕ) → write-rounds-lts.Need-write-block-requires (write-rounds-claims t) (write-rounds-at t) write-rounds.Post write-rounds-Inv-loop write-rounds-μ-loop
 write-rounds-write-block-requires t c κs =
     let at-loop = c .before .before .before in
     let start = at-loop .before .before .before in (
-      omega (arith, (start .pre) .0, (start .pre) .1 .0 .statement .early),
+      omega (arith, (start .pre) .0, (start .pre) .1 .0 .statement .here .early),
       body-fits ((at-loop .loop) .inv .loop) ((at-loop .loop) .inv .kind)
           ((at-loop .loop) .inv .count-is) ((at-loop .loop) .inv .turn) ((c .before .before .loop-test) .taken) ((c .before .written) .ensures),
     )
@@ -342,9 +349,9 @@ write-rounds-loop-again t c =
 
 write-rounds-put-step-requires : (t : ℕ) → write-rounds-lts.Need-put-step-requires (write-rounds-claims t) (write-rounds-at t) write-rounds.Post write-rounds-Inv-loop write-rounds-μ-loop
 write-rounds-put-step-requires t c κs = (
-  (c .before .before .before .before .loop) .inv .turn .rounding .laying,
+  (c .before .before .before .before .loop) .inv .turn .rounding .ready .laying,
   omega arith,
-  omega (arith, (c .before .before .before .before .before .before .before .pre) .1 .0 .statement .entered .laying .settings .fits .positive .set-lasts),
+  omega (arith, (c .before .before .before .before .before .before .before .pre) .1 .0 .statement .ready .laying .settings .fits .positive .set-lasts),
   check-fits ((c .before .before .before .before .loop) .inv .loop) ((c .before .before .before .before .loop) .inv .kind)
       ((c .before .before .before .before .loop) .inv .count-is) ((c .before .before .before .before .loop) .inv .turn) ((c .before .before .before .loop-test) .left)
       (c .before .check-of .ensures ∙ ap checkRec (c .before .before .before .before .before .before .before .pre .1 .1)) ((c .before .before .written2) .ensures),
@@ -357,8 +364,8 @@ write-rounds-add-t27 t c =
       at-end ((c .before .before .before .before .before .before .before .loop) .inv .loop .statement)
           ((c .before .before .before .before .before .before .before .loop) .inv .kind) ((c .before .before .before .before .before .before .before .loop) .inv .count-is)
           ((c .before .before .before .before .before .before .before .loop) .inv .turn .rounding) ((c .before .before .before .before .before .before .loop-test) .left),
-      body-inside ((c .before .before .before .before .before .before .before .loop) .inv .loop .statement) ((c .before .before .before .before .before .before .before .loop) .inv .kind),
-      (c .before .before .before .before .before .before .before .loop) .inv .loop .statement .entered .file .inside,
+      opened ((c .before .before .before .before .before .before .before .loop) .inv .loop .statement) ((c .before .before .before .before .before .before .before .loop) .inv .kind) .ends,
+      (c .before .before .before .before .before .before .before .loop) .inv .loop .statement .here .file .inside,
       (c .before .before .before .before .before .before .before .before .before .before .good) .0 .0,
     )
 
@@ -404,7 +411,7 @@ write-side-returns t c =
     ((c .before .before .close-side) .ensures)
 
 write-statement-record-at-requires : (t : ℕ) → write-statement-lts.Need-record-at-requires (write-statement-claims t) (write-statement-at t) write-statement.Post
-write-statement-record-at-requires t c κs = omega (arith, (c .before .before .pre) .1 .statement .early, (c .before .before .pre) .1 .statement .entered .file .inside)
+write-statement-record-at-requires t c κs = omega (arith, (c .before .before .pre) .1 .statement .here .early, (c .before .before .pre) .1 .statement .here .file .inside)
 
 write-statement-write-branch-requires : (t : ℕ) → write-statement-lts.Need-write-branch-requires (write-statement-claims t) (write-statement-at t) write-statement.Post
 write-statement-write-branch-requires t c κs =
@@ -414,7 +421,7 @@ write-statement-write-branch-requires t c κs =
       (
         (start .pre) .1,
         (at-record-at .record-at) .ensures,
-        kind-there ((start .pre) .1 .statement) ((at-record-at .record-at) .ensures)
+        kind-there ((start .pre) .1 .statement .here) ((at-record-at .record-at) .ensures)
             ((c .before .if1) .taken),
       ),
     )
@@ -422,7 +429,7 @@ write-statement-write-branch-requires t c κs =
 write-statement-idle-at-requires : (t : ℕ) → write-statement-lts.Need-idle-at-requires (write-statement-claims t) (write-statement-at t) write-statement.Post
 write-statement-idle-at-requires t c κs =
     let S = c .before .before .before .before .before .pre .1 .statement in
-    (record { order = omega (arith, S .early); inside = S .entered .file .inside }, S .early, S .entered .laying .settings .short)
+    (record { order = omega (arith, S .here .early); inside = S .here .file .inside }, S .here .early, S .ready .laying .settings .short)
 
 write-statement-write-idle-requires : (t : ℕ) → write-statement-lts.Need-write-idle-requires (write-statement-claims t) (write-statement-at t) write-statement.Post
 write-statement-write-idle-requires t c κs =
@@ -443,7 +450,7 @@ write-statement-write-rounds-requires t c κs =
         c .before .before .before .before .before .before .before .before .before .before .pre .1,
         e,
         kind-there
-            (c .before .before .before .before .before .before .before .before .before .before .pre .1 .statement) e (c .before .if3 .taken),
+            (c .before .before .before .before .before .before .before .before .before .before .pre .1 .statement .here) e (c .before .if3 .taken),
       ),
     )
 
@@ -453,12 +460,12 @@ write-statement-put-step-requires t c κs =
     let e = c .before .before .before .before .before .before .before .before .record-at .ensures in
     let no = no-skip F e (c .before .before .before .before .before .idle-at .ensures) (c .before .before .before .before .if2 .left) in
     let d = step-short (F .statement) e no (c .before .before .before .before .before .before .if1 .left) (c .before .before .if3 .left) (c .before .step-ticks .ensures) in
-    (F .statement .entered .laying, d .0, d .1, act-fits F e no (c .before .before .before .before .before .before .if1 .left) (c .before .before .if3 .left) (c .before .step-ticks .ensures))
+    (F .statement .ready .laying, d .0, d .1, act-fits F e no (c .before .before .before .before .before .before .if1 .left) (c .before .before .if3 .left) (c .before .step-ticks .ensures))
 
 write-statement-add-next : (t : ℕ) → write-statement-lts.Need-add-next (write-statement-claims t) (write-statement-at t) write-statement.Post
 write-statement-add-next t c =
     let start = c .before .before .before .before .before .before .before .before .before .before .before .before .before .before in
-    omega (arith, start .pre .1 .statement .early, start .pre .1 .statement .entered .file .inside, start .good .0 .0)
+    omega (arith, start .pre .1 .statement .here .early, start .pre .1 .statement .here .file .inside, start .good .0 .0)
 
 write-statement-returns-4 : (t : ℕ) → write-statement-lts.Need-returns-4 (write-statement-claims t) (write-statement-at t) write-statement.Post
 write-statement-returns-4 t c =
@@ -472,7 +479,7 @@ pub +write-block+write-branch+write-rounds+write-side+write-statement-spec : {M 
 +write-block+write-branch+write-rounds+write-side+write-statement-spec =
     close μ-write-block μ-write-branch μ-write-rounds μ-write-side μ-write-statement
     (λ t. write-block-lts.spec (write-block-claims t) (write-block-at t) write-block.Post write-block-Inv-loop write-block-μ-loop
-    (λ c. block-start ((c .before .before .pre) .1)) (λ c κs. omega (arith, (c .before .loop) .inv .passing .rest .file .inside))
+    (λ c. block-start ((c .before .before .pre) .1)) (λ c κs. omega (arith, (c .before .loop) .inv .passing .walk .rest .inside))
     (search needs) (λ c. part-length ((c .before .before .before .before .loop) .inv .writing .part)) (write-block-returns t)
     (λ c κs. writing-upto ((c .before .before .before .before .loop) .inv .writing))
     (λ c. rw (c .written .ensures) (writing-at ((c .before .before .before .before .before .loop) .inv .writing)))

@@ -1,11 +1,13 @@
 -- The table of starts is filled statement by statement; the laws of proofs/Starting*.antt say what each turn and each answer comes to.
 use Prim.Native.Nat.{ℕ, _+_, _*_, _-_, _<_}
 use native.Mathlib.Omega.{arith}
-use mathlib.Core.Path.{refl, ap, sym, _∙_}
+use mathlib.Core.Path.{_≡_, refl, ap, sym, _∙_}
+use mathlib.Core.Bool.{false}
 use lib.ListN.{length-set}
 use borrow.Author.Needs.{needs}
-use Rattle.model.specs.Records.{Rec}
-use Rattle.reading.proofs.Standing.{closing-told}
+use Rattle.model.specs.Records.{Rec, kindAt}
+use Rattle.reading.specs.Closing.{closesBlock}
+use Rattle.reading.proofs.Standing.{told}
 use Rattle.listing.proofs.StartingBlocks.{step-early, step-started, Starting, starting-start, starting-closed}
 use Rattle.listing.proofs.StartingBlocks.{starting-ended, statement-next, starting-on, starting-next}
 use Rattle.listing.proofs.StartingBranches.{sides-early, one-entered, middle-after, middle-inside, middle-room, two-entered}
@@ -21,7 +23,7 @@ use Rattle.listing.proofs.starts.+start_block+start_branch+start_statem
 use Rattle.listing.proofs.starts.start_statement.Reads as start-statement
 use Rattle.listing.proofs.starts.start_statement.Kinds as start-statement-kinds
 use Rattle.listing.proofs.starts.+start_block+start_branch+start_statement.Lts-start_statement as start-statement-lts
-use Rattle.listing.proofs.starts.later.Reads as later-reads
+use Rattle.timing.proofs.ticks.later.Reads as later-reads
 use Rattle.reading.proofs.blocks.closes.Reads as closes-reads
 use Rattle.records.proofs.kind_at.Reads as kind-at-reads
 use Rattle.records.proofs.record_at.Reads as record-at-reads
@@ -73,7 +75,7 @@ start-statement-claims t = (record-at-reads.Asked, record-at-reads.Learnt, start
 
 start-block-kind-at-requires : (t : ℕ)
     → start-block-lts.Need-kind-at-requires (start-block-claims t) (start-block-at t) start-block.Post start-block-Inv-loop start-block-μ-loop
-start-block-kind-at-requires t c κs = omega (arith, c .before .loop .inv .rest .file .inside)
+start-block-kind-at-requires t c κs = omega (arith, c .before .loop .inv .all .file .inside)
 
 start-block-closes-requires : (t : ℕ)
     → start-block-lts.Need-closes-requires (start-block-claims t) (start-block-at t) start-block.Post start-block-Inv-loop start-block-μ-loop
@@ -84,32 +86,35 @@ start-block-same-length t c =
     let w = c .before .before .before .before in
     omega (arith, w .loop .inv .kept)
 
+-- the next record closes no block
+goes-on : (t : ℕ) (c : start-block-lts.Else1 (start-block-claims t) (start-block-at t) start-block.Post start-block-Inv-loop start-block-μ-loop) →
+    let a = c .before .before .before .before .before .before .before .args in
+    closesBlock (kindAt (a .s .now) (c .before .before .before .before .loop .next)) ≡ false
+goes-on t c = told closesBlock (c .before .before .kind-at .ensures) (c .before .closes .ensures) (c .if1 .left)
+
 start-block-returns : (t : ℕ) → start-block-lts.Need-returns (start-block-claims t) (start-block-at t) start-block.Post start-block-Inv-loop start-block-μ-loop
 start-block-returns t c =
     let w = c .before .before .before .before in
-    starting-closed (w .loop .inv) (closing-told (c .before .before .kind-at .ensures) (c .before .closes .ensures) (c .if1 .taken))
+    starting-closed (w .loop .inv) (told closesBlock (c .before .before .kind-at .ensures) (c .before .closes .ensures) (c .if1 .taken))
 
 start-block-start-statement-requires : (t : ℕ)
     → start-block-lts.Need-start-statement-requires (start-block-claims t) (start-block-at t) start-block.Post start-block-Inv-loop start-block-μ-loop
 start-block-start-statement-requires t c κs =
     let w = c .before .before .before .before in
     let v = w .before .before .before .before in
-    let k = closing-told (c .before .before .before .kind-at .ensures) (c .before .before .closes .ensures) (c .before .if1 .left) in
-    (omega (arith, v .pre .0, w .before .loop .inv .on), statement-next (w .before .loop .inv) (w .loop-test .taken) k)
+    (omega (arith, v .pre .0, w .before .loop .inv .walk .on), statement-next (w .before .loop .inv) (w .loop-test .taken) (goes-on t (c .before)))
 
 start-block-loop-less : (t : ℕ) → start-block-lts.Need-loop-less (start-block-claims t) (start-block-at t) start-block.Post start-block-Inv-loop start-block-μ-loop
 start-block-loop-less t c =
     let w = c .before .before .before .before in
     let v = w .before .before .before in
-    let k = closing-told (w .before .before .kind-at .ensures) (w .before .closes .ensures) (w .if1 .left) in
-    omega (arith, starting-on (v .before .loop .inv) (v .loop-test .taken) k (c .before .before .start-statement .ensures))
+    omega (arith, starting-on (v .before .loop .inv) (v .loop-test .taken) (goes-on t w) (c .before .before .start-statement .ensures))
 
 start-block-loop-again : (t : ℕ) → start-block-lts.Need-loop-again (start-block-claims t) (start-block-at t) start-block.Post start-block-Inv-loop start-block-μ-loop
 start-block-loop-again t c =
     let w = c .before .before .before .before in
     let v = w .before .before .before in
-    let k = closing-told (w .before .before .kind-at .ensures) (w .before .closes .ensures) (w .if1 .left) in
-    starting-next (v .before .loop .inv) (v .loop-test .taken) k (c .before .before .start-statement .ensures)
+    starting-next (v .before .loop .inv) (v .loop-test .taken) (goes-on t w) (c .before .before .start-statement .ensures)
 
 start-block-same-length-2 : (t : ℕ)
     → start-block-lts.Need-same-length-2 (start-block-claims t) (start-block-at t) start-block.Post start-block-Inv-loop start-block-μ-loop
@@ -118,12 +123,12 @@ start-block-same-length-2 t c = omega (arith, c .before .loop .inv .kept)
 start-branch-start-block-requires : (t : ℕ) → start-branch-lts.Need-start-block-requires (start-branch-claims t) (start-branch-at t) start-branch.Post
 start-branch-start-block-requires t c κs =
     let w = c .before .before .before in
-    (omega (arith, w .pre .0, w .pre .1 .0 .inside), one-entered (w .pre .1 .0) (w .pre .1 .1))
+    (omega (arith, w .pre .0, w .pre .1 .0 .here .early), one-entered (w .pre .1 .0) (w .pre .1 .1))
 
 start-branch-mul-out-2 : (t : ℕ) → start-branch-lts.Need-mul-out-2 (start-branch-claims t) (start-branch-at t) start-branch.Post
 start-branch-mul-out-2 t c =
     let w = c .before .before .before .before .before .before in
-    omega (arith, middle-inside (w .pre .1 .0) (w .pre .1 .1) (c .before .before .start-block .ensures), w .pre .1 .0 .entered .room)
+    omega (arith, middle-inside (w .pre .1 .0) (w .pre .1 .1) (c .before .before .start-block .ensures), w .pre .1 .0 .room)
 
 start-branch-slice-write-out-2 : (t : ℕ) → start-branch-lts.Need-slice-write-out-2 (start-branch-claims t) (start-branch-at t) start-branch.Post
 start-branch-slice-write-out-2 t c =
@@ -141,14 +146,14 @@ start-branch-start-block-requires-2 t c κs =
     let e = c .before .before .before .start-block .ensures in
     let i = middle-after (w .pre .1 .0) (w .pre .1 .1) e in
     let j = middle-inside (w .pre .1 .0) (w .pre .1 .1) e in
-    (omega (arith, w .pre .0, w .pre .1 .0 .inside), two-entered (w .pre .1 .0) (w .pre .1 .1) e (simp length-set))
+    (omega (arith, w .pre .0, w .pre .1 .0 .here .early), two-entered (w .pre .1 .0) (w .pre .1 .1) e (simp length-set))
 
 start-branch-mul-out-3 : (t : ℕ) → start-branch-lts.Need-mul-out-3 (start-branch-claims t) (start-branch-at t) start-branch.Post
 start-branch-mul-out-3 t c =
     let w = c .before .before .before .before .before .before .before in
     let v = w .before .before .before .before in
     let i = last-inside (v .pre .1 .0) (v .pre .1 .1) (w .start-block .ensures) (simp length-set) (c .before .before .before .start-block2 .ensures) in
-    omega (arith, i, v .pre .1 .0 .entered .room)
+    omega (arith, i, v .pre .1 .0 .room)
 
 start-branch-slice-write-out-3 : (t : ℕ) → start-branch-lts.Need-slice-write-out-3 (start-branch-claims t) (start-branch-at t) start-branch.Post
 start-branch-slice-write-out-3 t c =
@@ -182,12 +187,12 @@ start-statement-start-branch-requires t c κs =
 start-statement-mul-out : (t : ℕ) → start-statement-lts.Need-mul-out (start-statement-claims t) (start-statement-at t) start-statement.Post
 start-statement-mul-out t c =
     let w = c .before .before .before .before .before in
-    omega (arith, w .pre .1 .inside, w .pre .1 .entered .room)
+    omega (arith, w .pre .1 .here .early, w .pre .1 .room)
 
 start-statement-slice-write-out : (t : ℕ) → start-statement-lts.Need-slice-write-out (start-statement-claims t) (start-statement-at t) start-statement.Post
 start-statement-slice-write-out t c =
     let w = c .before .before .before .before .before in
-    omega (arith, w .pre .1 .inside, w .pre .1 .entered .room)
+    omega (arith, w .pre .1 .here .early, w .pre .1 .room)
 
 start-statement-add-t14 : (t : ℕ) → start-statement-lts.Need-add-t14 (start-statement-claims t) (start-statement-at t) start-statement.Post
 start-statement-add-t14 t c =
@@ -197,7 +202,7 @@ start-statement-add-t14 t c =
 start-statement-add-t11 : (t : ℕ) → start-statement-lts.Need-add-t11 (start-statement-claims t) (start-statement-at t) start-statement.Post
 start-statement-add-t11 t c =
     let w = c .before .before .before .before .before .before in
-    omega (arith, w .pre .1 .inside, w .pre .1 .entered .room)
+    omega (arith, w .pre .1 .here .early, w .pre .1 .room)
 
 start-statement-returns-2 : (t : ℕ) → start-statement-lts.Need-returns-2 (start-statement-claims t) (start-statement-at t) start-statement.Post
 start-statement-returns-2 t c =
@@ -213,14 +218,14 @@ pub +start-block+start-branch+start-statement-spec : {M : Type 1} → statement 
     (λ c. starting-ended (c .before .loop .inv) (c .loop-test .left)))
     (λ t. start-branch-lts.spec (start-branch-claims t) (start-branch-at t) start-branch.Post
     (λ c. omega (arith, sides-early (c .before .before .pre .1 .0) (c .before .before .pre .1 .1)))
-    (λ c. omega (arith, c .before .before .pre .1 .0 .inside, c .before .before .pre .1 .0 .entered .room))
-    (λ c. omega (arith, c .before .before .pre .1 .0 .inside, c .before .before .pre .1 .0 .entered .room))
-    (λ c. omega (arith, c .before .before .pre .1 .0 .inside, c .before .before .pre .1 .0 .entered .room))
+    (λ c. omega (arith, c .before .before .pre .1 .0 .here .early, c .before .before .pre .1 .0 .room))
+    (λ c. omega (arith, c .before .before .pre .1 .0 .here .early, c .before .before .pre .1 .0 .room))
+    (λ c. omega (arith, c .before .before .pre .1 .0 .here .early, c .before .before .pre .1 .0 .room))
     (start-branch-start-block-requires t) (start-branch-mul-out-2 t) (start-branch-slice-write-out-2 t) (start-branch-add-start-block-2 t)
     (start-branch-start-block-requires-2 t) (search needs) (start-branch-mul-out-3 t) (start-branch-slice-write-out-3 t)
     (start-branch-add-t13 t) (start-branch-same-length t) (start-branch-returns t))
     λ t. start-statement-lts.spec (start-statement-claims t) (start-statement-at t) start-statement.Post
-    (λ c κs. omega (arith, c .before .before .pre .1 .inside, c .before .before .pre .1 .entered .file .inside))
+    (λ c κs. omega (arith, c .before .before .pre .1 .here .early, c .before .before .pre .1 .here .file .inside))
     (start-statement-start-branch-requires t) (search needs) (λ c. c .before .before .start-branch .ensures) (start-statement-mul-out t)
     (start-statement-slice-write-out t) (search needs) (start-statement-add-t14 t) (start-statement-add-t11 t) (λ c. simp length-set)
     (start-statement-returns-2 t)
