@@ -19,7 +19,7 @@ use Rattle.model.specs.Settings.{settingsOf}
 use Rattle.model.specs.Answers.{Verdict, finished, refusal, equalised, kept as kept-by}
 use Rattle.model.specs.Replies.{turnDown, noRoom, equaliseRows, equalisedTree, equaliseReply, equaliseOut}
 use Rattle.model.proofs.Sound.{sound-file}
-use Rattle.records.specs.declared.settings.Decoded.the-variants.{Valid, Refused}
+use Rattle.reading.specs.declared.Checked.the-variants.{Valid, Refused}
 use Rattle.records.specs.Blocks.{blockBytes, skipRecords}
 use Rattle.records.proofs.Blocks.{length-block}
 use Rattle.reading.specs.Answers.{Reads}

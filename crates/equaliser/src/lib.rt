@@ -18,8 +18,8 @@ use model::Form;
 use model::Refusal;
 use model::Settings;
 use pads::PADS;
+use reading::Checked;
 use records::no_room;
-use records::settings::Decoded;
 use timing::ticks::Time;
 use write::write_block;
 
@@ -52,7 +52,7 @@ pub fn equalise(settings: &[u8], task: &[u8], out: &mut [u8]) -> Equalised
 {
     let read = reading::read(settings, Form::Task, task);
     match read {
-        Decoded::Refused(x) => Equalised::Refused(x),
-        Decoded::Valid(n) => equalise_sound(task, n, out),
+        Checked::Refused(x) => Equalised::Refused(x),
+        Checked::Valid(n) => equalise_sound(task, n, out),
     }
 }

@@ -18,8 +18,8 @@ use model::Form;
 use model::LaidOut;
 use model::Refusal;
 use model::Settings;
+use reading::Checked;
 use records::no_room;
-use records::settings::Decoded;
 use records::skips::skip_records;
 use timing::ticks::later;
 use timing::ticks::ticks_of;
@@ -72,7 +72,7 @@ pub fn lay_out(settings: &[u8], equalised: &[u8], out: &mut [u8]) -> LaidOut
 {
     let read = reading::read(settings, Form::Equalised, equalised);
     match read {
-        Decoded::Refused(x) => LaidOut::Refused(x),
-        Decoded::Valid(n) => lay_out_sound(equalised, n, out),
+        Checked::Refused(x) => LaidOut::Refused(x),
+        Checked::Valid(n) => lay_out_sound(equalised, n, out),
     }
 }

@@ -10,7 +10,7 @@ use model::Form;
 use model::Refusal;
 use model::Timed;
 use model::limits::FILE_DEPTH;
-use records::settings::Decoded;
+use reading::Checked;
 use ticks::Time;
 
 // The file's time, or the first refusal of 6, 1 to 5 and 8.
@@ -19,8 +19,8 @@ pub fn time_file(settings: &[u8], form: Form, file: &[u8]) -> Timed
 {
     let read = reading::read(settings, form, file);
     match read {
-        Decoded::Refused(x) => Timed::Refused(x),
-        Decoded::Valid(n) => {
+        Checked::Refused(x) => Timed::Refused(x),
+        Checked::Valid(n) => {
             let time = block_time(file, 0, file.len() / 12, FILE_DEPTH, n);
             match time {
                 Time::Ticks(t) => Timed::Ticks(t),
