@@ -6,16 +6,17 @@ use mathlib.Core.Path.{_≡_, refl, ap, sym, subst, _∙_}
 use mathlib.Core.Bool.{true, false, true≢false}
 use mathlib.Core.List.{List}
 use lib.ListN.{length}
-use Rattle.model.specs.declared.Form.{Form}
 use Rattle.model.specs.declared.Form.the-variants.{Task}
+use Rattle.model.specs.declared.Form.{Form}
 use Rattle.model.specs.Records.{kindAt, recordAt, SKIP, IF, WHILE, TIMES}
 use Rattle.model.specs.Trees.{Block, nil, skip, while, times, size, depth, fileTree}
 use Rattle.reading.specs.Closing.{opensBlock, closesBlock}
 use Rattle.reading.specs.Ranges.{SoundFile, Fills, Stands, InFile, firstSize, firstPart, secondPart, afterFirst, testOf}
 use Rattle.reading.specs.Walks.{StatementAt, OpenAt, IfAt, Walk}
-use Rattle.reading.proofs.FirstKinds.{IsAct, skip-is, act-is, if-is, while-is, times-is, task-loop}
+use Rattle.reading.proofs.FirstKinds.{IsAct, skip-is, act-is, if-is, while-is, times-is}
 use Rattle.reading.proofs.Filled.{size-first, fills-after, first-some}
 use Rattle.reading.proofs.Standing.{stands-file, stands-last, stands-once, stands-closed, stands-end, stands-one, stands-two, stands-open}
+use Rattle.reading.proofs.FirstKinds.{task-loop}
 
 -- A BLOCK IN A FILE
 
