@@ -2,7 +2,8 @@
 use Prim.Native.Nat.{ℕ, _+_, _≤_, _<_, min}
 use native.Mathlib.Omega.{arith}
 use mathlib.Core.Path.{_≡_, refl, ap, sym, subst, _∙_}
-use mathlib.Core.Bool.{Bool, true, false, _||_, true≢false}
+use mathlib.Core.Bool.{Bool, true, false, _||_}
+use mathlib.Core.Logic.{⊎-elim}
 use mathlib.Core.List.{List}
 use lib.Dec.{eqb}
 use lib.ListN.{length}
@@ -11,6 +12,7 @@ use Rattle.model.specs.declared.Settings.{Settings}
 use Rattle.model.specs.Records.{Rec, kindAt, recordAt, SKIP, IF, TIMES}
 use Rattle.model.specs.Trees.{check, size}
 use Rattle.model.specs.Times.{longest}
+use Rattle.model.proofs.Shapes.{or-cases, neither}
 use Rattle.records.specs.declared.Record.{Record}
 use Rattle.records.specs.Records.{recordOf}
 use Rattle.reading.specs.Closing.{closesBlock}
@@ -28,6 +30,7 @@ use Rattle.layout.proofs.Lending.{passage-is}
 use Rattle.layout.proofs.Passing.{statement-next, passing-on}
 use Rattle.layout.proofs.PassingSteps.{step-short, is-act, act-lasts}
 use Rattle.layout.proofs.PassingRounds as loops
+use Rattle.layout.proofs.PassingRounds.{Loop}
 use Rattle.layout.proofs.IdleLoops.{idle-measured}
 use Rattle.layout.proofs.PassingBranches as ifs
 use Rattle.layout.proofs.Measuring.{statement-late, Measuring, measuring-start, measuring-few, measuring-closed, measuring-ended, measuring-late, measuring-next}
@@ -133,18 +136,10 @@ module _ {s : List ℕ} {from to : ℕ} {t c : List ℕ} where
       -- any other is a step
       module _ {x : Record} (e : recordOf x ≡ recordAt s next) (f : (eqb (x .kind) IF || eqb (x .kind) TIMES) ≡ false) where
         no-if : x .kind ≡ IF → ⊥
-        no-if h = go (eqb (x .kind) IF) refl f
-          where
-            go : (o : Bool) → eqb (x .kind) IF ≡ o → (o || eqb (x .kind) TIMES) ≡ false → ⊥
-            go true y z = true≢false z
-            go false y z = eqb-false (x .kind) IF y h
+        no-if h = eqb-false (x .kind) IF (neither (eqb (x .kind) IF) (eqb (x .kind) TIMES) f .0) h
 
         no-times : x .kind ≡ TIMES → ⊥
-        no-times h = go (eqb (x .kind) IF) f
-          where
-            go : (o : Bool) → (o || eqb (x .kind) TIMES) ≡ false → ⊥
-            go true z = true≢false z
-            go false z = eqb-false (x .kind) TIMES z h
+        no-times h = eqb-false (x .kind) TIMES (neither (eqb (x .kind) IF) (eqb (x .kind) TIMES) f .1) h
 
         pub step-starts : StepStarts (settingsIn t) (recordOf x) state
         step-starts = record { laying = C .measuring .passing .ready .laying; fits = λ ne. step-short the e ne no-if no-times refl }
@@ -184,21 +179,13 @@ pub record ClockingRounds (s : List ℕ) (i to : ℕ) (t first : List ℕ) (last
 module _ {s : List ℕ} {i to : ℕ} {t c : List ℕ} {last : ℕ} where
   pub rounds-start : {table : List ℕ} (S : StatementLent s i to t c) (k : kindAt s i ≡ TIMES) → last ≡ recordAt s i .count
       → ClockingRounds s i to t c last c (i + 1) 0 table table
-  rounds-start S k e = record {
-    measuring = loop-start (record {
-      loop = S .statement;
-      kind = k;
-      count-is = e;
-      turn = loops.rounding-start (S .statement) k last;
-    }) (S .lent .few);
-    long = S .lent .long;
-  }
+  rounds-start S k e =
+      let O : Loop s i to (settingsIn t) (loaded c) last = record { statement = S .statement; kind = k; count-is = e } in
+      record { measuring = loop-start (record { loop = O; turn = loops.rounding-start O }) (S .lent .few); long = S .lent .long }
 
   module _ {now : List ℕ} {next round : ℕ} {old new : List ℕ} (C : ClockingRounds s i to t c last now next round old new) where
     pub body-lent : BlockLent s (i + 1) to t now
-    body-lent =
-        let L = C .measuring .passing in
-        record { entered = loops.body-entered (L .loop) (L .kind) (L .count-is) (L .turn); lent = record { long = C .long; few = loop-few (C .measuring) } }
+    body-lent = record { entered = loops.body-entered (C .measuring .passing .turn); lent = record { long = C .long; few = loop-few (C .measuring) } }
 
     module _ (l : round < last) {d table : List ℕ} {r : ℕ} (B : BlockClocked s (i + 1) to t now d new table r) where
       pub rounds-late : settingsIn t .period < loaded d .tick → StatementClocked s i to t c d old table r
@@ -219,7 +206,7 @@ module _ {s : List ℕ} {i to : ℕ} {t c : List ℕ} {last : ℕ} where
         checked = loop-measured (C .measuring) l U
 
         pub check-few : (length now ≡ 6) × (r .records ≤ 5462)
-        check-few = (C .long, U .after (check (loops.test (C .measuring .passing .loop) (C .measuring .passing .kind))) refl .shows .few)
+        check-few = (C .long, U .after (check (loops.test (C .measuring .passing .loop))) refl .shows .few)
 
         pub rounds-clocked : {d : List ℕ} → Stored r now d → StatementClocked s i to t c d old new (next + 1)
         rounds-clocked {d} D = record {
@@ -236,11 +223,11 @@ module _ {s : List ℕ} {i to : ℕ} {t c : List ℕ} (S : StatementLent s i to 
     pub idle-few : (length c ≡ 6) × (y .records ≤ 5462)
     idle-few = (S .lent .long, E .few)
 
-    pub idle-clocked : (k : kindAt s i ≡ TIMES) {m : ℕ} (e : m ≡ recordAt s i .count) {r : Idle} (A : AllIdle s (i + 1) to m (settingsIn t .period) r) → r .only ≡ true → n ≡ r .ticks
+    pub idle-clocked : {m : ℕ} (O : Loop s i to (settingsIn t) (loaded c) m) {r : Idle} (A : AllIdle s (i + 1) to m (settingsIn t .period) r) → r .only ≡ true → n ≡ r .ticks
         → {table d : List ℕ} → Stored y c d → StatementClocked s i to t c d table table (r .next + 1)
-    idle-clocked k e {r} A o z {table} {d} D = record {
+    idle-clocked O {r} A o z {table} {d} D = record {
       measured = subst (StatementMeasured s i to (settingsIn t) (loaded c) (placeIn c) table table) (passage-is d (r .next + 1) (D .holds) (D .same))
-          (idle-measured (S .statement) k e A o (S .lent .few) (subst (λ (j : ℕ). IdleEnds (settingsIn t) j (loaded c) y) z (subst (λ (w : State). IdleEnds (settingsIn t) n w y) h E)));
+          (idle-measured O A o (S .lent .few) (subst (λ (j : ℕ). IdleEnds (settingsIn t) j (loaded c) y) z (subst (λ (w : State). IdleEnds (settingsIn t) n w y) h E)));
       long = D .long;
     }
 
@@ -248,11 +235,7 @@ module _ {s : List ℕ} {i to : ℕ} {t c : List ℕ} (S : StatementLent s i to 
 
 -- one of the two
 pub other-kind : (k : ℕ) → (eqb k IF || eqb k TIMES) ≡ true → (k ≡ IF → ⊥) → k ≡ TIMES
-other-kind k h ne = go (eqb k IF) refl h
-  where
-    go : (o : Bool) → eqb k IF ≡ o → (o || eqb k TIMES) ≡ true → k ≡ TIMES
-    go true x y = absurd (ne (eqb-true k IF x))
-    go false x y = eqb-true k TIMES y
+other-kind k h ne = ⊎-elim (λ e. absurd (ne (eqb-true k IF e))) (λ e. eqb-true k TIMES e) (or-cases (eqb k IF) (eqb k TIMES) h)
 
 module _ {s : List ℕ} {i to : ℕ} {t c : List ℕ} (S : StatementLent s i to t c) {n : Settings} (e : n ≡ settingsIn t) {x : State} (g : x ≡ loaded c) where
   abbrev σ : Settings

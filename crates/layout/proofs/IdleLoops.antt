@@ -36,7 +36,7 @@ use Rattle.placing.proofs.Settling.{alike-eq}
 use Rattle.layout.specs.declared.skips.Idle.{Idle}
 use Rattle.layout.specs.Idling.{IdleBody, AllIdle, IdleLoop, IdleAt, SkipsFit, SkipsLaid, checked, checkRec, IdleEnds, IdleFits, IdleLaid}
 use Rattle.layout.specs.Ranges.{only}
-use Rattle.layout.specs.Measured.{laid, Statement}
+use Rattle.layout.specs.Measured.{laid}
 use Rattle.layout.specs.Meetings.{meetings, StatementMeasured}
 use Rattle.layout.specs.Written.{LaidFits, StatementFits, StatementLaid}
 use Rattle.layout.proofs.Unrolled.{rounds, rounds-none, rounds-first, laid-nil, laid-free}
@@ -44,6 +44,7 @@ use Rattle.layout.proofs.Noting.{plain-checked, noted-plain}
 use Rattle.layout.proofs.Passing.{laying-on}
 use Rattle.layout.proofs.PassingSteps.{LaidAs, answered}
 use Rattle.layout.proofs.PassingRounds as loops
+use Rattle.layout.proofs.PassingRounds.{Loop}
 use Rattle.layout.proofs.Measuring.{noted-as}
 use Rattle.layout.proofs.WritingSteps.{fits-as, answered-as, step-fits, step-lays, skip-fits, skip-laid}
 
@@ -292,54 +293,53 @@ module _ {σ : Settings} {k : ℕ} {x : Rec} {s : State} {out : List ℕ} (F : I
 
 -- A LOOP OF THE FILE
 
-module _ {s : List ℕ} {i to : ℕ} {σ : Settings} {from : State} (S : Statement s i to σ from) (k : kindAt s i ≡ TIMES) {c : ℕ} (e : c ≡ recordAt s i .count) {r : Idle}
-    (A : AllIdle s (i + 1) to c (σ .period) r) (o : r .only ≡ true) where
-  the : IdleBody (loops.body S k) (i + 1) c (σ .period) r
-  the = A .right (loops.body S k) (loops.opened S k .first) o
+module _ {s : List ℕ} {i to : ℕ} {σ : Settings} {from : State} {c : ℕ} (O : Loop s i to σ from c) {r : Idle} (A : AllIdle s (i + 1) to c (σ .period) r) (o : r .only ≡ true) where
+  the : IdleBody (loops.body O) (i + 1) c (σ .period) r
+  the = A .right (loops.body O) (loops.opened O .first) o
 
   abbrev whole : Block
-  whole = checked σ (the .all) (loops.test S k) (from .tick)
+  whole = checked σ (the .all) (loops.test O) (from .tick)
 
-  idle-as : LaidAs S whole (2 + size (loops.body S k))
+  idle-as : LaidAs (O .statement) whole (2 + size (loops.body O))
   unfolding rounds
   idle-as =
-      let A = loops.times-as S k e in
-      let rest : Block → Block = λ b. before σ (from .tick + time σ b) 1 ⧺ act (check (loops.test S k)) nil in
-      record { same = A .same ∙ ap (λ (b : Block). b ⧺ rest b) (the .same σ (S .ready .laying .settings .fits) (from .tick) (S .ready .free)); records = A .records }
+      let A = loops.times-as O in
+      let rest : Block → Block = λ b. before σ (from .tick + time σ b) 1 ⧺ act (check (loops.test O)) nil in
+      record { same = A .same ∙ ap (λ (b : Block). b ⧺ rest b) (the .same σ (O .statement .ready .laying .settings .fits) (from .tick) (O .statement .ready .free)); records = A .records }
 
   -- its END stands at the next record
   pub idle-inside : r .next < to
-  idle-inside = omega (arith, the .goes, loops.opened S k .ends)
+  idle-inside = omega (arith, the .goes, loops.opened O .ends)
 
-  goes : r .next + 1 ≡ i + (2 + size (loops.body S k))
+  goes : r .next + 1 ≡ i + (2 + size (loops.body O))
   goes = omega (arith, the .goes)
 
   plain : meetings σ whole (from .tick) ≡ []
-  plain = plain-checked σ (the .all) (loops.test S k) (from .tick)
+  plain = plain-checked σ (the .all) (loops.test O) (from .tick)
 
   pub idle-measured : {p : ℕ} {table : List ℕ} {x : State} → p ≤ 1821 → IdleEnds σ (r .ticks) from x
       → StatementMeasured s i to σ from p table table (record { state = x; next = r .next + 1; ifs = p })
   idle-measured {p} {table} {x} few E′ =
       let E = idle-capped (the .told) E′ in
       record {
-        passed = answered idle-as (record { late = E .late (loops.test S k); after = E .after (loops.test S k); goes = λ h. goes });
+        passed = answered idle-as (record { late = E .late (loops.test O); after = E .after (loops.test O); goes = λ h. goes });
         noted = λ y Y l. noted-as idle-as (noted-plain few plain) y Y;
       }
 
 module _ {s : List ℕ} {i to : ℕ} {σ : Settings} {from : State} {p : ℕ} {table old : List ℕ} (F : StatementFits s i to σ from p table old) (k : kindAt s i ≡ TIMES) {x : Rec}
     (e : x ≡ recordAt s i) {r : Idle} (A : AllIdle s (i + 1) to (x .count) (σ .period) r) (o : r .only ≡ true) where
-  same-count : x .count ≡ recordAt s i .count
-  same-count = ap (λ (y : Rec). y .count) e
+  abbrev loop : Loop s i to σ from (x .count)
+  loop = record { statement = F .statement; kind = k; count-is = ap (λ (y : Rec). y .count) e }
 
-  fits : LaidFits σ (whole (F .statement) k same-count A o) from old
-  fits = fits-as F (idle-as (F .statement) k same-count A o)
+  fits : LaidFits σ (whole loop A o) from old
+  fits = fits-as F (idle-as loop A o)
 
   -- so the ticks are told
-  same-whole : checked σ (r .ticks) (testOf x) (from .tick) ≡ whole (F .statement) k same-count A o
+  same-whole : checked σ (r .ticks) (testOf x) (from .tick) ≡ whole loop A o
   same-whole =
-      let B = the (F .statement) k same-count A o in
+      let B = the loop A o in
       let t = from .tick in
-      let q = loops.test (F .statement) k in
+      let q = loops.test loop in
       let n : r .ticks ≡ B .all = omega (
         arith,
         B .told,
@@ -356,11 +356,11 @@ module _ {s : List ℕ} {i to : ℕ} {σ : Settings} {from : State} {p : ℕ} {t
 
   idle-written : {new : List ℕ} {y : State} → IdleLaid σ (r .ticks) x from old new y → StatementLaid s i to σ from p old new (record { state = y; next = r .next + 1; ifs = p })
   idle-written {new} {y} I =
-      answered-as F (idle-as (F .statement) k same-count A o)
+      answered-as F (idle-as loop A o)
       (record {
         lays = subst (λ (b : Block). Lays σ b from old new y) same-whole (I .lays);
-        goes = goes (F .statement) k same-count A o;
-        ifs = omega (arith, ap length (plain (F .statement) k same-count A o));
+        goes = goes loop A o;
+        ifs = omega (arith, ap length (plain loop A o));
       })
 
 -- A STATEMENT OF THE FILE

@@ -117,14 +117,14 @@ module _ {s : List ℕ} {i to : ℕ} {σ : Settings} {from : State} (S : Stateme
 -- the meetings of its rounds are noted
 pub record MeasuringRounds (s : List ℕ) (i to : ℕ) (σ : Settings) (from : State) (last : ℕ) (state : State) (next round k n : ℕ) (old new : List ℕ) : Type 0 where
   pub passing : PassingRounds s i to σ from last state next round
-  pub noted : Noted σ (rounds σ (loops.body (passing .loop) (passing .kind)) round (from .tick)) (from .tick) k n old new
+  pub noted : Noted σ (rounds σ (loops.body (passing .loop)) round (from .tick)) (from .tick) k n old new
   pub few : k ≤ 1821
 
 module _ {s : List ℕ} {i to : ℕ} {σ : Settings} {from : State} {last : ℕ} where
   pub loop-start : {k : ℕ} {table : List ℕ} → PassingRounds s i to σ from last from (i + 1) 0 → k ≤ 1821 → MeasuringRounds s i to σ from last from (i + 1) 0 k k table table
   loop-start P h = record {
     passing = P;
-    noted = noted-plain h (ap (λ (c : Block). meetings σ c (from .tick)) (rounds-none σ (loops.body (P .loop) (P .kind)) (from .tick)));
+    noted = noted-plain h (ap (λ (c : Block). meetings σ c (from .tick)) (rounds-none σ (loops.body (P .loop)) (from .tick)));
     few = h;
   }
 
@@ -137,34 +137,29 @@ module _ {s : List ℕ} {i to : ℕ} {σ : Settings} {from : State} {last : ℕ}
 
     module _ (l : round < last) {table : List ℕ} {r : Passage} (B : BlockMeasured s (i + 1) to σ state n new table r) where
       pub loop-late : σ .period < r .state .tick → StatementMeasured s i to σ from k old table r
-      loop-late h = statement-late (loops.rounding-late (L .loop) (L .kind) (L .count-is) (L .turn) l (B .passed) h) h
+      loop-late h = statement-late (loops.rounding-late (L .turn) l (B .passed) h) h
 
       pub loop-next : r .state .tick ≤ σ .period → MeasuringRounds s i to σ from last (r .state) (r .next) (round + 1) k (r .ifs) old table
       loop-next h =
-          let a = loops.body (L .loop) (L .kind) in
+          let a = loops.body (L .loop) in
           record {
-            passing = record {
-              loop = L .loop;
-              kind = L .kind;
-              count-is = L .count-is;
-              turn = loops.rounding-next (L .loop) (L .kind) (L .count-is) (L .turn) l (B .passed) h;
-            };
-            noted = subst (λ (c : Block). Noted σ c (from .tick) k (r .ifs) old table) (sym (loops.more (L .loop) (L .kind) (L .count-is) (L .turn) l (B .passed)))
+            passing = record { loop = L .loop; turn = loops.rounding-next (L .turn) l (B .passed) h };
+            noted = subst (λ (c : Block). Noted σ c (from .tick) k (r .ifs) old table) (sym (loops.more (L .turn) l (B .passed)))
                 (noted-⧺ (rounds σ a round (from .tick)) (laid σ a (state .tick)) (M .few) (L .turn .after .tick) (M .noted)
-                (B .noted a (loops.opened (L .loop) (L .kind) .first) (in-time (loops.passes (L .loop) (L .kind) (L .count-is) (L .turn) l (B .passed)) h)));
+                (B .noted a (loops.opened (L .loop) .first) (in-time (loops.passes (L .turn) l (B .passed)) h)));
             few = M .few;
           }
 
     module _ (l : last ≤ round) {r : State} (T : Stepped σ state 1 r) where
       pub loop-measured : StatementMeasured s i to σ from k old new (record { state = r; next = next + 1; ifs = n })
       loop-measured =
-          let a = loops.body (L .loop) (L .kind) in
-          let q = loops.test (L .loop) (L .kind) in
-          let u = loops.check-tick (L .loop) (L .kind) (L .count-is) in
-          let N = subst (λ (m : ℕ). Noted σ (rounds σ a m (from .tick)) (from .tick) k n old new) (loops.done (L .loop) (L .kind) (L .count-is) (L .turn) l) (M .noted) in
+          let a = loops.body (L .loop) in
+          let q = loops.test (L .loop) in
+          let u = loops.check-tick (L .loop) in
+          let N = subst (λ (m : ℕ). Noted σ (rounds σ a m (from .tick)) (from .tick) k n old new) (loops.done (L .turn) l) (M .noted) in
           record {
-            passed = loops.rounds-passed (L .loop) (L .kind) (L .count-is) (L .turn) l T;
-            noted = λ y Y h. noted-as (loops.times-as (L .loop) (L .kind) (L .count-is))
+            passed = loops.rounds-passed (L .turn) l T;
+            noted = λ y Y h. noted-as (loops.times-as (L .loop))
                 (noted-⧺ (rounds σ a last (from .tick)) (before σ u 1 ⧺ act (check q) nil) (M .few) refl N (noted-plain loop-few (plain-step σ 1 (check q) u))) y Y;
           }
 

@@ -42,122 +42,131 @@ rounds-longer σ fits a m (suc k) t p f =
       time-⧺ σ (rounds σ a (m + k) t) (laid σ a u),
     )
 
--- the loop at i
-module _ {s : List ℕ} {i to : ℕ} {σ : Settings} {from : State} (S : Statement s i to σ from) (k : kindAt s i ≡ TIMES) where
+-- THE LOOP
+
+-- a loop of `last` rounds stands at i
+pub record Loop (s : List ℕ) (i to : ℕ) (σ : Settings) (from : State) (last : ℕ) : Type 0 where
+  pub statement : Statement s i to σ from
+  pub kind : kindAt s i ≡ TIMES
+  pub count-is : last ≡ recordAt s i .count
+
+module _ {s : List ℕ} {i to : ℕ} {σ : Settings} {from : State} {last : ℕ} (O : Loop s i to σ from last) where
+  abbrev S : Statement s i to σ from
+  S = O .statement
+
   abbrev pub body : Block
   body = firstPart (block S)
 
   abbrev pub test : Test
   test = testOf (recordAt s i)
 
-  abbrev pub count : ℕ
-  count = recordAt s i .count
-
   pub opened : OpenAt Equalised s i to (block S)
-  opened = open-at (S .here) (ap opensBlock k)
+  opened = open-at (S .here) (ap opensBlock (O .kind))
 
   pub body-form : OfForm Equalised body
   body-form = opened .first .fills .of-form
 
-  -- so many rounds are laid, of `last`
-  pub record Rounding (last : ℕ) (state : State) (next round : ℕ) : Type 0 where
+  -- it is laid as its rounds, and the CHECK behind them
+  abbrev pub check-tick : ℕ
+  check-tick = from .tick + time σ (rounds σ body last (from .tick))
+
+  abbrev pub whole : Block
+  whole = rounds σ body last (from .tick) ⧺ (before σ check-tick 1 ⧺ act (check test) nil)
+
+  pub times-as : LaidAs S whole (2 + size body)
+  times-as =
+      let n = recordAt s i .count in
+      laid-as (times test n body (afterFirst (block S))) (times-at (S .here) (O .kind))
+      (laid-times σ (S .ready .laying .settings .fits) test n body (from .tick) body-form (S .ready .free)
+      ∙ ap (λ (n : ℕ). let c = rounds σ body n (from .tick) in c ⧺ (before σ (from .tick + time σ c) 1 ⧺ act (check test) nil)) (sym (O .count-is)))
+
+  -- so many rounds are laid
+  pub record Rounding (state : State) (next round : ℕ) : Type 0 where
     pub upto : round ≤ last
     pub ready : Ready σ state
     pub after : After σ (rounds σ body round (from .tick)) from state
     pub later : 1 ≤ round → next ≡ i + 1 + size body
 
-  unfoldable pub rounding-start : (last : ℕ) → Rounding last from (i + 1) 0
-  rounding-start last = record {
+  pub rounding-start : Rounding from (i + 1) 0
+  rounding-start = record {
     upto = omega arith;
     ready = S .ready;
     after = subst (λ (c : Block). After σ c from from) (sym (rounds-none σ body (from .tick))) (after-nil (S .ready .laying .shows));
     later = λ h. absurd (omega arith);
   }
 
-  module _ {last : ℕ} (R : last ≡ count) where
-    -- the loop is its rounds, and the CHECK from u on
-    abbrev pub check-tick : ℕ
-    check-tick = from .tick + time σ (rounds σ body last (from .tick))
+module _ {s : List ℕ} {i to : ℕ} {σ : Settings} {from : State} {last : ℕ} {O : Loop s i to σ from last} {state : State} {next round : ℕ} (P : Rounding O state next round) where
+  abbrev a : Block
+  a = body O
 
-    abbrev pub whole : Block
-    whole = rounds σ body last (from .tick) ⧺ (before σ check-tick 1 ⧺ act (check test) nil)
+  abbrev fits : Fits σ
+  fits = O .statement .ready .laying .settings .fits
 
-    pub times-as : LaidAs S whole (2 + size body)
-    times-as =
-        laid-as (times test count body (afterFirst (block S))) (times-at (S .here) k)
-        (laid-times σ (S .ready .laying .settings .fits) test count body (from .tick) body-form (S .ready .free)
-        ∙ ap (λ (n : ℕ). let c = rounds σ body n (from .tick) in c ⧺ (before σ (from .tick + time σ c) 1 ⧺ act (check test) nil)) (sym R))
+  -- A ROUND
 
-    module _ {state : State} {next round : ℕ} (P : Rounding last state next round) where
-      -- A ROUND
+  unfoldable pub body-entered : Entered s (i + 1) to σ state
+  body-entered = record { file = first-in (O .statement .here) (ap opensBlock (O .kind)); ready = P .ready }
 
-      unfoldable pub body-entered : Entered s (i + 1) to σ state
-      body-entered = record { file = first-in (S .here) (ap opensBlock k); ready = P .ready }
+  module _ (l : round < last) {r : Passage} (B : BlockPassed s (i + 1) to σ state r) where
+    abbrev one : Block
+    one = laid σ a (state .tick)
 
-      module _ (l : round < last) {r : Passage} (B : BlockPassed s (i + 1) to σ state r) where
-        abbrev pub one : Block
-        one = laid σ body (state .tick)
+    pub passes : Passes σ one (i + 1 + size a) state r
+    passes = B .right a (opened O .first)
 
-        pub passes : Passes σ one (i + 1 + size body) state r
-        passes = B .right body (opened .first)
+    pub more : rounds σ a (round + 1) (from .tick) ≡ rounds σ a round (from .tick) ⧺ one
+    more =
+        rounds-more σ fits a round (from .tick) (body-form O) (O .statement .ready .free)
+        ∙ ap (λ (t : ℕ). rounds σ a round (from .tick) ⧺ laid σ a t) (sym (P .after .tick))
 
-        pub more : rounds σ body (round + 1) (from .tick) ≡ rounds σ body round (from .tick) ⧺ one
-        more =
-            rounds-more σ (S .ready .laying .settings .fits) body round (from .tick) body-form (S .ready .free)
-            ∙ ap (λ (t : ℕ). rounds σ body round (from .tick) ⧺ laid σ body t) (sym (P .after .tick))
+    -- they end where this one does, or later
+    not-before : state .tick + time σ one ≤ from .tick + time σ (whole O)
+    not-before =
+        let n : round + 1 + (last - (round + 1)) ≡ last = omega arith in
+        omega (
+          arith,
+          P .after .tick,
+          ap (time σ) more,
+          time-⧺ σ (rounds σ a round (from .tick)) one,
+          rounds-longer σ fits a (round + 1) (last - (round + 1)) (from .tick) (body-form O) (O .statement .ready .free),
+          ap (λ (m : ℕ). time σ (rounds σ a m (from .tick))) n,
+          time-⧺ σ (rounds σ a last (from .tick)) (before σ (check-tick O) 1 ⧺ act (check (test O)) nil),
+        )
 
-        -- they end where this one does, or later
-        not-before : state .tick + time σ one ≤ from .tick + time σ whole
-        not-before =
-            let n : round + 1 + (last - (round + 1)) ≡ last = omega arith in
-            omega (
-              arith,
-              P .after .tick,
-              ap (time σ) more,
-              time-⧺ σ (rounds σ body round (from .tick)) one,
-              rounds-longer σ (S .ready .laying .settings .fits) body (round + 1) (last - (round + 1)) (from .tick) body-form (S .ready .free),
-              ap (λ (m : ℕ). time σ (rounds σ body m (from .tick))) n,
-              time-⧺ σ (rounds σ body last (from .tick)) (before σ check-tick 1 ⧺ act (check test) nil),
-            )
+    pub rounding-late : σ .period < r .state .tick → StatementPassed s i to σ from r
+    rounding-late h = answered (times-as O) (passed-late (omega (arith, not-before, too-late passes h)) h)
 
-        pub rounding-late : σ .period < r .state .tick → StatementPassed s i to σ from r
-        rounding-late h = answered times-as (passed-late (omega (arith, not-before, too-late passes h)) h)
+    pub rounding-next : r .state .tick ≤ σ .period → Rounding O (r .state) (r .next) (round + 1)
+    rounding-next h =
+        let A = passes .after (in-time passes h) in
+        record {
+          upto = omega arith;
+          ready = record {
+            laying = laying-on (P .ready .laying) A h;
+            free = subst (Free σ 0) (sym (A .tick)) (laid-free σ fits a 0 (state .tick) (body-form O) (omega arith) (P .ready .free));
+          };
+          after = subst (λ (c : Block). After σ c from (r .state)) (sym more) (after-⧺ (rounds σ a round (from .tick)) one (P .after) A);
+          later = λ z. passes .goes (in-time passes h);
+        }
 
-        pub rounding-next : r .state .tick ≤ σ .period → Rounding last (r .state) (r .next) (round + 1)
-        rounding-next h =
-            let A = passes .after (in-time passes h) in
-            record {
-              upto = omega arith;
-              ready = record {
-                laying = laying-on (P .ready .laying) A h;
-                free = subst (Free σ 0) (sym (A .tick)) (laid-free σ (P .ready .laying .settings .fits) body 0 (state .tick) body-form (omega arith) (P .ready .free));
-              };
-              after = subst (λ (c : Block). After σ c from (r .state)) (sym more) (after-⧺ (rounds σ body round (from .tick)) one (P .after) A);
-              later = λ z. passes .goes (in-time passes h);
-            }
+  -- THE CHECK
 
-      -- THE CHECK
+  module _ (l : last ≤ round) where
+    pub done : round ≡ last
+    done = omega (arith, P .upto)
 
-      module _ (l : last ≤ round) where
-        pub done : round ≡ last
-        done = omega (arith, P .upto)
+    -- the END stands at next
+    pub at-end : next ≡ i + 1 + size a
+    at-end = P .later (omega (arith, done, O .count-is, some-rounds (O .statement .here) (O .kind)))
 
-        -- the END stands at next
-        pub at-end : next ≡ i + 1 + size body
-        at-end = P .later (omega (arith, done, R, some-rounds (S .here) k))
-
-        pub rounds-passed : {r : State} {m : ℕ} → Stepped σ state 1 r → StatementPassed s i to σ from (record { state = r; next = next + 1; ifs = m })
-        rounds-passed {r} T = answered times-as (passed (after-⧺ (rounds σ body last (from .tick)) (before σ check-tick 1 ⧺ act (check test) nil) P′ C) (omega (arith, at-end)))
-          where
-            P′ : After σ (rounds σ body last (from .tick)) from state
-            P′ = subst (λ (n : ℕ). After σ (rounds σ body n (from .tick)) from state) done (P .after)
-
-            C : After σ (before σ check-tick 1 ⧺ act (check test) nil) state r
-            C = subst (λ (t : ℕ). After σ (before σ t 1 ⧺ act (check test) nil) state r) (P′ .tick) (T .after (check test) refl)
+    pub rounds-passed : {r : State} {m : ℕ} → Stepped σ state 1 r → StatementPassed s i to σ from (record { state = r; next = next + 1; ifs = m })
+    rounds-passed {r} T =
+        let last-check = before σ (check-tick O) 1 ⧺ act (check (test O)) nil in
+        let A = subst (λ (n : ℕ). After σ (rounds σ a n (from .tick)) from state) done (P .after) in
+        let C = subst (λ (t : ℕ). After σ (before σ t 1 ⧺ act (check (test O)) nil) state r) (A .tick) (T .after (check (test O)) refl) in
+        answered (times-as O) (passed (after-⧺ (rounds σ a last (from .tick)) last-check A C) (omega (arith, at-end)))
 
 -- all that is known at a turn of the loop
 pub record PassingRounds (s : List ℕ) (i to : ℕ) (σ : Settings) (from : State) (last : ℕ) (state : State) (next round : ℕ) : Type 0 where
-  pub loop : Statement s i to σ from
-  pub kind : kindAt s i ≡ TIMES
-  pub count-is : last ≡ recordAt s i .count
-  pub turn : Rounding loop kind last state next round
+  pub loop : Loop s i to σ from last
+  pub turn : Rounding loop state next round

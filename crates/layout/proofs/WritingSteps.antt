@@ -18,7 +18,7 @@ use Rattle.timing.specs.Times.{stepTicks}
 use Rattle.placing.specs.declared.clock.State.{State}
 use Rattle.layout.specs.declared.measure.Passage.{Passage}
 use Rattle.placing.specs.Merging.{waits}
-use Rattle.layout.specs.Measured.{laid, StatementPassed}
+use Rattle.layout.specs.Measured.{StatementPassed}
 use Rattle.layout.specs.Meetings.{meetings, Holds}
 use Rattle.placing.specs.Placed.{bytesOf, Room, Lays, stepBytes, StepLaid}
 use Rattle.layout.specs.Written.{LaidFits, StatementFits, LaysTo, StatementLaid}

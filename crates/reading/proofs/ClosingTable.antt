@@ -3,7 +3,7 @@ use Prim.Native.Nat.{ℕ, _+_, _*_, _-_, _≤_, _<_}
 use native.Mathlib.Omega.{arith}
 use mathlib.Core.Path.{_≡_, refl, ap, sym, subst, _∙_}
 use mathlib.Core.Logic.{_⊎_, inl, inr, ⊎-elim}
-use mathlib.Core.Bool.{Bool, true, false, true≢false, _||_}
+use mathlib.Core.Bool.{Bool, true, false, _||_}
 use mathlib.Core.List.{List}
 use lib.Dec.{eqb, leb}
 use lib.ListN.{length, getD, set, length-set}
@@ -12,7 +12,7 @@ use borrow.Author.Tests.{leb-true, leb-false, eqb-true}
 use Rattle.model.specs.declared.Form.{Form}
 use Rattle.model.specs.Records.{kindAt, IF, ELSE, WHILE, END, TIMES}
 use Rattle.model.specs.Trees.{Block, nil, skip, act, branch, while, times, size}
-use Rattle.model.proofs.Shapes.{or-cases}
+use Rattle.model.proofs.Shapes.{or-cases, neither}
 use Rattle.reading.specs.Closing.{opensBlock, closesBlock, passTo, closingIn, ClosingsFrom, Closings, On}
 use Rattle.reading.specs.Ranges.{Stands, InFile, Fillable, firstSize, firstPart, secondPart}
 use Rattle.reading.specs.Walks.{StatementAt}
@@ -74,12 +74,7 @@ module _ {f : Form} {s : List ℕ} {to : ℕ} (inside : 12 * to ≤ length s) wh
 -- THE ENTRY OF ONE RECORD
 
 pass-plain : (k : ℕ) → opensBlock k ≡ false → closesBlock k ≡ false → passTo k 0 ≡ On 0
-pass-plain k o c = go (eqb k ELSE) refl (eqb k END) refl c
-  where
-    go : (x : Bool) → eqb k ELSE ≡ x → (y : Bool) → eqb k END ≡ y → (x || y) ≡ false → passTo k 0 ≡ On 0
-    go true e y f h = absurd (true≢false h)
-    go false e true f h = absurd (true≢false h)
-    go false e false f h = rw (o, e, f)
+pass-plain k o c = let p = neither (eqb k ELSE) (eqb k END) c in rw (o, p .0, p .1)
 
 module _ {s : List ℕ} (i : ℕ) {to : ℕ} {ends : List ℕ} (F : Fillable s to ends) where
   pub closing-end : to ≤ i → i ≡ closingIn s (to - i) i 0

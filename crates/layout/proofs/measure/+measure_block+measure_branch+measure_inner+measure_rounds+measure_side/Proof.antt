@@ -5,11 +5,12 @@ use mathlib.Core.Path.{_≡_, refl, ap, sym, _∙_}
 use mathlib.Core.Bool.{false}
 use borrow.Author.Needs.{needs}
 use Rattle.timing.specs.Times.{settingsIn}
+use Rattle.layout.specs.Lent.{loaded}
 use Rattle.model.specs.Records.{Rec, kindAt}
 use Rattle.reading.specs.Closing.{closesBlock}
 use Rattle.reading.proofs.Standing.{told}
 use Rattle.reading.proofs.Walking.{kind-there, count-there}
-use Rattle.layout.proofs.PassingRounds.{opened, at-end}
+use Rattle.layout.proofs.PassingRounds.{Loop, opened, at-end}
 use Rattle.layout.proofs.IdleLoops.{idle-inside}
 use Rattle.layout.proofs.Clocking.{kinds-told, Clocking, clocking-start, clocking-empty, store-fits, clocking-closed, clocking-ended, inner-lent, inner-late, inner-on, inner-next}
 use Rattle.layout.proofs.Clocking.{step-starts, step-few, step-late, step-next, ClockingRounds, rounds-start, body-lent, rounds-late}
@@ -542,6 +543,19 @@ measure-inner-measure-branch-requires t c κs =
 measure-inner-add-idle-rounds : (t : ℕ) → measure-inner-lts.Need-add-idle-rounds (measure-inner-claims t) (measure-inner-at t) measure-inner.Post
 measure-inner-add-idle-rounds t c = omega (arith, c .before .before .before .before .pre .1 .0 .statement .here .early, c .before .before .before .before .pre .1 .0 .statement .here .file .inside)
 
+-- the loop, where it is no IF
+loop-there : (t : ℕ) (c : measure-inner-lts.Else1 (measure-inner-claims t) (measure-inner-at t) measure-inner.Post) →
+    let a = c .before .before .before .before .args in
+    Loop (a .s .now) (a .i) (a .to) (settingsIn (a .t .now)) (loaded (a .clock .now)) (c .before .before .record-at .result .count)
+loop-there t c =
+    let p = c .before .before .before .before .pre .1 in
+    let e = c .before .before .record-at .ensures in
+    record {
+      statement = p .0 .statement;
+      kind = other-kind _ (p .1) (λ h. c .if1 .left (ap (λ (y : Rec). y .kind) e ∙ h));
+      count-is = count-there (p .0 .statement .here) e;
+    }
+
 measure-inner-idle-rounds-requires : (t : ℕ) → measure-inner-lts.Need-idle-rounds-requires (measure-inner-claims t) (measure-inner-at t) measure-inner.Post
 unfolding settingsIn
 measure-inner-idle-rounds-requires t c κs =
@@ -559,40 +573,27 @@ measure-inner-store-requires t c κs =
 measure-inner-add-result : (t : ℕ) → measure-inner-lts.Need-add-result (measure-inner-claims t) (measure-inner-at t) measure-inner.Post
 unfolding settingsIn
 measure-inner-add-result t c =
-    let S = c .before .before .before .before .before .before .before .before .before .before .before .before .before .pre .1 .0 .statement in
+    let O = loop-there t (c .before .before .before .before .before .before .before .before .before) in
     omega (
       arith,
-      idle-inside S (other-kind _ (c .before .before .before .before .before .before .before .before .before .before .before .before .before .pre .1 .1)
-          (λ h. c .before .before .before .before .before .before .before .before .before .if1 .left
-          (ap (λ (y : Rec). y .kind) (c .before .before .before .before .before .before .before .before .before .before .before .record-at .ensures) ∙ h)))
-          (count-there (S .here) (c .before .before .before .before .before .before .before .before .before .before .before .record-at .ensures))
-          (c .before .before .before .before .before .before .before .idle-rounds .ensures) (c .before .before .before .before .before .before .if2 .taken),
-      S .here .file .inside,
+      idle-inside O (c .before .before .before .before .before .before .before .idle-rounds .ensures) (c .before .before .before .before .before .before .if2 .taken),
+      O .statement .here .file .inside,
       c .before .before .before .before .before .before .before .before .before .before .before .before .before .good .0 .0,
     )
 
 measure-inner-returns-2 : (t : ℕ) → measure-inner-lts.Need-returns-2 (measure-inner-claims t) (measure-inner-at t) measure-inner.Post
 unfolding settingsIn
 measure-inner-returns-2 t c =
-    let S = c .before .before .before .before .before .before .before .before .before .before .before .before .before .pre .1 .0 in
-    idle-clocked S (c .before .before .before .load .ensures) (c .before .before .measure-idle .ensures)
-    (other-kind _ (c .before .before .before .before .before .before .before .before .before .before .before .before .before .pre .1 .1)
-    (λ h. c .before .before .before .before .before .before .before .before .before .if1 .left
-    (ap (λ (y : Rec). y .kind) (c .before .before .before .before .before .before .before .before .before .before .before .record-at .ensures) ∙ h)))
-    (count-there (S .statement .here) (c .before .before .before .before .before .before .before .before .before .before .before .record-at .ensures))
+    let at-if1 = c .before .before .before .before .before .before .before .before .before in
+    idle-clocked (at-if1 .before .before .before .before .pre .1 .0) (c .before .before .before .load .ensures) (c .before .before .measure-idle .ensures) (loop-there t at-if1)
     (c .before .before .before .before .before .before .before .idle-rounds .ensures) (c .before .before .before .before .before .before .if2 .taken) refl
     (c .before .store .ensures)
 
 measure-inner-measure-rounds-requires : (t : ℕ) → measure-inner-lts.Need-measure-rounds-requires (measure-inner-claims t) (measure-inner-at t) measure-inner.Post
-measure-inner-measure-rounds-requires t c κs = (
-  omega arith,
-  (
-    (c .before .before .before .before .before .before .before .before .before .pre) .1 .0,
-    other-kind _ ((c .before .before .before .before .before .before .before .before .before .pre) .1 .1)
-        (λ h. (c .before .before .before .before .before .if1) .left (ap (λ (y : Rec). y .kind) ((c .before .before .before .before .before .before .before .record-at) .ensures) ∙ h)),
-    count-there ((c .before .before .before .before .before .before .before .before .before .pre) .1 .0 .statement .here) ((c .before .before .before .before .before .before .before .record-at) .ensures),
-  ),
-)
+measure-inner-measure-rounds-requires t c κs =
+    let at-if1 = c .before .before .before .before .before in
+    let O = loop-there t at-if1 in
+    (omega arith, (at-if1 .before .before .before .before .pre .1 .0, O .kind, O .count-is))
 
 abbrev measure-rounds-Inv-loop : measure-rounds-lts.InvT-loop
 measure-rounds-Inv-loop s i to count t clock₀ meets₀ body next₀ round₀ clock meets next round = ClockingRounds s i to t clock₀ count clock next round meets₀ meets
@@ -633,16 +634,13 @@ measure-rounds-store-requires t c κs =
 
 measure-rounds-add-result : (t : ℕ) → measure-rounds-lts.Need-add-result (measure-rounds-claims t) (measure-rounds-at t) measure-rounds.Post measure-rounds-Inv-loop measure-rounds-μ-loop
 measure-rounds-add-result t c =
+    let p = c .before .before .before .before .before .before .before .loop .inv .measuring .passing in
     omega (
       arith,
-      at-end ((c .before .before .before .before .before .before .before .loop) .inv .measuring .passing .loop)
-          ((c .before .before .before .before .before .before .before .loop) .inv .measuring .passing .kind)
-          ((c .before .before .before .before .before .before .before .loop) .inv .measuring .passing .count-is)
-          ((c .before .before .before .before .before .before .before .loop) .inv .measuring .passing .turn) ((c .before .before .before .before .before .before .loop-test) .left),
-      opened ((c .before .before .before .before .before .before .before .loop) .inv .measuring .passing .loop)
-          ((c .before .before .before .before .before .before .before .loop) .inv .measuring .passing .kind) .ends,
-      (c .before .before .before .before .before .before .before .loop) .inv .measuring .passing .loop .here .file .inside,
-      (c .before .before .before .before .before .before .before .before .before .good) .0 .0,
+      at-end (p .turn) (c .before .before .before .before .before .before .loop-test .left),
+      opened (p .loop) .ends,
+      p .loop .statement .here .file .inside,
+      c .before .before .before .before .before .before .before .before .before .good .0 .0,
     )
 
 measure-rounds-returns-2 : (t : ℕ) → measure-rounds-lts.Need-returns-2 (measure-rounds-claims t) (measure-rounds-at t) measure-rounds.Post measure-rounds-Inv-loop measure-rounds-μ-loop

@@ -16,7 +16,7 @@ use Rattle.layout.proofs.PassingRounds.{opened, at-end}
 use Rattle.layout.proofs.WritingSteps.{act-fits, act-laid}
 use Rattle.layout.proofs.IdleLoops.{skips-fit, skips-laid, no-skip}
 use Rattle.layout.proofs.WritingBlocks.{WritingBlock, block-start, block-closed, block-ended, statement-fits, block-on, block-next}
-use Rattle.layout.proofs.WritingRounds.{WritingLoop, rounds-start, body-fits, rounds-next, check-fits, rounds-laid}
+use Rattle.layout.proofs.WritingRounds.{WritingLoop, loop, loop-start, body-fits, rounds-next, check-fits, rounds-laid}
 use Rattle.layout.proofs.WritingSides.{side-fits, side-upto, side-at, side-long, end-fits, side-laid}
 use Rattle.layout.proofs.WritingBranches.{test-fits, test-upto, table-at, test-at, one-fits, one-upto, one-ends, one-at, one-long, two-fits, two-ends, branch-laid}
 use borrow.Fn.Kinds.{In}
@@ -321,16 +321,14 @@ write-rounds-add-body t c = omega (arith, (c .before .before .pre) .1 .0 .statem
 write-rounds-loop-holds : (t : ℕ) → write-rounds-lts.Need-loop-holds (write-rounds-claims t) (write-rounds-at t) write-rounds.Post write-rounds-Inv-loop write-rounds-μ-loop
 write-rounds-loop-holds t c =
     let p = c .before .before .pre .1 in
-    let R = count-there (p .0 .statement .here) (p .1) in
-    record { loop = p .0; kind = p .2; count-is = R; turn = rounds-start (p .0) (p .2) R }
+    loop-start (record { fits = p .0; kind = p .2; count-is = count-there (p .0 .statement .here) (p .1) })
 
 write-rounds-write-block-requires : (t : ℕ) → write-rounds-lts.Need-write-block-requires (write-rounds-claims t) (write-rounds-at t) write-rounds.Post write-rounds-Inv-loop write-rounds-μ-loop
 write-rounds-write-block-requires t c κs =
     let at-loop = c .before .before .before in
     let start = at-loop .before .before .before in (
       omega (arith, (start .pre) .0, (start .pre) .1 .0 .statement .here .early),
-      body-fits ((at-loop .loop) .inv .loop) ((at-loop .loop) .inv .kind)
-          ((at-loop .loop) .inv .count-is) ((at-loop .loop) .inv .turn) ((c .before .before .loop-test) .taken) ((c .before .written) .ensures),
+      body-fits ((at-loop .loop) .inv .loop-fits) ((at-loop .loop) .inv .turn) ((c .before .before .loop-test) .taken) ((c .before .written) .ensures),
     )
 
 write-rounds-add-round : (t : ℕ) → write-rounds-lts.Need-add-round (write-rounds-claims t) (write-rounds-at t) write-rounds.Post write-rounds-Inv-loop write-rounds-μ-loop
@@ -340,10 +338,8 @@ write-rounds-loop-again : (t : ℕ) → write-rounds-lts.Need-loop-again (write-
 write-rounds-loop-again t c =
     let l = (c .before .before .before .before .before .before .before .loop) .inv in
     record {
-      loop = l .loop;
-      kind = l .kind;
-      count-is = l .count-is;
-      turn = rounds-next (l .loop) (l .kind) (l .count-is) (l .turn) ((c .before .before .before .before .before .before .loop-test) .taken)
+      loop-fits = l .loop-fits;
+      turn = rounds-next (l .loop-fits) (l .turn) ((c .before .before .before .before .before .before .loop-test) .taken)
           ((c .before .before .before .before .before .written) .ensures) ((c .before .before .before .write-block) .ensures);
     }
 
@@ -352,21 +348,19 @@ write-rounds-put-step-requires t c κs = (
   (c .before .before .before .before .loop) .inv .turn .rounding .ready .laying,
   omega arith,
   omega (arith, (c .before .before .before .before .before .before .before .pre) .1 .0 .statement .ready .laying .settings .fits .positive .set-lasts),
-  check-fits ((c .before .before .before .before .loop) .inv .loop) ((c .before .before .before .before .loop) .inv .kind)
-      ((c .before .before .before .before .loop) .inv .count-is) ((c .before .before .before .before .loop) .inv .turn) ((c .before .before .before .loop-test) .left)
+  check-fits ((c .before .before .before .before .loop) .inv .loop-fits) ((c .before .before .before .before .loop) .inv .turn) ((c .before .before .before .loop-test) .left)
       (c .before .check-of .ensures ∙ ap checkRec (c .before .before .before .before .before .before .before .pre .1 .1)) ((c .before .before .written2) .ensures),
 )
 
 write-rounds-add-t27 : (t : ℕ) → write-rounds-lts.Need-add-t27 (write-rounds-claims t) (write-rounds-at t) write-rounds.Post write-rounds-Inv-loop write-rounds-μ-loop
 write-rounds-add-t27 t c =
+    let l = c .before .before .before .before .before .before .before .loop .inv in
     omega (
       arith,
-      at-end ((c .before .before .before .before .before .before .before .loop) .inv .loop .statement)
-          ((c .before .before .before .before .before .before .before .loop) .inv .kind) ((c .before .before .before .before .before .before .before .loop) .inv .count-is)
-          ((c .before .before .before .before .before .before .before .loop) .inv .turn .rounding) ((c .before .before .before .before .before .before .loop-test) .left),
-      opened ((c .before .before .before .before .before .before .before .loop) .inv .loop .statement) ((c .before .before .before .before .before .before .before .loop) .inv .kind) .ends,
-      (c .before .before .before .before .before .before .before .loop) .inv .loop .statement .here .file .inside,
-      (c .before .before .before .before .before .before .before .before .before .before .good) .0 .0,
+      at-end (l .turn .rounding) (c .before .before .before .before .before .before .loop-test .left),
+      opened (loop (l .loop-fits)) .ends,
+      l .loop-fits .fits .statement .here .file .inside,
+      c .before .before .before .before .before .before .before .before .before .before .good .0 .0,
     )
 
 write-rounds-same-length : (t : ℕ) → write-rounds-lts.Need-same-length (write-rounds-claims t) (write-rounds-at t) write-rounds.Post write-rounds-Inv-loop write-rounds-μ-loop
@@ -376,7 +370,7 @@ write-rounds-returns : (t : ℕ) → write-rounds-lts.Need-returns (write-rounds
 write-rounds-returns t c =
     let at-loop-test = c .before .before .before .before .before .before in
     let at-loop = at-loop-test .before in
-    rounds-laid ((at-loop .loop) .inv .loop) ((at-loop .loop) .inv .kind) ((at-loop .loop) .inv .count-is) ((at-loop .loop) .inv .turn) ((at-loop-test .loop-test) .left)
+    rounds-laid ((at-loop .loop) .inv .loop-fits) ((at-loop .loop) .inv .turn) ((at-loop-test .loop-test) .left)
     (c .before .before .before .before .check-of .ensures ∙ ap checkRec (at-loop .before .before .before .pre .1 .1))
     ((c .before .before .before .before .before .written2) .ensures) ((c .before .before .put-step) .ensures)
 
