@@ -16,8 +16,8 @@ use Rattle.model.specs.Answers.{Verdict, refusal}
 use Rattle.model.specs.Replies.{reading, above, fileTime, readyRows}
 use Rattle.model.proofs.Sound.{sound-file}
 use Rattle.theory.proofs.Accepted.{in-range}
-use Rattle.records.specs.declared.settings.Decoded.{Decoded}
-use Rattle.records.specs.declared.settings.Decoded.the-variants.{Valid, Refused}
+use Rattle.reading.specs.declared.Checked.{Checked}
+use Rattle.reading.specs.declared.Checked.the-variants.{Valid, Refused}
 use Rattle.reading.specs.Answers.{Reads}
 use Rattle.reading.proofs.Filled.{fills-file}
 use Rattle.reading.proofs.Entry.{read-sound, read-settings}
@@ -46,7 +46,7 @@ module _ (s : List ℕ) (f : Form) (file : List ℕ) (bad : Bool) where
   }
 
   -- rows 6 and 1 to 5
-  pub not-read : {r : Decoded} (x : Refusal) → r ≡ Refused x → Reads s f file r → Readies s f file bad r
+  pub not-read : {r : Checked} (x : Refusal) → r ≡ Refused x → Reads s f file r → Readies s f file bad r
   not-read x q R = subst (Readies s f file bad) (sym q) (refused x (λ next. subst (Reads s f file) q R .reply (rows next)))
 
   module _ (σ : Settings) (R : Reads s f file (Valid σ)) where
