@@ -1,21 +1,13 @@
 -- The code tries the longest file first, the definition the buffer.
 use Prim.Native.Nat.{ℕ, _*_, _≤_, _<_}
-use mathlib.Core.Path.{_≡_, refl, ap, sym, _∙_}
-use mathlib.Core.Bool.{Bool, true, false, _||_}
+use mathlib.Core.Path.{_≡_, ap, sym, _∙_}
+use mathlib.Core.Bool.{Bool, true, _||_, or-true, or-false}
 use lib.Dec.{ltb}
 use borrow.Author.Needs.{needs}
 use borrow.Author.Tests.{lt-ltb, le-ltb}
 use Rattle.model.specs.Replies.{noRoom}
 use Rattle.records.proofs.no_room.Statement.{statement}
 use Rattle.records.proofs.no_room.Tie as tie
-
-or-true : (a : Bool) → (a || true) ≡ true
-or-true true = refl
-or-true false = refl
-
-or-false : (a : Bool) → (a || false) ≡ a
-or-false true = refl
-or-false false = refl
 
 long : (room n : ℕ) → 5461 < n → noRoom room n ≡ true
 long room n h = ap (λ (b : Bool). ltb room (12 * n) || b) (lt-ltb 5461 n h) ∙ or-true (ltb room (12 * n))
