@@ -20,16 +20,13 @@ use Rattle.reading.specs.declared.Checked.{Checked}
 use Rattle.reading.specs.declared.Checked.the-variants.{Valid, Refused}
 use Rattle.reading.specs.Answers.{Reads}
 use Rattle.reading.proofs.Filled.{fills-file}
-use Rattle.reading.proofs.Entry.{read-sound, read-settings}
+use Rattle.reading.proofs.Entry.{none, read-sound, read-settings}
 use Rattle.timing.specs.declared.ticks.Time.{Time}
 use Rattle.timing.specs.declared.ticks.Time.the-variants.{Ticks, OverPeriod}
 use Rattle.timing.specs.Times.{Gives}
 use Rattle.timing.specs.Blocks.{BlockTimes}
 use Rattle.timing.proofs.Given.{was-over, was-ticks}
 use Rattle.machine.specs.Calls.{Readies}
-
-none : {A : Type 0} (x : Refusal) (σ : Settings) → Refused x ≡ Valid σ → A
-none x σ e = let z : _≡_ {A = ℕ} 0 1 = cc in absurd (omega arith)
 
 module _ (s : List ℕ) (f : Form) (file : List ℕ) (bad : Bool) where
   abbrev rows : Verdict → Verdict

@@ -9,7 +9,7 @@ use lib.Dec.{ltb}
 use lib.ListN.{length}
 use borrow.Author.Tests.{ltb-true, ltb-false}
 use Rattle.model.specs.declared.Form.{Form}
-use Rattle.model.specs.Records.{Rec, kindAt, recordAt, SKIP, IF, WHILE, TIMES}
+use Rattle.model.specs.Records.{Rec, kindAt, recordAt, SKIP, IF, TIMES}
 use Rattle.model.specs.Trees.{Test, Block, nil, skip, act, branch, while, times, size, depth, fileTree}
 use Rattle.model.proofs.Stands.{At, LoopAt, stands-once as one-stands}
 use Rattle.model.proofs.Sound.{OfForm, sound-file}
@@ -17,7 +17,7 @@ use Rattle.reading.specs.Closing.{opensBlock, closesBlock, closingIn}
 use Rattle.reading.specs.Walks.{OpenAt}
 use Rattle.reading.specs.Ranges.{SoundFile, Stands, firstSize, firstPart, secondPart, afterFirst, testOf}
 use Rattle.reading.proofs.BlockEnds.{found, ends-block, ran-out}
-use Rattle.reading.proofs.FirstKinds.{act-opens, shut, IsAct, skip-is, act-is, if-is, while-is, times-is}
+use Rattle.reading.proofs.FirstKinds.{act-opens, shut, skip-is, if-is, times-is}
 use Rattle.reading.proofs.Filled.{fills-after, fills-none, first-some}
 
 -- the tree of a sound file
@@ -127,9 +127,6 @@ module _ {f : Form} {s : List ℕ} {i to : ℕ} where
     pub skip-at : kindAt s i ≡ SKIP → b ≡ skip (recordAt s i .count) (afterFirst b)
     skip-at e = skip-is begun b (B .fills) e
 
-    pub act-at : opensBlock (kindAt s i) ≡ false → (kindAt s i ≡ SKIP → ⊥) → IsAct (recordAt s i) b
-    act-at o x = act-is begun b (B .fills) o x
-
     module _ (e : kindAt s i ≡ IF) where
       pub if-at : b ≡ branch (testOf (recordAt s i)) (firstPart b) (secondPart b) (afterFirst b)
       if-at = if-is begun b (B .fills) e
@@ -151,9 +148,6 @@ module _ {f : Form} {s : List ℕ} {i to : ℕ} where
 
     pub times-at : kindAt s i ≡ TIMES → b ≡ times (testOf (recordAt s i)) (recordAt s i .count) (firstPart b) (afterFirst b)
     times-at e = times-is begun b (B .fills) e
-
-    pub while-at : kindAt s i ≡ WHILE → b ≡ while (testOf (recordAt s i)) (recordAt s i .count) (firstPart b) (afterFirst b)
-    while-at e = while-is begun b (B .fills) e
 
     -- a loop's body stands behind its record, and its END is in the file
     module _ (o : opensBlock (kindAt s i) ≡ true) (x : kindAt s i ≡ IF → ⊥) where
