@@ -1,7 +1,6 @@
 -- How a block is merged statement by statement; what is kept for the second pass; then sizes, what is written, and the reply of the call.
 pub mod Merged
 pub mod Keeping
-pub mod Inside
 pub mod StatementSizes
 pub mod Measured
 pub mod PieceBytes

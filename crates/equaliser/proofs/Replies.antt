@@ -19,13 +19,13 @@ use Rattle.model.specs.Settings.{settingsOf}
 use Rattle.model.specs.Answers.{Verdict, finished, refusal, equalised, kept as kept-by}
 use Rattle.model.specs.Replies.{turnDown, noRoom, equaliseRows, equalisedTree, equaliseReply, equaliseOut}
 use Rattle.model.proofs.Sound.{sound-file}
-use Rattle.records.specs.declared.settings.Decoded.the-variants.{Valid, Refused}
+use Rattle.reading.specs.declared.Checked.the-variants.{Valid, Refused}
 use Rattle.records.specs.Blocks.{blockBytes, skipRecords}
 use Rattle.records.proofs.Blocks.{length-block}
 use Rattle.reading.specs.Answers.{Reads}
 use Rattle.reading.specs.Ranges.{SoundFile}
 use Rattle.reading.proofs.Entry.{read-sound}
-use Rattle.reading.proofs.Standing.{stands-file}
+use Rattle.reading.proofs.Walking.{whole-file}
 use Rattle.timing.specs.declared.ticks.Time.the-variants.{Ticks, OverPeriod}
 use Rattle.timing.specs.Times.{Gives}
 use Rattle.timing.proofs.Given.{was-over}
@@ -33,7 +33,7 @@ use Rattle.equaliser.specs.declared.measure.Extent.{Extent}
 use Rattle.equaliser.specs.declared.write.Written.{Written}
 use Rattle.equaliser.specs.Merged.{padded}
 use Rattle.equaliser.specs.Pads.{Kept}
-use Rattle.equaliser.specs.Sizes.{InTask, Small, BlockAsks, BlockDone, IsBlock, BlockSize}
+use Rattle.equaliser.specs.Sizes.{Small, BlockAsks, BlockDone, IsBlock, BlockSize}
 use Rattle.equaliser.specs.Written.{BlockFits, BlockWritten}
 use Rattle.equaliser.specs.Answers.{EqualisesSound}
 use Rattle.equaliser.proofs.Merged.{equalise-padded}
@@ -41,19 +41,12 @@ use Rattle.equaliser.proofs.StatementSizes.{told}
 
 -- A TASK THAT WAS READ
 
--- its tree stands in it
-abbrev in-task : (task : List ℕ) → SoundFile Task task → InTask task 0 (length task / 12)
-in-task task S =
-    let F = sound-file Task task (S .sound) in
-    record {
-      block = fileTree task;
-      stands = stands-file Task task (record { sound = S .sound });
-      few = omega (arith, F .few, F .whole-records);
-      inside = omega arith;
-    }
+-- at most 256 records
+few : (task : List ℕ) → SoundFile Task task → length task / 12 ≤ 256
+few task S = let F = sound-file Task task (S .sound) in omega (arith, F .few, F .whole-records)
 
 pub task-asks : {task pads : List ℕ} → SoundFile Task task → length pads ≡ 512 → BlockAsks task 0 (length task / 12) pads
-task-asks S l = record { task = in-task _ S; long = l }
+task-asks S l = record { file = whole-file S; few = few _ S; long = l }
 
 -- the first row that refuses decides, and a refusal keeps the buffer
 turned : (task : List ℕ) (σ : Settings) (old : List ℕ) (x : Refusal) → refusal x ≡ equaliseRows σ (fileTree task) (length old) → EqualisesSound task σ old old (Equalised.Refused x)
@@ -64,7 +57,7 @@ turned task σ old x e = record {
 
 module _ {task : List ℕ} {σ : Settings} {pads kept : List ℕ} {r : Extent} (S : SoundFile Task task) (B : BlockSize task 0 (length task / 12) σ pads kept r) where
   measured : IsBlock task 0 (length task / 12) σ kept (fileTree task) r
-  measured = B .right (fileTree task) (in-task task S .stands)
+  measured = B .right (whole-file S)
 
   pub over-period : (old : List ℕ) → r .time ≡ OverPeriod → EqualisesSound task σ old old (Equalised.Refused Refusal.OverPeriod)
   over-period old e =
@@ -104,7 +97,8 @@ module _ {task : List ℕ} {σ : Settings} {pads kept : List ℕ} {r : Extent} (
         abbrev fits : BlockFits task 0 (length task / 12) 0 kept old
         fits = record {
           settings = σ;
-          task = in-task task S;
+          file = whole-file S;
+          few = few task S;
           kept = subst (λ (j : ℕ). Kept σ task (length task / 12) kept 0 j) whole (in-time .2 .kept);
           within = omega (arith, in-time);
           room = omega (arith, length-result, room (ltb (length old) (12 * n)) refl h);

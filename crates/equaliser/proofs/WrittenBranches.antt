@@ -16,25 +16,25 @@ use Rattle.records.proofs.Over.{Part, lent, back, part-first, part-fits, part-f
 use Rattle.records.proofs.Laying.{record-wrote, wrote-next, wrote-last}
 use Rattle.records.proofs.Blocks.{branch-bytes}
 use Rattle.reading.specs.Ranges.{Stands, firstPart, secondPart, afterFirst, testOf}
-use Rattle.reading.proofs.Standing.{if-at, sides-end}
+use Rattle.reading.specs.Closing.{opensBlock}
+use Rattle.reading.specs.Walks.{StatementAt}
+use Rattle.reading.proofs.Walking.{block, if-at, first-in, second-in}
 use Rattle.equaliser.specs.declared.write.Written.{Written}
 use Rattle.equaliser.specs.Merged.{padded, firstOut}
 use Rattle.equaliser.specs.Pads.{Entry}
-use Rattle.equaliser.specs.Sizes.{AtStatement}
 use Rattle.equaliser.specs.Written.{BlockFits, BlockWritten, StatementFits, WritesStatement}
-use Rattle.equaliser.proofs.Inside.{first-in, second-in}
 use Rattle.equaliser.proofs.WrittenBytes.{branchBytes}
 use Rattle.equaliser.proofs.WrittenParts.{block-fits, block-laid, block-goes}
 
 module _ {s : List ℕ} {i to : ℕ} {pads old : List ℕ} (F : StatementFits s i to 0 pads old) {r : Record} (same : recordOf r ≡ recordAt s i) (k : kindAt s i ≡ IF) where
-  abbrev at : AtStatement s i to
+  abbrev at : StatementAt Task s i to
   at = F .statement
 
   abbrev σ : Settings
   σ = F .settings
 
   abbrev all : Block
-  all = at .task .block
+  all = block at
 
   abbrev one : Block
   one = firstPart all
@@ -50,11 +50,11 @@ module _ {s : List ℕ} {i to : ℕ} {pads old : List ℕ} (F : StatementFits s 
   pad-two = time σ one - time σ two
 
   is-if : all ≡ branch (testOf (recordOf r)) one two (afterFirst all)
-  is-if = if-at all (at .task .stands) (at .early) (at .goes-on) k ∙ ap (λ (y : Rec). branch (testOf y) one two (afterFirst all)) (sym same)
+  is-if = if-at at k .is ∙ ap (λ (y : Rec). branch (testOf y) one two (afterFirst all)) (sym same)
 
   -- its record says no more than its test
   if-record : recordOf r ≡ testRec IF (testOf (recordOf r)) 0
-  if-record = same ∙ subst (Stands Task s i to) is-if (at .task .stands) .fills .stands .0 .is
+  if-record = same ∙ subst (Stands Task s i to) is-if (at .file .stands) .fills .stands .0 .is
 
   whole : blockBytes (firstOut σ 0 all) ≡ branchBytes σ (recordOf r) one two
   whole =
@@ -67,7 +67,7 @@ module _ {s : List ℕ} {i to : ℕ} {pads old : List ℕ} (F : StatementFits s 
 
   -- what was kept for it
   known : (getD pads i 0 ≡ pad-one) × (getD pads (256 + i) 0 ≡ pad-two)
-  known = subst (Entry σ pads i) is-if (F .kept .entry i (omega arith) (at .early) all (at .task .stands))
+  known = subst (Entry σ pads i) is-if (F .kept .entry i (omega arith) (at .early) all (at .file .stands))
 
   short : (time σ one + pad-one < 2 ^ 32) × (time σ two + pad-two < 2 ^ 32)
   short = (omega (arith, F .within, ap (time σ) is-if), omega (arith, F .within, ap (time σ) is-if))
@@ -107,12 +107,12 @@ module _ {s : List ℕ} {i to : ℕ} {pads old : List ℕ} (F : StatementFits s 
   module _ {new : List ℕ} {n : ℕ} where
     module _ (p : TestLaid new n) where
       pub first-fits : BlockFits s (i + 1) to (getD pads i 0) pads (lent new n)
-      first-fits = block-fits (first-in at k) (F .kept) pad-one (known .0) (short .0) after-one (p .part)
+      first-fits = block-fits (first-in at (ap opensBlock k)) (F .few) (F .kept) pad-one (known .0) (short .0) after-one (p .part)
 
       pub first-laid : {ys : List ℕ} {w : Written} → BlockWritten s (i + 1) to (getD pads i 0) pads (lent new n) ys w → FirstLaid (back new n ys) (n + w .bytes) (w .next)
       first-laid W = record {
-        part = block-laid (first-in at k) (F .kept) pad-one (known .0) (short .0) after-one (p .part) W;
-        goes = block-goes (first-in at k) (F .kept) pad-one (known .0) (short .0) after-one (p .part) W;
+        part = block-laid (first-in at (ap opensBlock k)) (F .few) (F .kept) pad-one (known .0) (short .0) after-one (p .part) W;
+        goes = block-goes (first-in at (ap opensBlock k)) (F .few) (F .kept) pad-one (known .0) (short .0) after-one (p .part) W;
       }
 
     module _ {m : ℕ} (p : FirstLaid new n m) where
@@ -124,29 +124,29 @@ module _ {s : List ℕ} {i to : ℕ} {pads old : List ℕ} (F : StatementFits s 
 
     module _ {m : ℕ} (p : ElseLaid new n m) where
       pub else-early : m < to
-      else-early = omega (arith, p .goes, sides-end all (at .task .stands) (at .early) (at .goes-on) k)
+      else-early = omega (arith, p .goes, if-at at k .ends)
 
       pub else-late : i < m
       else-late = omega (arith, p .goes)
 
       pub second-fits : BlockFits s (m + 1) to (getD pads (256 + i) 0) pads (lent new n)
-      second-fits = block-fits (second-in at k (p .goes)) (F .kept) pad-two (known .1) (short .1) (recordBytes endRec) (p .part)
+      second-fits = block-fits (second-in at k (p .goes)) (F .few) (F .kept) pad-two (known .1) (short .1) (recordBytes endRec) (p .part)
 
       pub second-laid : {ys : List ℕ} {w : Written} → BlockWritten s (m + 1) to (getD pads (256 + i) 0) pads (lent new n) ys w → SecondLaid (back new n ys) (n + w .bytes) (w .next)
       second-laid W = record {
-        part = block-laid (second-in at k (p .goes)) (F .kept) pad-two (known .1) (short .1) (recordBytes endRec) (p .part) W;
-        goes = omega (arith, p .goes, block-goes (second-in at k (p .goes)) (F .kept) pad-two (known .1) (short .1) (recordBytes endRec) (p .part) W);
+        part = block-laid (second-in at k (p .goes)) (F .few) (F .kept) pad-two (known .1) (short .1) (recordBytes endRec) (p .part) W;
+        goes = omega (arith, p .goes, block-goes (second-in at k (p .goes)) (F .few) (F .kept) pad-two (known .1) (short .1) (recordBytes endRec) (p .part) W);
       }
 
     module _ {m : ℕ} (p : SecondLaid new n m) where
       pub end-early : m < to
-      end-early = omega (arith, p .goes, sides-end all (at .task .stands) (at .early) (at .goes-on) k)
+      end-early = omega (arith, p .goes, if-at at k .ends)
 
       pub end-fits : 12 ≤ length (lent new n)
       end-fits = part-fits-last (p .part)
 
       pub end-laid : {ys : List ℕ} → ys ≡ over (recordBytes endRec) (lent new n)
-          → WritesStatement (F .settings) i 0 (F .statement .task .block) old (back new n ys) (record { next = m + 1; bytes = n + 12; wait = 0 })
+          → WritesStatement (F .settings) i 0 (F .statement .file .block) old (back new n ys) (record { next = m + 1; bytes = n + 12; wait = 0 })
       end-laid {ys} e =
           subst (λ (b : Block). WritesStatement σ i 0 b old (back new n ys) (record { next = m + 1; bytes = n + 12; wait = 0 })) (sym is-if)
           (record { wrote = subst (λ (bs : List ℕ). Wrote bs old (back new n ys) (n + 12)) laid (wrote-last (p .part) (record-wrote endRec e)); waits = refl; goes = p .goes })

@@ -17,43 +17,42 @@ use Rattle.records.proofs.Over.{Part, lent, back, part-first, part-fits-last}
 use Rattle.records.proofs.Laying.{wrote-room, wrote-last}
 use Rattle.reading.specs.Closing.{opensBlock}
 use Rattle.reading.specs.Ranges.{firstPart, afterFirst, testOf}
-use Rattle.reading.proofs.Standing.{body-ends}
+use Rattle.reading.specs.Walks.{StatementAt}
+use Rattle.reading.proofs.Walking.{block, open-at, first-in, task-while}
 use Rattle.timing.proofs.Firsts.{parts-time, time-first}
 use Rattle.equaliser.specs.declared.write.Written.{Written}
 use Rattle.equaliser.specs.Merged.{padded, firstOut}
 use Rattle.equaliser.specs.Pads.{Entry}
-use Rattle.equaliser.specs.Sizes.{AtStatement}
 use Rattle.equaliser.specs.Written.{loopHead, loopTail, BlockFits, BlockWritten, StatementFits, WritesStatement}
-use Rattle.equaliser.proofs.Inside.{body-in, is-while}
 use Rattle.equaliser.proofs.WrittenBytes.{loopBytes, loop-bytes}
 use Rattle.equaliser.proofs.WrittenParts.{block-fits, block-laid, block-goes}
 
 module _ {s : List ℕ} {i to : ℕ} {pads old : List ℕ} (F : StatementFits s i to 0 pads old) {r : Record} (same : recordOf r ≡ recordAt s i)
     (o : opensBlock (kindAt s i) ≡ true) (x : kindAt s i ≡ IF → ⊥) where
-  abbrev at : AtStatement s i to
+  abbrev at : StatementAt Task s i to
   at = F .statement
 
   abbrev σ : Settings
   σ = F .settings
 
   abbrev all : Block
-  all = at .task .block
+  all = block at
 
   abbrev body : Block
   body = firstPart all
 
   is-loop : all ≡ while (testOf (recordOf r)) (r .count) body (afterFirst all)
-  is-loop = is-while at o x all (at .task .stands) ∙ ap (λ (y : Rec). while (testOf y) (y .count) body (afterFirst all)) (sym same)
+  is-loop = task-while at o x ∙ ap (λ (y : Rec). while (testOf y) (y .count) body (afterFirst all)) (sym same)
 
   laid : loopBytes σ (recordOf r) body ≡ blockBytes (firstOut σ 0 (while (testOf (recordOf r)) (r .count) body (afterFirst all)))
   laid = sym (loop-bytes σ (recordOf r) body)
 
   -- what was kept for it
   known : getD pads i 0 ≡ time σ body
-  known = subst (Entry σ pads i) is-loop (F .kept .entry i (omega arith) (at .early) all (at .task .stands))
+  known = subst (Entry σ pads i) is-loop (F .kept .entry i (omega arith) (at .early) all (at .file .stands))
 
   short : time σ body + 0 < 2 ^ 32
-  short = omega (arith, F .within, parts-time σ Task all (at .task .stands .fills .of-form), time-first σ all)
+  short = omega (arith, F .within, parts-time σ Task all (at .file .stands .fills .of-form), time-first σ all)
 
   room : length (loopBytes σ (recordOf r) body) ≤ length old
   room = subst (λ (bs : List ℕ). length bs ≤ length old) (sym (laid ∙ ap (λ (b : Block). blockBytes (firstOut σ 0 b)) (sym is-loop))) (F .room)
@@ -75,17 +74,17 @@ module _ {s : List ℕ} {i to : ℕ} {pads old : List ℕ} (F : StatementFits s 
   module _ {new : List ℕ} {n : ℕ} where
     module _ (p : HeadLaid new n) where
       pub body-fits : BlockFits s (i + 1) to 0 pads (lent new n)
-      body-fits = block-fits (body-in at o x) (F .kept) 0 refl short (loopTail (time σ body)) (p .part)
+      body-fits = block-fits (first-in at o) (F .few) (F .kept) 0 refl short (loopTail (time σ body)) (p .part)
 
       pub body-laid : {ys : List ℕ} {w : Written} → BlockWritten s (i + 1) to 0 pads (lent new n) ys w → BodyLaid (back new n ys) (n + w .bytes) (w .next)
       body-laid W = record {
-        part = block-laid (body-in at o x) (F .kept) 0 refl short (loopTail (time σ body)) (p .part) W;
-        goes = block-goes (body-in at o x) (F .kept) 0 refl short (loopTail (time σ body)) (p .part) W;
+        part = block-laid (first-in at o) (F .few) (F .kept) 0 refl short (loopTail (time σ body)) (p .part) W;
+        goes = block-goes (first-in at o) (F .few) (F .kept) 0 refl short (loopTail (time σ body)) (p .part) W;
       }
 
     module _ {m : ℕ} (p : BodyLaid new n m) where
       pub body-early : m < to
-      body-early = omega (arith, p .goes, body-ends all (at .task .stands) (at .early) (at .goes-on) o x)
+      body-early = omega (arith, p .goes, open-at at o .ends)
 
       pub tail-fits : length (loopTail (getD pads i 0)) ≤ length (lent new n)
       tail-fits = rw known (part-fits-last (p .part))
@@ -94,7 +93,7 @@ module _ {s : List ℕ} {i to : ℕ} {pads old : List ℕ} (F : StatementFits s 
         pub tail-room : n + t ≤ length old
         tail-room = wrote-room (p .part) (rw known at W)
 
-        pub tail-laid : WritesStatement (F .settings) i 0 (F .statement .task .block) old (back new n ys) (record { next = m + 1; bytes = n + t; wait = 0 })
+        pub tail-laid : WritesStatement (F .settings) i 0 (F .statement .file .block) old (back new n ys) (record { next = m + 1; bytes = n + t; wait = 0 })
         tail-laid =
             subst (λ (b : Block). WritesStatement σ i 0 b old (back new n ys) (record { next = m + 1; bytes = n + t; wait = 0 })) (sym is-loop)
             (record { wrote = subst (λ (bs : List ℕ). Wrote bs old (back new n ys) (n + t)) laid (wrote-last (p .part) (rw known at W)); waits = refl; goes = omega (arith, p .goes) })

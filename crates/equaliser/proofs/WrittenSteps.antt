@@ -19,10 +19,10 @@ use Rattle.records.proofs.Blocks.{waiting-bytes, act-bytes}
 use Rattle.reading.specs.Closing.{opensBlock}
 use Rattle.reading.specs.Ranges.{Stands, firstSize, afterFirst}
 use Rattle.reading.proofs.FirstKinds.{IsAct, shut}
-use Rattle.reading.proofs.Standing.{stands-some, skip-at, act-at}
+use Rattle.reading.specs.Walks.{StatementAt}
+use Rattle.reading.proofs.Walking.{block, some, skip-at, act-at}
 use Rattle.equaliser.specs.declared.write.Written.{Written}
 use Rattle.equaliser.specs.Merged.{branchOut, loopOut, padded, firstOut, firstWaits}
-use Rattle.equaliser.specs.Sizes.{AtStatement}
 use Rattle.equaliser.specs.Written.{StatementFits, WritesStatement, StatementWritten}
 
 -- what waited is written before any statement but a SKIP
@@ -45,31 +45,28 @@ opens-waits w (while q n a b) B l o = refl
 opens-waits w (times q n a b) B l o = refl
 
 module _ {s : List ℕ} {i to w : ℕ} {pads old : List ℕ} (F : StatementFits s i to w pads old) {r : Record} (same : recordOf r ≡ recordAt s i) where
-  abbrev at : AtStatement s i to
+  abbrev at : StatementAt Task s i to
   at = F .statement
 
   abbrev σ : Settings
   σ = F .settings
 
   abbrev all : Block
-  all = at .task .block
+  all = block at
 
   kind : r .kind ≡ kindAt s i
   kind = ap (λ (x : Rec). x .kind) same
-
-  some : 1 ≤ firstSize all
-  some = stands-some all (at .task .stands) (at .early) (at .goes-on)
 
   -- A SKIP
 
   module _ (k : r .kind ≡ SKIP) where
     is-skip : all ≡ skip (r .count) (afterFirst all)
-    is-skip = skip-at all (at .task .stands) (at .early) (at .goes-on) (sym kind ∙ k) ∙ ap (λ (x : Rec). skip (x .count) (afterFirst all)) (sym same)
+    is-skip = skip-at at (sym kind ∙ k) ∙ ap (λ (x : Rec). skip (x .count) (afterFirst all)) (sym same)
 
     pub skip-short : w + r .count < 2 ^ 32
     skip-short = omega (arith, F .within, ap (time σ) is-skip)
 
-    pub skip-written : WritesStatement (F .settings) i w (F .statement .task .block) old old (record { next = i + 1; bytes = 0; wait = w + r .count })
+    pub skip-written : WritesStatement (F .settings) i w (F .statement .file .block) old old (record { next = i + 1; bytes = 0; wait = w + r .count })
     unfolding blockBytes linearise bytes
     skip-written =
         subst (λ (b : Block). WritesStatement σ i w b old old (record { next = i + 1; bytes = 0; wait = w + r .count })) (sym is-skip)
@@ -79,7 +76,7 @@ module _ {s : List ℕ} {i to w : ℕ} {pads old : List ℕ} (F : StatementFits 
 
   module _ (k : r .kind ≡ SKIP → ⊥) where
     whole : blockBytes (firstOut σ w all) ≡ skipBytes w ++ blockBytes (firstOut σ 0 all)
-    whole = waited σ w all (at .task .stands) some (λ h. k (kind ∙ h))
+    whole = waited σ w all (at .file .stands) (some at) (λ h. k (kind ∙ h))
 
     pub skip-fits : length (skipBytes w) ≤ length old
     skip-fits = omega (arith, F .room, ap length whole, length-append (skipBytes w) (blockBytes (firstOut σ 0 all)))
@@ -98,17 +95,17 @@ module _ {s : List ℕ} {i to w : ℕ} {pads old : List ℕ} (F : StatementFits 
       -- A STATEMENT THAT OPENS A BLOCK
 
       abbrev pub inner-fits : StatementFits s i to 0 pads (lent new n)
-      inner-fits = record { settings = σ; statement = at; kept = F .kept; within = omega (arith, F .within); room = part-fits-last (p .part) }
+      inner-fits = record { settings = σ; statement = at; few = F .few; kept = F .kept; within = omega (arith, F .within); room = part-fits-last (p .part) }
 
       module _ {ys : List ℕ} {u : Written} (W : StatementWritten s i to 0 pads (lent new n) ys u) where
         pub inner-room : n + u .bytes ≤ length old
         inner-room = wrote-room (p .part) (W .right inner-fits .wrote)
 
         pub inner-written : opensBlock (r .kind) ≡ true
-            → WritesStatement (F .settings) i w (F .statement .task .block) old (back new n ys) (record { next = u .next; bytes = n + u .bytes; wait = 0 })
+            → WritesStatement (F .settings) i w (F .statement .file .block) old (back new n ys) (record { next = u .next; bytes = n + u .bytes; wait = 0 })
         inner-written o = record {
           wrote = wrote-last (p .part) (W .right inner-fits .wrote);
-          waits = opens-waits w all (at .task .stands) some (ap opensBlock (sym kind) ∙ o);
+          waits = opens-waits w all (at .file .stands) (some at) (ap opensBlock (sym kind) ∙ o);
           goes = W .right inner-fits .goes;
         }
 
@@ -116,7 +113,7 @@ module _ {s : List ℕ} {i to w : ℕ} {pads old : List ℕ} (F : StatementFits 
 
       module _ (o : opensBlock (r .kind) ≡ false) where
         is-act : IsAct (recordAt s i) all
-        is-act = act-at all (at .task .stands) (at .early) (at .goes-on) (ap opensBlock (sym kind) ∙ o) (λ h. k (kind ∙ h))
+        is-act = act-at at (ap opensBlock (sym kind) ∙ o) (λ h. k (kind ∙ h))
 
         abbrev the-act : Block
         the-act = act (is-act .act-of) (afterFirst all)
@@ -132,7 +129,7 @@ module _ {s : List ℕ} {i to w : ℕ} {pads old : List ℕ} (F : StatementFits 
         act-room = part-room act-left
 
         pub act-written : {ys : List ℕ} → ys ≡ over (recordBytes (recordOf r)) (lent new n)
-            → WritesStatement (F .settings) i w (F .statement .task .block) old (back new n ys) (record { next = i + 1; bytes = n + 12; wait = 0 })
+            → WritesStatement (F .settings) i w (F .statement .file .block) old (back new n ys) (record { next = i + 1; bytes = n + 12; wait = 0 })
         act-written {ys} h =
             subst (λ (b : Block). WritesStatement σ i w b old (back new n ys) (record { next = i + 1; bytes = n + 12; wait = 0 })) (sym (is-act .is))
             (record { wrote = wrote-last act-left (record-wrote (recordOf r) h); waits = refl; goes = refl })

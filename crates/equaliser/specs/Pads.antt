@@ -3,18 +3,22 @@ use Prim.Native.Nat.{ℕ, _+_, _-_, _≤_, _<_}
 use mathlib.Core.Path.{_≡_}
 use mathlib.Core.List.{List}
 use lib.ListN.{length, getD}
+use Rattle.model.specs.Limits.{taskRecords}
 use Rattle.model.specs.declared.Settings.{Settings}
 use Rattle.model.specs.declared.Form.the-variants.{Task}
 use Rattle.model.specs.Trees.{Block, nil, skip, act, branch, while, times}
 use Rattle.model.specs.Times.{time}
 use Rattle.reading.specs.Ranges.{Stands}
 
+abbrev pub padCount : ℕ
+padCount = 512
+
 -- what stands in the table for the first statement of b, at j: the ticks that pad each side of an IF, and the time of a WHILE's body
 abbrev pub Entry : Settings → List ℕ → ℕ → Block → Type 0
 Entry σ t j nil = Unit {0}
 Entry σ t j (skip n b) = Unit {0}
 Entry σ t j (act p b) = Unit {0}
-Entry σ t j (branch q a d b) = (getD t j 0 ≡ time σ d - time σ a) × (getD t (256 + j) 0 ≡ time σ a - time σ d)
+Entry σ t j (branch q a d b) = (getD t j 0 ≡ time σ d - time σ a) × (getD t (taskRecords + j) 0 ≡ time σ a - time σ d)
 Entry σ t j (while q n a b) = getD t j 0 ≡ time σ a
 Entry σ t j (times q n a b) = Unit {0}
 
@@ -25,7 +29,7 @@ pub record Kept (σ : Settings) (s : List ℕ) (to : ℕ) (t : List ℕ) (i j : 
 -- what is kept for the records from i up to, not including, j is unchanged
 pub record Same (i j : ℕ) (old new : List ℕ) : Type 0 where
   pub first : (k : ℕ) → i ≤ k → k < j → getD new k 0 ≡ getD old k 0
-  pub second : (k : ℕ) → i ≤ k → k < j → getD new (256 + k) 0 ≡ getD old (256 + k) 0
+  pub second : (k : ℕ) → i ≤ k → k < j → getD new (taskRecords + k) 0 ≡ getD old (taskRecords + k) 0
 
 -- the table keeps its length, and what is kept for the records before i
 pub record Below (i : ℕ) (old new : List ℕ) : Type 0 where
@@ -36,6 +40,6 @@ pub record Below (i : ℕ) (old new : List ℕ) : Type 0 where
 pub record Keeps (i x y : ℕ) (old new : List ℕ) : Type 0 where
   pub length-same : length new ≡ length old
   pub first : getD new i 0 ≡ x
-  pub second : getD new (256 + i) 0 ≡ y
+  pub second : getD new (taskRecords + i) 0 ≡ y
   pub before : Same 0 i old new
-  pub after : Same (i + 1) 256 old new
+  pub after : Same (i + 1) taskRecords old new

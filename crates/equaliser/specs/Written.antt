@@ -4,15 +4,16 @@ use mathlib.Core.Path.{_≡_}
 use mathlib.Core.List.{List, _++_}
 use lib.ListN.{length}
 use Rattle.model.specs.declared.Settings.{Settings}
+use Rattle.model.specs.declared.Form.the-variants.{Task}
 use Rattle.model.specs.Records.{Rec, recordBytes, IF, TIMES}
 use Rattle.model.specs.Trees.{Block, size, testRec, elseRec, endRec}
 use Rattle.model.specs.Times.{time}
 use Rattle.records.specs.Blocks.{blockBytes, skipBytes, Wrote}
-use Rattle.reading.specs.Ranges.{testOf, firstSize}
+use Rattle.reading.specs.Ranges.{InFile, testOf, firstSize}
+use Rattle.reading.specs.Walks.{StatementAt}
 use Rattle.equaliser.specs.declared.write.Written.{Written}
 use Rattle.equaliser.specs.Merged.{padded, firstOut, firstWaits}
 use Rattle.equaliser.specs.Pads.{Kept}
-use Rattle.equaliser.specs.Sizes.{InTask, AtStatement}
 
 -- PIECES
 
@@ -28,25 +29,27 @@ loopTail t = recordBytes elseRec ++ (skipBytes t ++ (recordBytes endRec ++ recor
 -- the block at i, with k ticks of SKIP at its end
 pub record BlockFits (s : List ℕ) (i to k : ℕ) (pads out : List ℕ) : Type 0 where
   pub settings : Settings
-  pub task : InTask s i to
+  pub file : InFile Task s i to
+  pub few : to ≤ 256
   pub kept : Kept settings s to pads 0 to
-  pub within : time settings (task .block) + k < 2 ^ 32
-  pub room : length (blockBytes (padded settings 0 (task .block) k)) ≤ length out
+  pub within : time settings (file .block) + k < 2 ^ 32
+  pub room : length (blockBytes (padded settings 0 (file .block) k)) ≤ length out
 
 pub record WritesBlock (σ : Settings) (i k : ℕ) (b : Block) (old new : List ℕ) (r : Written) : Type 0 where
   pub wrote : Wrote (blockBytes (padded σ 0 b k)) old new (r .bytes)
   pub goes : r .next ≡ i + size b
 
 pub record BlockWritten (s : List ℕ) (i to k : ℕ) (pads old new : List ℕ) (r : Written) : Type 0 where
-  pub right : (F : BlockFits s i to k pads old) → WritesBlock (F .settings) i k (F .task .block) old new r
+  pub right : (F : BlockFits s i to k pads old) → WritesBlock (F .settings) i k (F .file .block) old new r
 
 -- its first statement, after w ticks of SKIP
 pub record StatementFits (s : List ℕ) (i to w : ℕ) (pads out : List ℕ) : Type 0 where
   pub settings : Settings
-  pub statement : AtStatement s i to
+  pub statement : StatementAt Task s i to
+  pub few : to ≤ 256
   pub kept : Kept settings s to pads 0 to
-  pub within : w + time settings (statement .task .block) < 2 ^ 32
-  pub room : length (blockBytes (firstOut settings w (statement .task .block))) ≤ length out
+  pub within : w + time settings (statement .file .block) < 2 ^ 32
+  pub room : length (blockBytes (firstOut settings w (statement .file .block))) ≤ length out
 
 pub record WritesStatement (σ : Settings) (i w : ℕ) (b : Block) (old new : List ℕ) (r : Written) : Type 0 where
   pub wrote : Wrote (blockBytes (firstOut σ w b)) old new (r .bytes)
@@ -54,4 +57,4 @@ pub record WritesStatement (σ : Settings) (i w : ℕ) (b : Block) (old new : Li
   pub goes : r .next ≡ i + firstSize b
 
 pub record StatementWritten (s : List ℕ) (i to w : ℕ) (pads old new : List ℕ) (r : Written) : Type 0 where
-  pub right : (F : StatementFits s i to w pads old) → WritesStatement (F .settings) i w (F .statement .task .block) old new r
+  pub right : (F : StatementFits s i to w pads old) → WritesStatement (F .settings) i w (F .statement .file .block) old new r

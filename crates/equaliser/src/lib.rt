@@ -17,8 +17,9 @@ use model::Equalised;
 use model::Form;
 use model::Refusal;
 use model::Settings;
+use pads::PADS;
+use reading::Checked;
 use records::no_room;
-use records::settings::Decoded;
 use timing::ticks::Time;
 use write::write_block;
 
@@ -28,7 +29,7 @@ fn equalise_sound(task: &[u8], n: Settings, out: &mut [u8]) -> Equalised
     ensures { λ r. ⌜ EqualisesSound (now (task .entry)) n (now (out .entry)) (now (out .exit)) r ⌝ }
 {
     let to = task.len() / 12;
-    let mut pads: [u32; 512] = [0; 512];
+    let mut pads: [u32; PADS] = [0; PADS];
     let whole = measure_block(task, 0, to, n, &mut pads);
     let time = whole.time;
     let Time::Ticks(t) = time else {
@@ -51,7 +52,7 @@ pub fn equalise(settings: &[u8], task: &[u8], out: &mut [u8]) -> Equalised
 {
     let read = reading::read(settings, Form::Task, task);
     match read {
-        Decoded::Refused(x) => Equalised::Refused(x),
-        Decoded::Valid(n) => equalise_sound(task, n, out),
+        Checked::Refused(x) => Equalised::Refused(x),
+        Checked::Valid(n) => equalise_sound(task, n, out),
     }
 }

@@ -7,6 +7,7 @@ ghost use Rattle.records.specs.Records.{recordOf};
 ghost use Rattle.records.specs.Blocks.{skipRecords};
 ghost use Rattle.reading.specs.Closing.{opensBlock};
 ghost use Rattle.equaliser.specs.Sizes.{Small, PlainSize, BlockAsks, BlockSize, StatementAsks, StatementSize};
+use crate::pads::PADS;
 use crate::pads::keep;
 use model::Settings;
 use reading::blocks::closes;
@@ -71,7 +72,7 @@ fn measure_loop(
     r: Record,
     n: Settings,
     wait: u64,
-    pads: &mut [u32; 512],
+    pads: &mut [u32; PADS],
 ) -> Extent
     requires { ⌜ (StatementAsks (now s) i to wait (now pads)) × (recordOf r ≡ recordAt (now s) i) × (opensBlock (kindAt (now s) i) ≡ true) × (kindAt (now s) i ≡ IF → ⊥) ⌝ }
     ensures { λ e. ⌜ StatementSize (now (s .entry)) i to n wait (now (pads .entry)) (now (pads .exit)) e ⌝ }
@@ -98,7 +99,7 @@ fn measure_branch(
     to: usize,
     n: Settings,
     wait: u64,
-    pads: &mut [u32; 512],
+    pads: &mut [u32; PADS],
 ) -> Extent
     requires { ⌜ (StatementAsks (now s) i to wait (now pads)) × (kindAt (now s) i ≡ IF) ⌝ }
     ensures { λ e. ⌜ StatementSize (now (s .entry)) i to n wait (now (pads .entry)) (now (pads .exit)) e ⌝ }
@@ -132,7 +133,7 @@ fn measure_statement(
     to: usize,
     n: Settings,
     wait: u64,
-    pads: &mut [u32; 512],
+    pads: &mut [u32; PADS],
 ) -> Extent
     requires { ⌜ StatementAsks (now s) i to wait (now pads) ⌝ }
     ensures { λ e. ⌜ StatementSize (now (s .entry)) i to n wait (now (pads .entry)) (now (pads .exit)) e ⌝ }
@@ -148,7 +149,13 @@ fn measure_statement(
 }
 
 // The block at `from`, up to the record that closes it. The sum is given up once it passes the period.
-pub fn measure_block(s: &[u8], from: usize, to: usize, n: Settings, pads: &mut [u32; 512]) -> Extent
+pub fn measure_block(
+    s: &[u8],
+    from: usize,
+    to: usize,
+    n: Settings,
+    pads: &mut [u32; PADS],
+) -> Extent
     requires { ⌜ BlockAsks (now s) from to (now pads) ⌝ }
     ensures { λ e. ⌜ BlockSize (now (s .entry)) from to n (now (pads .entry)) (now (pads .exit)) e ⌝ }
 {

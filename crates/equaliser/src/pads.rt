@@ -3,13 +3,18 @@
 ghost use mathlib.Core.Path.{_≡_};
 ghost use Prim.Native.Nat.{_<_};
 ghost use lib.ListN.{length};
-ghost use Rattle.equaliser.specs.Pads.{Keeps};
+ghost use Rattle.model.specs.Limits.{taskRecords};
+ghost use Rattle.equaliser.specs.Pads.{padCount, Keeps};
+use model::limits::TASK_RECORDS;
+
+// Two places for each record of a task.
+pub const PADS: usize = 2 * TASK_RECORDS;
 
 // Both numbers of the record i, 256 places apart.
-pub fn keep(pads: &mut [u32; 512], i: usize, first: u32, second: u32)
-    requires { ⌜ (length (now pads) ≡ 512) × (i < 256) ⌝ }
+pub fn keep(pads: &mut [u32; PADS], i: usize, first: u32, second: u32)
+    requires { ⌜ (length (now pads) ≡ padCount) × (i < taskRecords) ⌝ }
     ensures { λ _. ⌜ Keeps i first second (now (pads .entry)) (now (pads .exit)) ⌝ }
 {
     pads[i] = first;
-    pads[256 + i] = second;
+    pads[TASK_RECORDS + i] = second;
 }

@@ -6,8 +6,10 @@ ghost use Rattle.model.specs.Records.{kindAt, recordAt, IF};
 ghost use Rattle.records.specs.Records.{recordOf};
 ghost use Rattle.reading.specs.Closing.{opensBlock};
 ghost use Rattle.equaliser.specs.Written.{BlockFits, BlockWritten, StatementFits, StatementWritten};
+use crate::pads::PADS;
 use crate::pieces::put_loop_head;
 use crate::pieces::put_loop_tail;
+use model::limits::TASK_RECORDS;
 use reading::blocks::closes;
 use reading::blocks::opens;
 use records::Record;
@@ -31,7 +33,7 @@ fn write_loop(
     i: usize,
     to: usize,
     r: Record,
-    pads: &[u32; 512],
+    pads: &[u32; PADS],
     out: &mut [u8],
 ) -> Written
     requires { ⌜ (StatementFits (now s) i to 0 (now pads) (now out)) × (recordOf r ≡ recordAt (now s) i) × (opensBlock (kindAt (now s) i) ≡ true) × (kindAt (now s) i ≡ IF → ⊥) ⌝ }
@@ -54,7 +56,7 @@ fn write_branch(
     i: usize,
     to: usize,
     r: Record,
-    pads: &[u32; 512],
+    pads: &[u32; PADS],
     out: &mut [u8],
 ) -> Written
     requires { ⌜ (StatementFits (now s) i to 0 (now pads) (now out)) × (recordOf r ≡ recordAt (now s) i) × (kindAt (now s) i ≡ IF) ⌝ }
@@ -69,7 +71,7 @@ fn write_branch(
         s,
         first.next + 1,
         to,
-        pads[256 + i],
+        pads[TASK_RECORDS + i],
         pads,
         &mut out[start..],
     );
@@ -88,7 +90,7 @@ fn write_inner(
     i: usize,
     to: usize,
     r: Record,
-    pads: &[u32; 512],
+    pads: &[u32; PADS],
     out: &mut [u8],
 ) -> Written
     requires { ⌜ (StatementFits (now s) i to 0 (now pads) (now out)) × (recordOf r ≡ recordAt (now s) i) × (opensBlock (kindAt (now s) i) ≡ true) ⌝ }
@@ -106,7 +108,7 @@ fn write_statement(
     i: usize,
     to: usize,
     waited: u32,
-    pads: &[u32; 512],
+    pads: &[u32; PADS],
     out: &mut [u8],
 ) -> Written
     requires { ⌜ StatementFits (now s) i to waited (now pads) (now out) ⌝ }
@@ -144,7 +146,7 @@ pub fn write_block(
     from: usize,
     to: usize,
     pad: u32,
-    pads: &[u32; 512],
+    pads: &[u32; PADS],
     out: &mut [u8],
 ) -> Written
     requires { ⌜ BlockFits (now s) from to pad (now pads) (now out) ⌝ }

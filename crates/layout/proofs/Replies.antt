@@ -21,7 +21,7 @@ use Rattle.model.specs.Replies.{turnDown, shortWindow, noRoom, layOutRows, laid
 use Rattle.model.specs.Placement.{Positive}
 use Rattle.theory.proofs.Accepted.{in-range, fits, room-left}
 use Rattle.theory.proofs.Laid.{total-longer}
-use Rattle.records.specs.declared.settings.Decoded.the-variants.{Valid, Refused}
+use Rattle.reading.specs.declared.Checked.the-variants.{Valid, Refused}
 use Rattle.records.specs.Blocks.{blockBytes, skipRecords}
 use Rattle.records.proofs.Blocks.{one-skip, length-block}
 use Rattle.reading.specs.Answers.{Reads}

@@ -3,6 +3,7 @@ use Prim.Native.Nat.{ℕ, _≤_}
 use mathlib.Core.Path.{_≡_}
 use mathlib.Core.List.{List}
 use lib.ListN.{length}
+use Rattle.model.specs.Limits.{mostTicks}
 use Rattle.model.specs.declared.Settings.{Settings}
 use Rattle.model.specs.declared.LaidOut.{LaidOut}
 use Rattle.model.specs.Records.{bytes, over}
@@ -15,8 +16,8 @@ use Rattle.model.specs.Replies.{layOutRows}
 -- settings that were read
 pub record InRange (σ : Settings) : Type 0 where
   pub positive : Positive σ
-  pub narrow : σ .window ≤ 1000000
-  pub short : σ .period ≤ 1000000
+  pub narrow : σ .window ≤ mostTicks
+  pub short : σ .period ≤ mostTicks
 
 -- rows 7 to 9, and the result
 pub record LaysOutSound (file : List ℕ) (σ : Settings) (old new : List ℕ) (r : LaidOut) : Type 0 where

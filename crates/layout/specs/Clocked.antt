@@ -11,7 +11,7 @@ use Rattle.placing.specs.declared.clock.State.{State}
 use Rattle.placing.specs.States.{Laying, Stepped, Skipped}
 use Rattle.layout.specs.Measured.{Entered, Statement}
 use Rattle.layout.specs.Meetings.{BlockMeasured, StatementMeasured}
-use Rattle.layout.specs.Lent.{loaded, placeIn, passage}
+use Rattle.layout.specs.Lent.{loaded, placeIn, passage, meetingCount}
 
 -- a step or a SKIP with the record x
 pub record StepStarts (σ : Settings) (x : Rec) (s : State) : Type 0 where
@@ -25,7 +25,7 @@ pub record StepEnds (σ : Settings) (x : Rec) (s r : State) : Type 0 where
 -- a clock of six numbers, with a place of the table or its end
 pub record Lent (c : List ℕ) : Type 0 where
   pub long : length c ≡ 6
-  pub few : placeIn c ≤ 1821
+  pub few : placeIn c ≤ meetingCount
 
 pub record BlockLent (s : List ℕ) (i to : ℕ) (t c : List ℕ) : Type 0 where
   pub entered : Entered s i to (settingsIn t) (loaded c)

@@ -13,7 +13,7 @@ use Rattle.model.specs.Placement.{Fits}
 use Rattle.theory.proofs.Windows.{Free}
 use Rattle.reading.specs.Ranges.{Stands, testOf}
 use Rattle.placing.specs.declared.clock.State.{State}
-use Rattle.placing.specs.States.{Laying, After}
+use Rattle.placing.specs.States.{Laying, After, tooMany}
 use Rattle.placing.specs.Placed.{Room, Lays}
 use Rattle.layout.specs.declared.skips.Idle.{Idle}
 
@@ -54,7 +54,7 @@ checkRec x = actRec (check (testOf x))
 pub record IdleEnds (σ : Settings) (k : ℕ) (s r : State) : Type 0 where
   pub late : (q : Test) → σ .period < s .tick + time σ (checked σ k q (s .tick)) → σ .period < r .tick
   pub after : (q : Test) → s .tick + time σ (checked σ k q (s .tick)) ≤ σ .period → After σ (checked σ k q (s .tick)) s r
-  pub few : r .records ≤ 5462
+  pub few : r .records ≤ tooMany
 
 -- what writing them asks for, with the CHECK of the loop that has the record x, and what it leaves
 pub record IdleFits (σ : Settings) (k : ℕ) (x : Rec) (s : State) (out : List ℕ) : Type 0 where

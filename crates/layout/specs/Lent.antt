@@ -6,6 +6,10 @@ use lib.ListN.{length, getD}
 use Rattle.placing.specs.declared.clock.State.{State}
 use Rattle.layout.specs.declared.measure.Passage.{Passage}
 
+-- the places of the table of meetings
+abbrev pub meetingCount : ℕ
+meetingCount = 1821
+
 abbrev pub loaded : List ℕ → State
 loaded c = record { tick = getD c 0 0; left = getD c 1 0; windows = getD c 2 0; wait = getD c 3 0; records = getD c 4 0 }
 
@@ -24,4 +28,4 @@ pub record Stored (s : State) (old new : List ℕ) : Type 0 where
 pub record Placed (old new : List ℕ) : Type 0 where
   pub long : length new ≡ 6
   pub same : loaded new ≡ loaded old
-  pub next : placeIn new ≡ min (placeIn old + 1) 1821
+  pub next : placeIn new ≡ min (placeIn old + 1) meetingCount

@@ -2,8 +2,8 @@
 pub mod Ranges
 pub mod Idling
 pub mod Measured
-pub mod Meetings
 pub mod Lent
+pub mod Meetings
 pub mod Clocked
 pub mod Written
 pub mod Answers

@@ -13,6 +13,7 @@ use Rattle.placing.specs.declared.clock.State.{State}
 use Rattle.layout.specs.declared.measure.Passage.{Passage}
 use Rattle.layout.specs.Ranges.{only}
 use Rattle.layout.specs.Measured.{laid, BlockPassed, StatementPassed, FilePassed}
+use Rattle.layout.specs.Lent.{meetingCount}
 
 -- of a laid block from tick t on: the meeting of an IF, those of its first side, of its second, and of what follows
 abbrev pub meetings : Settings → Block → ℕ → List ℕ
@@ -28,23 +29,23 @@ meetings σ (times q n a b) t = meetings σ b (t + (n * time σ a + 1))
 -- a tick is noted at k, if the table has that place, and the others are unchanged
 pub record Noting (k tick : ℕ) (old new : List ℕ) : Type 0 where
   pub same : length new ≡ length old
-  pub there : k < 1821 → k < length old → getD new k 0 ≡ tick
+  pub there : k < meetingCount → k < length old → getD new k 0 ≡ tick
   pub others : (j : ℕ) → (j ≡ k → ⊥) → getD new j 0 ≡ getD old j 0
 
 -- the table from k on holds ms, as far as it goes, and below k it is unchanged
 pub record Notes (ms : List ℕ) (k : ℕ) (old new : List ℕ) : Type 0 where
   pub same : length new ≡ length old
   pub kept : (j : ℕ) → j < k → getD new j 0 ≡ getD old j 0
-  pub noted : (j : ℕ) → j < length ms → k + j < 1821 → k + j < length old → getD new (k + j) 0 ≡ getD ms j 0
+  pub noted : (j : ℕ) → j < length ms → k + j < meetingCount → k + j < length old → getD new (k + j) 0 ≡ getD ms j 0
 
 -- c is laid from tick t on, and its meetings are noted from k on; the next place is n, or the table is full
 pub record Noted (σ : Settings) (c : Block) (t k n : ℕ) (old new : List ℕ) : Type 0 where
-  pub next : n ≡ min (k + length (meetings σ c t)) 1821
+  pub next : n ≡ min (k + length (meetings σ c t)) meetingCount
   pub notes : Notes (meetings σ c t) k old new
 
 -- the table from k on holds ms
 pub record Holds (ms : List ℕ) (k : ℕ) (table : List ℕ) : Type 0 where
-  pub room : k + length ms ≤ 1821
+  pub room : k + length ms ≤ meetingCount
   pub there : (j : ℕ) → j < length ms → getD table (k + j) 0 ≡ getD ms j 0
 
 -- what measuring answers and notes for a block and for a statement of the file, if it ends in time
@@ -60,5 +61,5 @@ pub record StatementMeasured (s : List ℕ) (i to : ℕ) (σ : Settings) (at : S
 -- and for the whole file: its meetings, if the table has room for all
 pub record FileMeasured (s : List ℕ) (σ : Settings) (old new : List ℕ) (r : State) : Type 0 where
   pub passed : FilePassed s σ r
-  pub noted : length old ≡ 1821 → time σ (opened σ (unroll (fileTree s))) ≤ σ .period → length (meetings σ (opened σ (unroll (fileTree s))) 0) ≤ 1821
+  pub noted : length old ≡ meetingCount → time σ (opened σ (unroll (fileTree s))) ≤ σ .period → length (meetings σ (opened σ (unroll (fileTree s))) 0) ≤ meetingCount
       → Holds (meetings σ (opened σ (unroll (fileTree s))) 0) 0 new

@@ -20,6 +20,7 @@ use Rattle.placing.specs.Placed.{Room, Lays, Closed}
 use Rattle.layout.specs.Ranges.{only}
 use Rattle.layout.specs.Measured.{laid, Entered, Statement}
 use Rattle.layout.specs.Meetings.{meetings, Holds}
+use Rattle.model.specs.Limits.{fileRecords}
 
 -- the block or statement that is laid as c next, and that ends in time
 pub record LaidFits (σ : Settings) (c : Block) (s : State) (out : List ℕ) : Type 0 where
@@ -45,7 +46,7 @@ pub record SideFits (s : List ℕ) (i to : ℕ) (σ : Settings) (at : State) (e 
   pub reaches : at .tick + time σ (laid σ (entered .file .block) (at .tick)) ≤ e
   pub upto : e ≤ σ .period
   pub free : Free σ 1 e
-  pub few : at .records + size (merge (at .wait) (filled σ (at .tick) (laid σ (entered .file .block) (at .tick)) e)) ≤ 5461
+  pub few : at .records + size (merge (at .wait) (filled σ (at .tick) (laid σ (entered .file .block) (at .tick)) e)) ≤ fileRecords
   pub room : length (sideBytes σ at (entered .file .block) e x) ≤ length out
   pub holds : Holds (meetings σ (laid σ (entered .file .block) (at .tick)) (at .tick)) k table
 
@@ -77,6 +78,6 @@ pub record FileFits (s : List ℕ) (σ : Settings) (table out : List ℕ) : Type
   pub sound : SoundFile Equalised s
   pub settings : Layable σ
   pub in-time : total σ (fileTree s) ≤ σ .period
-  pub few : size (layout σ (fileTree s)) ≤ 5461
+  pub few : size (layout σ (fileTree s)) ≤ fileRecords
   pub room : length (blockBytes (layout σ (fileTree s))) ≤ length out
   pub holds : Holds (meetings σ (opened σ (unroll (fileTree s))) 0) 0 table

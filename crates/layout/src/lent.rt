@@ -2,8 +2,14 @@
 ghost use mathlib.Core.Path.{_≡_};
 ghost use Prim.Native.Nat.{_+_, _≤_};
 ghost use lib.ListN.{length};
-ghost use Rattle.layout.specs.Lent.{loaded, placeIn, Stored, Placed};
+ghost use Rattle.placing.specs.States.{tooMany};
+ghost use Rattle.layout.specs.Lent.{meetingCount, loaded, placeIn, Stored, Placed};
 use placing::clock::State;
+
+// The places of the table of meetings: an IF is laid as at least three records, so a file has fewer.
+pub const MEETINGS: usize = 1821;
+
+const PLACES: u32 = MEETINGS as u32;
 
 fn wide(x: u32) -> usize
     ensures { λ r. ⌜ r ≡ x ⌝ }
@@ -25,7 +31,7 @@ pub fn load(clock: &[u32; 6]) -> State
 }
 
 pub fn store(clock: &mut [u32; 6], s: State)
-    requires { ⌜ (length (now clock) ≡ 6) × (s .records ≤ 5462) ⌝ }
+    requires { ⌜ (length (now clock) ≡ 6) × (s .records ≤ tooMany) ⌝ }
     ensures { λ _. ⌜ Stored s (now (clock .entry)) (now (clock .exit)) ⌝ }
 {
     clock[0] = s.tick;
@@ -37,11 +43,11 @@ pub fn store(clock: &mut [u32; 6], s: State)
 
 // The next place of the table of meetings, taken. Past the last there is none: a result with so many IFs is too long to be written.
 pub fn place(clock: &mut [u32; 6]) -> usize
-    requires { ⌜ (length (now clock) ≡ 6) × (placeIn (now clock) ≤ 1821) ⌝ }
+    requires { ⌜ (length (now clock) ≡ 6) × (placeIn (now clock) ≤ meetingCount) ⌝ }
     ensures { λ r. ⌜ (r ≡ placeIn (now (clock .entry))) × (Placed (now (clock .entry)) (now (clock .exit))) ⌝ }
 {
     let k = clock[5];
-    if k < 1821 {
+    if k < PLACES {
         clock[5] = k + 1;
         return wide(k);
     }

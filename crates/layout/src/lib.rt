@@ -12,13 +12,14 @@ ghost use Rattle.model.specs.Times.{longest};
 ghost use Rattle.model.specs.Replies.{shortWindow, layOutReply, layOutOut};
 ghost use Rattle.reading.specs.Ranges.{SoundFile};
 ghost use Rattle.layout.specs.Answers.{InRange, LaysOutSound};
+use lent::MEETINGS;
 use measure::measure_file;
 use model::Form;
 use model::LaidOut;
 use model::Refusal;
 use model::Settings;
+use reading::Checked;
 use records::no_room;
-use records::settings::Decoded;
 use records::skips::skip_records;
 use timing::ticks::later;
 use timing::ticks::ticks_of;
@@ -47,7 +48,7 @@ fn lay_out_sound(file: &[u8], n: Settings, out: &mut [u8]) -> LaidOut
         return LaidOut::Refused(Refusal::ShortWindow);
     }
     let t = ticks_of(n);
-    let mut meets: [u32; 1821] = [0; 1821];
+    let mut meets: [u32; MEETINGS] = [0; MEETINGS];
     let end = measure_file(file, &t, &mut meets);
     let total = end.tick as u64 + end.left as u64 + n.beat as u64;
     if (n.period as u64) < total {
@@ -71,7 +72,7 @@ pub fn lay_out(settings: &[u8], equalised: &[u8], out: &mut [u8]) -> LaidOut
 {
     let read = reading::read(settings, Form::Equalised, equalised);
     match read {
-        Decoded::Refused(x) => LaidOut::Refused(x),
-        Decoded::Valid(n) => lay_out_sound(equalised, n, out),
+        Checked::Refused(x) => LaidOut::Refused(x),
+        Checked::Valid(n) => lay_out_sound(equalised, n, out),
     }
 }

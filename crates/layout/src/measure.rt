@@ -13,6 +13,7 @@ ghost use Rattle.layout.specs.Measured.{metAt, Meeting, Meets};
 ghost use Rattle.layout.specs.Meetings.{Noting, FileMeasured};
 ghost use Rattle.timing.specs.Times.{settingsIn};
 ghost use Rattle.layout.specs.Clocked.{StepStarts, StepEnds, BlockLent, StatementLent, BlockClocked, StatementClocked};
+use crate::lent::MEETINGS;
 use crate::lent::load;
 use crate::lent::place;
 use crate::lent::store;
@@ -73,10 +74,10 @@ fn meet(n: Settings, one: State, two: State) -> State
 }
 
 // The tick where the sides of an IF meet, noted at its place, if the table has that.
-fn note(meets: &mut [u32; 1821], k: usize, tick: u32)
+fn note(meets: &mut [u32; MEETINGS], k: usize, tick: u32)
     ensures { λ _. ⌜ Noting k tick (now (meets .entry)) (now (meets .exit)) ⌝ }
 {
-    if k < 1821 {
+    if k < MEETINGS {
         meets[k] = tick;
     }
 }
@@ -107,7 +108,7 @@ fn measure_side(
     to: usize,
     t: &[u32; 16],
     clock: &mut [u32; 6],
-    meets: &mut [u32; 1821],
+    meets: &mut [u32; MEETINGS],
 ) -> usize
     requires { ⌜ (BlockLent (now s) i to (now t) (now clock)) × (i < to) ⌝ }
     ensures { λ r. ⌜ BlockClocked (now (s .entry)) i to (now (t .entry)) (now (clock .entry)) (now (clock .exit)) (now (meets .entry)) (now (meets .exit)) r ⌝ }
@@ -125,7 +126,7 @@ fn measure_branch(
     to: usize,
     t: &[u32; 16],
     clock: &mut [u32; 6],
-    meets: &mut [u32; 1821],
+    meets: &mut [u32; MEETINGS],
 ) -> usize
     requires { ⌜ (StatementLent (now s) i to (now t) (now clock)) × (kindAt (now s) i ≡ IF) ⌝ }
     ensures { λ r. ⌜ StatementClocked (now (s .entry)) i to (now (t .entry)) (now (clock .entry)) (now (clock .exit)) (now (meets .entry)) (now (meets .exit)) r ⌝ }
@@ -162,7 +163,7 @@ fn measure_rounds(
     count: u32,
     t: &[u32; 16],
     clock: &mut [u32; 6],
-    meets: &mut [u32; 1821],
+    meets: &mut [u32; MEETINGS],
 ) -> usize
     requires { ⌜ (StatementLent (now s) i to (now t) (now clock)) × (kindAt (now s) i ≡ TIMES) × (count ≡ recordAt (now s) i .count) ⌝ }
     ensures { λ r. ⌜ StatementClocked (now (s .entry)) i to (now (t .entry)) (now (clock .entry)) (now (clock .exit)) (now (meets .entry)) (now (meets .exit)) r ⌝ }
@@ -189,7 +190,7 @@ fn measure_inner(
     to: usize,
     t: &[u32; 16],
     clock: &mut [u32; 6],
-    meets: &mut [u32; 1821],
+    meets: &mut [u32; MEETINGS],
 ) -> usize
     requires { ⌜ (StatementLent (now s) i to (now t) (now clock)) × ((eqb (kindAt (now s) i) IF || eqb (kindAt (now s) i) TIMES) ≡ true) ⌝ }
     ensures { λ r. ⌜ StatementClocked (now (s .entry)) i to (now (t .entry)) (now (clock .entry)) (now (clock .exit)) (now (meets .entry)) (now (meets .exit)) r ⌝ }
@@ -213,7 +214,7 @@ fn measure_block(
     to: usize,
     t: &[u32; 16],
     clock: &mut [u32; 6],
-    meets: &mut [u32; 1821],
+    meets: &mut [u32; MEETINGS],
 ) -> usize
     requires { ⌜ BlockLent (now s) from to (now t) (now clock) ⌝ }
     ensures { λ r. ⌜ BlockClocked (now (s .entry)) from to (now (t .entry)) (now (clock .entry)) (now (clock .exit)) (now (meets .entry)) (now (meets .exit)) r ⌝ }
@@ -247,7 +248,7 @@ fn measure_block(
 }
 
 // The whole file, from tick 0 up to its last step.
-pub fn measure_file(s: &[u8], t: &[u32; 16], meets: &mut [u32; 1821]) -> State
+pub fn measure_file(s: &[u8], t: &[u32; 16], meets: &mut [u32; MEETINGS]) -> State
     requires { ⌜ (SoundFile Equalised (now s)) × (Layable (settingsIn (now t))) ⌝ }
     ensures { λ r. ⌜ FileMeasured (now (s .entry)) (settingsIn (now (t .entry))) (now (meets .entry)) (now (meets .exit)) r ⌝ }
 {

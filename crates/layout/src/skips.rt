@@ -1,6 +1,7 @@
 // Loops whose bodies have SKIPs alone: all their rounds are one SKIP.
 ghost use mathlib.Core.Path.{_≡_};
 ghost use Prim.Native.Nat.{_+_, _≤_, _<_, min};
+ghost use Rattle.model.specs.Limits.{mostTicks};
 ghost use Rattle.placing.specs.States.{Laying};
 ghost use Rattle.reading.specs.Ranges.{Ranged};
 ghost use Rattle.records.specs.Records.{recordOf};
@@ -29,7 +30,7 @@ pub struct Idle {
 
 // So many ticks, or one more than the period.
 fn capped(period: u32, ticks: u64) -> u32
-    requires { ⌜ period ≤ 1000000 ⌝ }
+    requires { ⌜ period ≤ mostTicks ⌝ }
     ensures { λ r. ⌜ r ≡ min ticks (period + 1) ⌝ }
 {
     if (period as u64) < ticks {
@@ -40,7 +41,7 @@ fn capped(period: u32, ticks: u64) -> u32
 
 // The rounds of a loop whose body starts at i.
 pub fn idle_rounds(s: &[u8], i: usize, to: usize, count: u32, period: u32) -> Idle
-    requires { ⌜ (Ranged (now s) i to) × (period ≤ 1000000) ⌝ }
+    requires { ⌜ (Ranged (now s) i to) × (period ≤ mostTicks) ⌝ }
     ensures { λ r. ⌜ AllIdle (now (s .entry)) i to count period r ⌝ }
 {
     let mut ticks: u32 = 0;
@@ -66,7 +67,7 @@ pub fn idle_rounds(s: &[u8], i: usize, to: usize, count: u32, period: u32) -> Id
 
 // The statement at i with the record r: a SKIP, or such a loop, and the index of the record after it.
 pub fn idle_at(s: &[u8], i: usize, to: usize, r: Record, period: u32) -> Idle
-    requires { ⌜ (Ranged (now s) i to) × (i < to) × (period ≤ 1000000) ⌝ }
+    requires { ⌜ (Ranged (now s) i to) × (i < to) × (period ≤ mostTicks) ⌝ }
     ensures { λ x. ⌜ IdleAt (now (s .entry)) i to (recordOf r) period x ⌝ }
 {
     if r.kind == kinds::SKIP {

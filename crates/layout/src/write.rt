@@ -6,6 +6,7 @@ ghost use Rattle.model.specs.Layout.{layout};
 ghost use Rattle.records.specs.Records.{recordOf};
 ghost use Rattle.records.specs.Blocks.{blockBytes};
 ghost use Rattle.layout.specs.Written.{BlockFits, BlockLaid, SideFits, SideLaid, StatementFits, StatementLaid, FileFits};
+use crate::lent::MEETINGS;
 use crate::measure::Passage;
 use crate::skips::check_of;
 use crate::skips::idle_at;
@@ -37,7 +38,7 @@ fn write_side(
     end: u32,
     kind: u8,
     ifs: usize,
-    meets: &[u32; 1821],
+    meets: &[u32; MEETINGS],
     out: &mut [u8],
 ) -> Passage
     requires { ⌜ SideFits (now s) i to n start end (rec kind 0 0 0 0 0) ifs (now meets) (now out) ⌝ }
@@ -62,7 +63,7 @@ fn write_branch(
     n: Settings,
     from: State,
     ifs: usize,
-    meets: &[u32; 1821],
+    meets: &[u32; MEETINGS],
     out: &mut [u8],
 ) -> Passage
     requires { ⌜ (StatementFits (now s) i to n from ifs (now meets) (now out)) × (recordOf r ≡ recordAt (now s) i) × (kindAt (now s) i ≡ IF) ⌝ }
@@ -114,7 +115,7 @@ fn write_rounds(
     n: Settings,
     from: State,
     ifs: usize,
-    meets: &[u32; 1821],
+    meets: &[u32; MEETINGS],
     out: &mut [u8],
 ) -> Passage
     requires { ⌜ (StatementFits (now s) i to n from ifs (now meets) (now out)) × (recordOf r ≡ recordAt (now s) i) × (kindAt (now s) i ≡ TIMES) ⌝ }
@@ -151,7 +152,7 @@ fn write_statement(
     n: Settings,
     from: State,
     ifs: usize,
-    meets: &[u32; 1821],
+    meets: &[u32; MEETINGS],
     out: &mut [u8],
 ) -> Passage
     requires { ⌜ StatementFits (now s) i to n from ifs (now meets) (now out) ⌝ }
@@ -183,7 +184,7 @@ pub fn write_block(
     n: Settings,
     at: State,
     ifs: usize,
-    meets: &[u32; 1821],
+    meets: &[u32; MEETINGS],
     out: &mut [u8],
 ) -> Passage
     requires { ⌜ BlockFits (now s) from to n at ifs (now meets) (now out) ⌝ }
@@ -214,7 +215,7 @@ pub fn write_block(
 }
 
 // The whole laid file.
-pub fn write_file(s: &[u8], n: Settings, meets: &[u32; 1821], out: &mut [u8])
+pub fn write_file(s: &[u8], n: Settings, meets: &[u32; MEETINGS], out: &mut [u8])
     requires { ⌜ FileFits (now s) n (now meets) (now out) ⌝ }
     ensures { λ _. ⌜ now (out .exit) ≡ over (blockBytes (layout n (fileTree (now (s .entry))))) (now (out .entry)) ⌝ }
 {

@@ -8,6 +8,8 @@ ghost use Rattle.model.specs.Limits.{fileLength};
 ghost use Rattle.model.specs.Replies.{prepareReply, prepareOut};
 ghost use Rattle.model.specs.Listing.{listStarts};
 use model::LaidOut;
+use model::limits::FILE_LENGTH;
+use model::limits::FILE_RECORDS;
 use preparation::prepare;
 use records::settings::Decoded;
 use starts::start_block;
@@ -16,8 +18,8 @@ use starts::start_block;
 pub fn list_task(
     settings: &[u8],
     task: &[u8],
-    laid: &mut [u8; 65532],
-    starts: &mut [u32; 5461],
+    laid: &mut [u8; FILE_LENGTH],
+    starts: &mut [u32; FILE_RECORDS],
 ) -> LaidOut
     ensures { λ r. ⌜ (laidOut r ≡ prepareReply (now (settings .entry)) (now (task .entry)) fileLength)
         × (now (laid .exit) ≡ prepareOut (now (settings .entry)) (now (task .entry)) (now (laid .entry)))

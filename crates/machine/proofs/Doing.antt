@@ -3,13 +3,14 @@ use Prim.Native.Nat.{ℕ, zero, suc, _+_, _-_, _≤_, _<_}
 use native.Mathlib.Omega.{arith}
 use native.Mathlib.Nat.{add-zero, add-assoc}
 use mathlib.Core.Path.{_≡_, refl, ap, sym, subst, _∙_}
-use mathlib.Core.Bool.{Bool, true, false, cond, _||_, or-false, or-assoc, false≢true}
+use mathlib.Core.Bool.{Bool, true, false, cond, _||_, or-false, or-assoc}
 use mathlib.Core.List.{List, [], _∷_, _++_, append-nil}
 use lib.Dec.{leb, ltb}
 use borrow.Author.Tests.{leb-true, leb-false, le-leb, lt-leb, le-ltb, lt-ltb, ltb-true, ltb-false}
 use Rattle.model.specs.Trees.{Test}
 use Rattle.model.specs.Runs.{nothing, isOverrun, Step, step, duration, variablesAfter, outputsAfter, level, mark, overran, holds, Run, _⊳_, choose, spin, rounds}
 use Rattle.model.specs.Stopping.{upto, lastImage}
+use Rattle.theory.proofs.Accepted.{neither}
 use Rattle.stepping.specs.Machines.{Held, affect, Machine, machine, acted, cutOff, turn, does, runs}
 
 -- both sides less the same
@@ -19,11 +20,6 @@ ltb-less c d n l = go (ltb (c - d) n) refl
     go : (o : Bool) → ltb (c - d) n ≡ o → ltb c (d + n) ≡ o
     go true k = lt-ltb c (d + n) (omega (arith, ltb-true (c - d) n k))
     go false k = le-ltb c (d + n) (omega (arith, ltb-false (c - d) n k))
-
--- neither of two tests holds
-pub neither : (a b : Bool) → (a || b) ≡ false → (a ≡ false) × (b ≡ false)
-neither true b e = absurd (false≢true (sym e))
-neither false b e = (refl, e)
 
 -- rounds of nothing
 pub rounds-nothing : (n : ℕ) (v : List ℕ) → rounds n (λ w. []) v ≡ []

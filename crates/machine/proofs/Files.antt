@@ -5,26 +5,20 @@ use mathlib.Core.Path.{_≡_}
 use mathlib.Core.List.{List}
 use lib.ListN.{length}
 use Rattle.model.specs.declared.Form.{Form}
-use Rattle.model.specs.declared.Form.the-variants.{Task, Equalised, Laid}
-use Rattle.model.specs.Refusals.{maxRecords}
 use Rattle.model.specs.Trees.{size, fileTree}
 use Rattle.model.proofs.Sound.{Sound, sound-file}
 use Rattle.reading.specs.Closing.{Closings}
 use Rattle.reading.specs.Ranges.{SoundFile, Fillable}
-use Rattle.reading.proofs.Standing.{stands-file}
+use Rattle.reading.proofs.Scanning.{most-records}
+use Rattle.reading.proofs.Walking.{whole-file}
 use Rattle.machine.specs.Contracts.{extent, Started, Begun}
-
-most : (f : Form) → maxRecords f ≤ 5461
-most Task = omega arith
-most Equalised = omega arith
-most Laid = omega arith
 
 module _ {f : Form} {s : List ℕ} (S : SoundFile f s) where
   pub file-sound : Sound f s (fileTree s)
   file-sound = sound-file f s (S .sound)
 
   pub file-few : extent s ≤ 5461
-  file-few = omega (arith, file-sound .whole-records, file-sound .few, most f)
+  file-few = omega (arith, file-sound .whole-records, file-sound .few, most-records f)
 
   pub file-size : size (fileTree s) ≡ extent s
   file-size = omega (arith, file-sound .whole-records)
@@ -33,7 +27,7 @@ module _ {s : List ℕ} {i : ℕ} {ins w : List ℕ} {limit t : ℕ} (S : Starte
   pub table-fills : {ends : List ℕ} → extent s < length ends → Fillable s (extent s) ends
   table-fills k = record {
     form = S .form;
-    file = record { block = fileTree s; stands = stands-file (S .form) s (S .sound); inside = omega arith };
+    file = whole-file (S .sound);
     ends = file-size (S .sound);
     few = file-few (S .sound);
     room = k;
@@ -43,8 +37,5 @@ module _ {s : List ℕ} {i : ℕ} {ins w : List ℕ} {limit t : ℕ} (S : Starte
   started-begun T = record {
     given = record { few = file-few (S .sound); table = T; lent = S .lent; early = S .early };
     form = S .form;
-    block = S .block;
-    pending = S .pending;
-    stands = S .stands;
-    follows = S .follows;
+    chain = S .chain;
   }

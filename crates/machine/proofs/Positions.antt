@@ -18,8 +18,9 @@ use Rattle.model.proofs.Trees.{⧺-assoc}
 use Rattle.theory.proofs.Times.{time-⧺}
 use Rattle.theory.proofs.Left.{rest-0}
 use Rattle.reading.specs.Ranges.{Stands}
-use Rattle.machine.specs.Contracts.{extent, Pending}
-use Rattle.machine.proofs.Sides.{pending-at, standing-last, stands-one, stands-two, stands-past, second-at, side-pending}
+use Rattle.reading.proofs.Standing.{stands-last, stands-one, stands-two}
+use Rattle.machine.specs.Contracts.{extent, Pending, Chain}
+use Rattle.machine.proofs.Sides.{pending-at, stands-past, second-at, side-pending}
 
 -- WHAT IS LEFT AT A RECORD OF AN IF
 
@@ -65,11 +66,8 @@ joined (b ∷ bs) = b ⧺ joined bs
 
 -- at the record j stands a block, and it and those behind it are c
 pub record Position (f : Form) (s : List ℕ) (to j : ℕ) (c : Block) : Type 0 where
-  pub block : Block
-  pub pending : List Block
-  pub stands : Stands f s j (extent s) block
-  pub follows : Pending f s to (j + size block) pending
-  pub is : block ⧺ joined pending ≡ c
+  pub chain : Chain f s j to
+  pub is : chain .file .block ⧺ joined (chain .pending) ≡ c
 
 module _ {f : Form} {s : List ℕ} {to i j : ℕ} where
   -- at its first record, the whole block
@@ -77,10 +75,11 @@ module _ {f : Form} {s : List ℕ} {to i j : ℕ} where
   whole b bs B p e =
       let z : j - i ≡ 0 = omega arith in
       record {
-        block = b;
-        pending = bs;
-        stands = subst (λ (k : ℕ). Stands f s k (extent s) b) e B;
-        follows = pending-at (omega arith) p;
+        chain = record {
+          file = record { block = b; stands = subst (λ (k : ℕ). Stands f s k (extent s) b) e B; inside = omega arith };
+          pending = bs;
+          follows = pending-at (omega arith) p;
+        };
         is = ap (λ (x : Block). x ⧺ joined bs) (sym (ap (rest b) z ∙ rest-0 b));
       }
 
@@ -96,7 +95,7 @@ module _ {f : Form} {s : List ℕ} {to i j : ℕ} where
           let h : i + 1 ≤ j = omega (arith, leb-false j i e) in
           let k : j - i ≡ suc (j - (i + 1)) = omega arith in
           subst (λ (x : Block). Position f s to j (x ⧺ joined bs)) (sym (ap (rest c) k ∙ r (j - (i + 1))))
-          (next (standing-last (i + 1) b C at o (omega arith)) (pending-at (omega arith) p) h)
+          (next (stands-last (i + 1) b C at o (omega arith)) (pending-at (omega arith) p) h)
 
   in-branch : (q : Test) (a d b : Block) (bs : List Block) → Stands f s i (extent s) (branch q a d b) → Pending f s to (i + size (branch q a d b)) bs
       → (i + 1 ≤ j → j ≤ i + 1 + size a → Pending f s to (i + 1 + size a) (b ∷ bs) → Position f s to j (rest a (j - (i + 1)) ⧺ (b ⧺ joined bs)))

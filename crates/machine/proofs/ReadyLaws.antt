@@ -3,18 +3,17 @@ use Prim.Native.Nat.{ℕ, _/_, _≤_}
 use native.Mathlib.Omega.{arith}
 use mathlib.Core.Path.{_≡_, refl, sym, subst, _∙_}
 use mathlib.Core.Bool.{Bool, true, false}
-use mathlib.Core.List.{List, [], _∷_}
-use lib.Dec.{ltb}
+use mathlib.Core.List.{List}
 use lib.ListN.{length}
-use borrow.Author.Tests.{ltb-false}
+use borrow.Author.Tests.{lt-ltb, le-ltb}
 use Rattle.model.specs.declared.Form.{Form}
 use Rattle.model.specs.declared.Settings.{Settings}
 use Rattle.model.specs.declared.Refusal.{Refusal}
 use Rattle.model.specs.Settings.{settingsOf}
 use Rattle.model.specs.Trees.{fileTree}
 use Rattle.model.specs.Times.{time}
-use Rattle.model.specs.Answers.{Verdict, finished, refusal}
-use Rattle.model.specs.Replies.{turnDown, reading, above, fileTime, readyRows}
+use Rattle.model.specs.Answers.{Verdict, refusal}
+use Rattle.model.specs.Replies.{reading, above, fileTime, readyRows}
 use Rattle.model.proofs.Sound.{sound-file}
 use Rattle.theory.proofs.Accepted.{in-range}
 use Rattle.records.specs.declared.settings.Decoded.{Decoded}
@@ -24,27 +23,13 @@ use Rattle.reading.proofs.Filled.{fills-file}
 use Rattle.reading.proofs.Entry.{read-sound, read-settings}
 use Rattle.timing.specs.declared.ticks.Time.{Time}
 use Rattle.timing.specs.declared.ticks.Time.the-variants.{Ticks, OverPeriod}
-use Rattle.timing.specs.Times.{Gives, answered}
+use Rattle.timing.specs.Times.{Gives}
 use Rattle.timing.specs.Blocks.{BlockTimes}
+use Rattle.timing.proofs.Given.{was-over, was-ticks}
 use Rattle.machine.specs.Calls.{Readies}
 
 none : {A : Type 0} (x : Refusal) (σ : Settings) → Refused x ≡ Valid σ → A
 none x σ e = let z : _≡_ {A = ℕ} 0 1 = cc in absurd (omega arith)
-
--- what the time of the records tells of row 8
-late : (p t : ℕ) → Gives p t OverPeriod → ltb p t ≡ true
-late p t G = go (ltb p t) refl (G .reply)
-  where
-    go : (o : Bool) → ltb p t ≡ o → answered OverPeriod ≡ turnDown 8 o (finished (t ∷ [])) → ltb p t ≡ true
-    go true h e = h
-    go false h e = let z : _≡_ {A = ℕ} 0 1 = cc in absurd (omega arith)
-
-early : (p t x : ℕ) → Gives p t (Ticks x) → ltb p t ≡ false
-early p t x G = go (ltb p t) refl (G .reply)
-  where
-    go : (o : Bool) → ltb p t ≡ o → answered (Ticks x) ≡ turnDown 8 o (finished (t ∷ [])) → ltb p t ≡ false
-    go true h e = let z : _≡_ {A = ℕ} 0 1 = cc in absurd (omega arith)
-    go false h e = h
 
 module _ (s : List ℕ) (f : Form) (file : List ℕ) (bad : Bool) where
   abbrev rows : Verdict → Verdict
@@ -76,11 +61,15 @@ module _ (s : List ℕ) (f : Form) (file : List ℕ) (bad : Bool) where
     pub over-period : BlockTimes file 0 (length file / 12) 16 σ OverPeriod → Readies s f file bad (Refused Refusal.OverPeriod)
     over-period B =
         refused Refusal.OverPeriod
-        (λ next. sym (rw (late (settingsOf s .period) (fileTime s file) (gives B))) ∙ R .reply (rows next))
+        (λ next. sym (rw (lt-ltb (settingsOf s .period) (fileTime s file) (was-over (settingsOf s .period) (fileTime s file) (gives B)))) ∙ R .reply (rows next))
 
     module _ {x : ℕ} (B : BlockTimes file 0 (length file / 12) 16 σ (Ticks x)) where
+      in-time : fileTime s file ≤ settingsOf s .period
+      in-time = omega (arith, was-ticks (settingsOf s .period) (fileTime s file) x (gives B))
+
+      -- row 8
       on-time : above (settingsOf s) (fileTime s file) ≡ false
-      on-time = early (settingsOf s .period) (fileTime s file) x (gives B)
+      on-time = le-ltb (settingsOf s .period) (fileTime s file) in-time
 
       pub bad-lengths : bad ≡ true → Readies s f file bad (Refused Refusal.BadBuffers)
       bad-lengths h = refused Refusal.BadBuffers (λ next. sym (rw (on-time, h)) ∙ R .reply (rows next))
@@ -90,7 +79,7 @@ module _ (s : List ℕ) (f : Form) (file : List ℕ) (bad : Bool) where
         reply = λ next. sym (rw (on-time, h)) ∙ R .reply (rows next);
         settings = R .settings;
         sound = λ τ k. record { sound = read-sound s f file σ R };
-        in-time = λ τ k. subst (λ (ν : Settings). time ν (fileTree file) ≤ ν .period) (sym (R .settings τ k)) (ltb-false (settingsOf s .period) (fileTime s file) on-time);
+        in-time = λ τ k. subst (λ (ν : Settings). time ν (fileTree file) ≤ ν .period) (sym (R .settings τ k)) in-time;
         short = λ τ k. subst (λ (ν : Settings). ν .period ≤ 1000000) (sym (R .settings τ k)) (in-range s (read-settings s f file σ R) .short);
         good = λ τ k. h;
       }

@@ -18,13 +18,13 @@ use Rattle.model.specs.Stopping.{upto, none, lastImage, imageOf, start, takeUp}
 use Rattle.model.specs.Answers.{Verdict, finished, bit, ran, stopped, kept}
 use Rattle.model.specs.Replies.{reading, Loan, badLengths, readyRows, ready, ended, stepsOf, runReply, runBuffers, imageAt, stopReply, stopBuffers, imageOver, stopImage, buffersOf, loan}
 use Rattle.model.specs.Replies.{stopRows, takenUp, takenBuffers, resumeReply, resumeBuffers, restartReply, restartBuffers}
+use Rattle.theory.proofs.Accepted.{neither}
 use Rattle.theory.proofs.Left.{rest-0}
 use Rattle.records.specs.declared.settings.Decoded.{Decoded}
 use Rattle.records.specs.declared.settings.Decoded.the-variants.{Valid, Refused}
 use Rattle.records.specs.Decoded.{decoded}
 use Rattle.stepping.specs.declared.progress.Progress.{Progress}
 use Rattle.machine.specs.Calls.{Readies, Checked, steps, RunWhole, StopsSound, againRows, Resumes}
-use Rattle.machine.proofs.Doing.{neither}
 use Rattle.machine.proofs.Whole.{equal-of}
 
 -- a call is handed these over

@@ -10,17 +10,21 @@ use Rattle.model.specs.declared.Settings.{Settings}
 use Rattle.model.specs.Records.{kindAt}
 use Rattle.model.specs.Trees.{Block, nil, skip, act, branch, while, times, size}
 use Rattle.model.specs.Runs.{Step, overran, variablesAfter, Run, _⊳_, run}
+use Rattle.theory.proofs.Accepted.{neither}
 use Rattle.theory.proofs.Sequences.{⊳-assoc}
 use Rattle.reading.specs.Closing.{closesBlock}
-use Rattle.reading.specs.Ranges.{Stands, firstSize, afterFirst}
-use Rattle.reading.proofs.Filled.{size-first}
-use Rattle.reading.proofs.Standing.{stands-once, stands-closed, stands-some, stands-after}
+use Rattle.reading.specs.Ranges.{firstSize, afterFirst}
+use Rattle.reading.specs.Walks.{StatementAt}
+use Rattle.reading.proofs.Filled.{size-first, fills-none}
+use Rattle.reading.proofs.Standing.{stands-closed}
+use Rattle.reading.proofs.Walking.{some, behind}
 use Rattle.stepping.specs.declared.progress.Progress.{Progress}
 use Rattle.stepping.specs.Machines.{Machine, does, runs}
 use Rattle.stepping.specs.Steps.{going, reached, halted, Ran}
-use Rattle.machine.specs.Contracts.{extent, passed, isLoop, Pending, at-end, and-behind, firstRun, after, ahead, Begun, Statement, RecordsRan, Running, Moved, StepsRan, Past, StatementRan}
-use Rattle.machine.proofs.Doing.{neither, runs-within, runs-on, runs-halted}
-use Rattle.machine.proofs.Sides.{pending-within, pending-inside, pending-at, pending-none, pending-once}
+use Rattle.machine.specs.Contracts.{extent, passed, isLoop, Pending, at-end, and-behind, firstRun, after, ahead, along}
+use Rattle.machine.specs.Contracts.{Given, Begun, Statement, RecordsRan, Running, Moved, StepsRan, Past, StatementRan}
+use Rattle.machine.proofs.Doing.{runs-within, runs-on, runs-halted}
+use Rattle.machine.proofs.Sides.{pending-within, pending-inside, pending-at, pending-none, every-chain}
 
 -- WHAT AN ANSWER SAYS
 
@@ -104,25 +108,20 @@ ahead-first σ ins s b i bs h v =
     ∙ ap (λ (k : ℕ). ((firstRun σ ins b i ⊳ next) ⊳ after σ ins s k bs) v) e
     ∙ ⊳-assoc (firstRun σ ins b i) next (after σ ins s (i + firstSize b + size (afterFirst b)) bs) v
 
--- a block of no records
-pub no-records : (b : Block) → size b ≤ 0 → b ≡ nil
-no-records nil z = refl
-no-records (skip n b) z = absurd (omega arith)
-no-records (act p b) z = absurd (omega arith)
-no-records (branch q a d b) z = absurd (omega arith)
-no-records (while q n a b) z = absurd (omega arith)
-no-records (times q n a b) z = absurd (omega arith)
-
 -- WHAT IS BEGUN
+
+-- at another tick, with other cells
+pub given-at : {s ends ins w : List ℕ} {limit t : ℕ} → Given s ends ins w limit t → {new : List ℕ} {u : ℕ} → length new ≡ 50 → u ≤ limit → Given s ends ins new limit u
+given-at G n h = record { few = G .few; table = G .table; lent = record { inputs = G .lent .inputs; cells = n }; early = h }
 
 module _ {s : List ℕ} {i to : ℕ} {ends ins w : List ℕ} {limit t : ℕ} (B : Begun s i to ends ins w limit t) where
   -- the records up to `to` are the file's
   pub running-inside : to ≤ extent s
-  running-inside = pending-inside (B .stands .ends) (B .follows)
+  running-inside = pending-inside (B .chain .file .stands .ends) (B .chain .follows)
 
   -- an ELSE or END goes on
   pub running-passed : {n : ℕ} → i < to → closesBlock (kindAt s i) ≡ true → n ≡ passed s i → i < n
-  running-passed {n} l k h = go (pending-at (omega (arith, ap size (stands-closed (B .block) (B .stands) k))) (B .follows))
+  running-passed {n} l k h = go (pending-at (omega (arith, ap size (stands-closed (B .chain .file .block) (B .chain .file .stands) k))) (B .chain .follows))
     where
       go : {bs : List Block} → Pending (B .form) s to i bs → i < n
       go (at-end e) = absurd (omega arith)
@@ -136,32 +135,28 @@ running-start B = record { all = B; rest = B; on = omega arith; same = refl }
 
 module _ {s : List ℕ} {from to : ℕ} {ends : List ℕ} {σ : Settings} {ins : List ℕ} {limit t₀ : ℕ} {old w : List ℕ} {t next : ℕ} (P : Running s from to ends σ ins limit t₀ old w t next) where
   abbrev pub whole : Run
-  whole = ahead σ ins s from (P .all .block) (P .all .pending)
+  whole = along σ ins (P .all .chain)
 
   abbrev pub left : Block
-  left = P .rest .block
+  left = P .rest .chain .file .block
 
   abbrev pub others : List Block
-  others = P .rest .pending
+  others = P .rest .chain .pending
 
   -- what holds of the blocks that were asked about holds of all at their place
   pub answered : {new : List ℕ} {r : Progress} → Ran limit whole to t₀ old new r → RecordsRan s from to σ ins limit t₀ old new r
   answered {new} {r} A = record {
-    right = λ f b bs B p.
-        let e = stands-once (P .all .block) b (P .all .stands) B in
-        let h = pending-once (P .all .follows) (pending-at (ap (λ (x : Block). from + size x) (sym e)) p) in
-        subst (λ (xs : List Block). Ran limit (ahead σ ins s from b xs) to t₀ old new r) h
-        (subst (λ (x : Block). Ran limit (ahead σ ins s from x (P .all .pending)) to t₀ old new r) e A);
+    right = λ f C. every-chain (λ (b : Block) (bs : List Block). Ran limit (ahead σ ins s from b bs) to t₀ old new r) (P .all .chain) A C;
   }
 
   running-within : next ≤ to
-  running-within = omega (arith, pending-within (P .rest .follows))
+  running-within = omega (arith, pending-within (P .rest .chain .follows))
 
   -- NOTHING IS LEFT OF A BLOCK
 
   module _ (e : left ≡ nil) where
     follows-here : Pending (P .rest .form) s to next others
-    follows-here = pending-at (omega (arith, ap size e)) (P .rest .follows)
+    follows-here = pending-at (omega (arith, ap size e)) (P .rest .chain .follows)
 
     same-here : runs limit whole (going t₀ old) ≡ runs limit (after σ ins s next others) (going t w)
     same-here =
@@ -171,7 +166,7 @@ module _ {s : List ℕ} {from to : ℕ} {ends : List ℕ} {σ : Settings} {ins :
   all-done : to ≤ next → going t w ≡ runs limit whole (going t₀ old)
   unfolding runs
   all-done l =
-      let e = no-records left (omega (arith, pending-within (P .rest .follows))) in
+      let e = fills-none left (P .rest .chain .file .stands .fills) (omega (arith, pending-within (P .rest .chain .follows))) in
       sym (same-here e ∙ ap (λ (bs : List Block). runs limit (after σ ins s next bs) (going t w)) (pending-none (follows-here e) l))
 
   pub running-ended : {r : Progress} → to ≤ next → r ≡ onward t next → RecordsRan s from to σ ins limit t₀ old w r
@@ -183,14 +178,18 @@ module _ {s : List ℕ} {from to : ℕ} {ends : List ℕ} {σ : Settings} {ins :
   running-closed l k h = subst (Running s from to ends σ ins limit t₀ old w t) (sym h) (go (follows-here nothing-left) (same-here nothing-left))
     where
       nothing-left : left ≡ nil
-      nothing-left = stands-closed left (P .rest .stands) k
+      nothing-left = stands-closed left (P .rest .chain .file .stands) k
 
       go : {bs : List Block} → Pending (P .rest .form) s to next bs → runs limit whole (going t₀ old) ≡ runs limit (after σ ins s next bs) (going t w)
           → Running s from to ends σ ins limit t₀ old w t (passed s next)
       go (at-end h) e = absurd (omega arith)
       go (and-behind {b = b} {bs = bs} B p) e = record {
         all = P .all;
-        rest = record { given = P .rest .given; form = P .rest .form; block = b; pending = bs; stands = B .stands; follows = p };
+        rest = record {
+          given = P .rest .given;
+          form = P .rest .form;
+          chain = record { file = record { block = b; stands = B .stands; inside = omega arith }; pending = bs; follows = p };
+        };
         on = omega (arith, P .on, B .on);
         same = e;
       }
@@ -198,20 +197,16 @@ module _ {s : List ℕ} {from to : ℕ} {ends : List ℕ} {σ : Settings} {ins :
   -- WHAT IS LEFT IS RUN
 
   pub running-ran : {new : List ℕ} {r : Progress} → RecordsRan s next to σ ins limit t w new r → RecordsRan s from to σ ins limit t₀ old new r
-  running-ran R = answered (ran-from (P .same) (λ o. refl) (R .right (P .rest .form) left others (P .rest .stands) (P .rest .follows)))
+  running-ran R = answered (ran-from (P .same) (λ o. refl) (R .right (P .rest .form) (P .rest .chain)))
 
   pub running-then : {new : List ℕ} {u k : ℕ} → Running s next to ends σ ins limit t w new u k → Running s from to ends σ ins limit t₀ old new u k
-  running-then Q =
-      let e = stands-once left (Q .all .block) (P .rest .stands) (Q .all .stands) in
-      let h = pending-once (pending-at (ap (λ (x : Block). next + size x) e) (P .rest .follows)) (Q .all .follows) in
-      record {
-        all = P .all;
-        rest = Q .rest;
-        on = omega (arith, P .on, Q .on);
-        same =
-            P .same ∙ ap (λ (x : Block). runs limit (ahead σ ins s next x others) (going t w)) e
-            ∙ ap (λ (xs : List Block). runs limit (ahead σ ins s next (Q .all .block) xs) (going t w)) h ∙ Q .same;
-      }
+  running-then Q = record {
+    all = P .all;
+    rest = Q .rest;
+    on = omega (arith, P .on, Q .on);
+    same = every-chain (λ (b : Block) (bs : List Block). runs limit whole (going t₀ old) ≡ runs limit (ahead σ ins s next b bs) (going t w))
+        (P .rest .chain) (P .same) (Q .all .chain) ∙ Q .same;
+  }
 
   -- as an answer
   moved-going : Moved s from to ends σ ins limit t₀ old w (onward t next)
@@ -226,65 +221,43 @@ module _ {s : List ℕ} {from to : ℕ} {ends : List ℕ} {σ : Settings} {ins :
   -- A STATEMENT IS LEFT
 
   module _ (l : next < to) (k : closesBlock (kindAt s next) ≡ false) where
+    abbrev pub here : StatementAt (P .rest .form) s next (extent s)
+    here = record { file = P .rest .chain .file; early = omega (arith, running-inside (P .rest)); goes-on = k }
+
     pub statement-next : Statement s next ends ins w limit t
-    statement-next = record {
-      reached = record {
-        given = P .rest .given;
-        form = P .rest .form;
-        block = left;
-        stands = P .rest .stands;
-        inside = omega (arith, running-inside (P .rest));
-      };
-      goes-on = k;
-    }
+    statement-next = record { given = P .rest .given; form = P .rest .form; at = here }
 
-    some : 1 ≤ firstSize left
-    some = stands-some left (P .rest .stands) (omega (arith, running-inside (P .rest))) k
+    abbrev pub onwards : Run
+    onwards = ahead σ ins s (next + firstSize left) (afterFirst left) others
 
-    abbrev pub behind : Run
-    behind = ahead σ ins s (next + firstSize left) (afterFirst left) others
-
-    pub split : runs limit whole (going t₀ old) ≡ runs limit (firstRun σ ins left next ⊳ behind) (going t w)
-    split = P .same ∙ runs-same limit (going t w) (ahead-first σ ins s left next others some)
+    pub split : runs limit whole (going t₀ old) ≡ runs limit (firstRun σ ins left next ⊳ onwards) (going t w)
+    split = P .same ∙ runs-same limit (going t w) (ahead-first σ ins s left next others (some here))
 
     module _ {new : List ℕ} {r : Progress} (S : StatementRan s next σ ins limit t w new r) where
       step : Ran limit (firstRun σ ins left next) (next + firstSize left) t w new r
-      step = S .right (P .rest .form) left (P .rest .stands)
+      step = S .right (P .rest .form) here
 
       running-halted : halted r ≡ true → RecordsRan s from to σ ins limit t₀ old new r
       running-halted e =
-          answered (ran-from split (λ h. never e h) (ran-halted step behind 0 e))
+          answered (ran-from split (λ h. never e h) (ran-halted step onwards 0 e))
 
       module _ (e : halted r ≡ false) where
         goes : r .next ≡ next + firstSize left
         goes = step .goes e
 
         running-on : next < r .next
-        running-on = omega (arith, goes, some)
-
-        behind-there : Stands (P .rest .form) s (r .next) (extent s) (afterFirst left)
-        behind-there =
-            subst (λ (j : ℕ). Stands (P .rest .form) s j (extent s) (afterFirst left)) (sym goes)
-            (stands-after left (P .rest .stands) (omega (arith, running-inside (P .rest))) k)
+        running-on = omega (arith, goes, some here)
 
         running-next : length new ≡ length w → Running s from to ends σ ins limit t₀ old new (r .tick) (r .next)
         running-next n = record {
           all = P .all;
           rest = record {
-            given = record {
-              few = P .rest .given .few;
-              table = P .rest .given .table;
-              lent = record { inputs = P .rest .given .lent .inputs; cells = n ∙ P .rest .given .lent .cells };
-              early = ran-early step (P .rest .given .early);
-            };
+            given = given-at (P .rest .given) (n ∙ P .rest .given .lent .cells) (ran-early step (P .rest .given .early));
             form = P .rest .form;
-            block = afterFirst left;
-            pending = others;
-            stands = behind-there;
-            follows = pending-at (omega (arith, goes, size-first left)) (P .rest .follows);
+            chain = record { file = behind here goes; pending = others; follows = pending-at (omega (arith, goes, size-first left)) (P .rest .chain .follows) };
           };
           on = omega (arith, P .on, running-on);
-          same = split ∙ ran-on step behind e ∙ ap (λ (j : ℕ). runs limit (ahead σ ins s j (afterFirst left) others) (going (r .tick) new)) (sym goes);
+          same = split ∙ ran-on step onwards e ∙ ap (λ (j : ℕ). runs limit (ahead σ ins s j (afterFirst left) others) (going (r .tick) new)) (sym goes);
         }
 
       -- as an answer

@@ -10,15 +10,15 @@ use Rattle.model.specs.Trees.{Test, Block, branch, size}
 use Rattle.model.specs.Runs.{holds, Run, _⊳_, choose, run}
 use Rattle.reading.specs.Closing.{closesBlock}
 use Rattle.reading.specs.Ranges.{Stands, firstSize, firstPart, secondPart, afterFirst, testOf}
-use Rattle.reading.proofs.Standing.{if-at}
+use Rattle.reading.proofs.Walking.{if-at}
 use Rattle.stepping.specs.declared.progress.Progress.{Progress}
 use Rattle.stepping.specs.Machines.{held, runs}
 use Rattle.stepping.specs.Steps.{going, halted, Ran}
 use Rattle.machine.specs.Contracts.{extent, passed, chosen, firstRun, ahead, Begun, Running, Past}
 use Rattle.machine.proofs.Doing.{choose-then, choose-cut, choose-first, choose-second}
 use Rattle.machine.proofs.Sides.{pending-at, second-at, side, side-there, side-after, side-passed, side-pending}
-use Rattle.machine.proofs.Running.{runs-same, onward, cutAt, never, past-halted, running-inside, running-passed, running-start}
-use Rattle.machine.proofs.Running.{whole, left, others, answered, running-closed, past-going, behind, split}
+use Rattle.machine.proofs.Running.{runs-same, given-at, onward, cutAt, never, past-halted, running-passed, running-start}
+use Rattle.machine.proofs.Running.{whole, left, others, answered, running-closed, past-going, here, onwards, split}
 
 -- AN ELSE OR END
 
@@ -49,14 +49,14 @@ module _ {s : List ℕ} {from to : ℕ} {ends : List ℕ} {σ : Settings} {ins :
   the = branch q one two rest
 
   is-if : left P ≡ the
-  is-if = if-at (left P) (P .rest .stands) (omega (arith, running-inside (P .rest))) if-goes-on k
+  is-if = if-at (here P l if-goes-on) k .is
 
   there : Stands (P .rest .form) s next (extent s) the
-  there = subst (Stands (P .rest .form) s next (extent s)) is-if (P .rest .stands)
+  there = subst (Stands (P .rest .form) s next (extent s)) is-if (P .rest .chain .file .stands)
 
   -- what follows the IF
   abbrev g : Run
-  g = behind P l if-goes-on
+  g = onwards P l if-goes-on
 
   -- a side and what follows it
   abbrev first : Run
@@ -98,12 +98,13 @@ module _ {s : List ℕ} {from to : ℕ} {ends : List ℕ} {σ : Settings} {ins :
     chosen-next = record {
       all = P .all;
       rest = record {
-        given = record { few = P .rest .given .few; table = P .rest .given .table; lent = P .rest .given .lent; early = omega arith };
+        given = given-at (P .rest .given) (P .rest .given .lent .cells) (omega arith);
         form = P .rest .form;
-        block = to-run;
-        pending = rest ∷ others P;
-        stands = side-there q one two rest there o;
-        follows = side-pending q one two rest there o (pending-at (ap (λ (b : Block). next + size b) is-if) (P .rest .follows));
+        chain = record {
+          file = record { block = to-run; stands = side-there q one two rest there o; inside = omega arith };
+          pending = rest ∷ others P;
+          follows = side-pending q one two rest there o (pending-at (ap (λ (b : Block). next + size b) is-if) (P .rest .chain .follows));
+        };
       };
       on = omega (arith, P .on, side-after q one two rest there o);
       same =

@@ -8,20 +8,21 @@ use mathlib.Core.List.{List, [], _++_}
 use lib.ListN.{length}
 use borrow.Author.Tests.{not-true, not-false}
 use Rattle.model.specs.declared.Settings.{Settings}
-use Rattle.model.specs.Records.{Rec, kindAt, recordAt, IF, WHILE, TIMES}
+use Rattle.model.specs.Records.{Rec, kindAt, recordAt, WHILE, TIMES}
 use Rattle.model.specs.Trees.{Block, nil, while, times, size}
 use Rattle.model.specs.Runs.{Step, overran, variablesAfter, holds, lastTest, Run, _⊳_, single, spin, rounds, run}
 use Rattle.theory.proofs.Sequences.{⊳-assoc, ⊳-nil}
 use Rattle.reading.specs.Closing.{opensBlock}
-use Rattle.reading.specs.Ranges.{Stands, firstSize, firstPart, afterFirst, testOf}
-use Rattle.reading.proofs.Standing.{while-at, times-at, body-stands}
+use Rattle.reading.specs.Ranges.{firstSize, firstPart, afterFirst, testOf}
+use Rattle.reading.proofs.Filled.{fills-none}
+use Rattle.reading.proofs.Walking.{open-at, first-in, while-at, times-at}
 use Rattle.stepping.specs.declared.progress.Progress.{Progress}
 use Rattle.stepping.specs.Machines.{held, runs}
 use Rattle.stepping.specs.Steps.{going, halted, Ran}
-use Rattle.machine.specs.Contracts.{extent, closing, at-end, firstRun, Begun, Statement, RecordsRan, StatementRan}
+use Rattle.machine.specs.Contracts.{closing, at-end, Chain, firstRun, Begun, Statement, RecordsRan, StatementRan}
 use Rattle.machine.proofs.Doing.{spin-cut, spin-end, spin-round, rounds-nothing}
-use Rattle.machine.proofs.Running.{runs-same, no-records, onward, cutAt, never, ran-early, ran-on, ran-halted, ran-from}
-use Rattle.machine.proofs.RunningSteps.{block, form, stands, told}
+use Rattle.machine.proofs.Running.{runs-same, given-at, onward, cutAt, never, ran-early, ran-on, ran-halted, ran-from}
+use Rattle.machine.proofs.RunningSteps.{block, told}
 use Rattle.machine.proofs.Sides.{closing-is}
 
 -- A LOOP AND ITS BODY
@@ -30,15 +31,15 @@ module _ {s : List ℕ} {i : ℕ} {ends ins old : List ℕ} {limit t₀ : ℕ} (
   abbrev pub body : Block
   body = firstPart (block S)
 
-  module _ (o : opensBlock (kindAt s i) ≡ true) (x : kindAt s i ≡ IF → ⊥) where
-    body-there : Stands (form S) s (i + 1) (extent s) body
-    body-there = body-stands (block S) (stands S) (S .reached .inside) (S .goes-on) o x
+  -- it ends at the record that closes it
+  body-ends : opensBlock (kindAt s i) ≡ true → closing s i ≡ i + 1 + size body
+  body-ends o = closing-is i body (open-at (S .at) o .first)
 
 -- the loop at i, with the record r, has done its rounds up to `round` of `last` at tick t; left r n f is n rounds of the body f, and the last test
 pub record Looping (s : List ℕ) (i : ℕ) (ends : List ℕ) (r : Rec) (σ : Settings) (ins : List ℕ) (limit t₀ : ℕ) (old w : List ℕ) (t to last round next : ℕ)
     (left : Rec → ℕ → Run → Run) : Type 0 where
   pub loop : Statement s i ends ins old limit t₀
-  pub there : Stands (form loop) s (i + 1) (extent s) (body loop)
+  pub opens : opensBlock (kindAt s i) ≡ true
   pub ends-at : to ≡ i + 1 + size (body loop)
   pub behind : next ≡ i + firstSize (block loop)
   pub lent : length w ≡ 50
@@ -46,16 +47,16 @@ pub record Looping (s : List ℕ) (i : ℕ) (ends : List ℕ) (r : Rec) (σ : Se
   pub same : runs limit (firstRun σ ins (block loop) i) (going t₀ old) ≡ runs limit (left r (last - round) (run σ ins (body loop) (i + 1))) (going t w)
 
 looping : {s : List ℕ} {i : ℕ} {ends : List ℕ} {r : Rec} {σ : Settings} {ins : List ℕ} {limit t : ℕ} {w : List ℕ} {to last next : ℕ} {left : Rec → ℕ → Run → Run}
-    (S : Statement s i ends ins w limit t) → opensBlock (kindAt s i) ≡ true → (kindAt s i ≡ IF → ⊥) → to ≡ closing s i → next ≡ to + 1
+    (S : Statement s i ends ins w limit t) → opensBlock (kindAt s i) ≡ true → to ≡ closing s i → next ≡ to + 1
     → (b : Block) → block S ≡ b → firstSize b ≡ 2 + size (body S)
     → ((v : List ℕ) → firstRun σ ins b i v ≡ left r (last - 0) (run σ ins (body S) (i + 1)) v) → Looping s i ends r σ ins limit t w w t to last 0 next left
-looping {i = i} {σ = σ} {ins = ins} {limit = limit} {t = t} {w = w} S o x c n b is z h = record {
+looping {i = i} {σ = σ} {ins = ins} {limit = limit} {t = t} {w = w} S o c n b is z h = record {
   loop = S;
-  there = body-there S o x;
-  ends-at = c ∙ closing-is i (body S) (body-there S o x);
-  behind = omega (arith, n, c, closing-is i (body S) (body-there S o x), z, ap firstSize is);
-  lent = S .reached .given .lent .cells;
-  early = S .reached .given .early;
+  opens = o;
+  ends-at = c ∙ body-ends S o;
+  behind = omega (arith, n, c, body-ends S o, z, ap firstSize is);
+  lent = S .given .lent .cells;
+  early = S .given .early;
   same = ap (λ (y : Block). runs limit (firstRun σ ins y i) (going t w)) is ∙ runs-same limit (going t w) h;
 }
 
@@ -78,21 +79,12 @@ module _ {s : List ℕ} {i : ℕ} {ends : List ℕ} {r : Rec} {σ : Settings} {i
   pub loop-last : {p : Progress} → last ≤ round → Ran limit (left r 0 inner) next t w w p → StatementRan s i σ ins limit t₀ old w p
   loop-last l R = answered (as-many 0 (omega arith)) R
 
+  abbrev body-chain : Chain (P .loop .form) s (i + 1) to
+  body-chain = record { file = first-in (P .loop .at) (P .opens); pending = []; follows = at-end (sym (P .ends-at)) }
+
   -- the body is run from tick u on
   pub loop-entered : {u : ℕ} → u ≤ limit → Begun s (i + 1) to ends ins w limit u
-  loop-entered h = record {
-    given = record {
-      few = P .loop .reached .given .few;
-      table = P .loop .reached .given .table;
-      lent = record { inputs = P .loop .reached .given .lent .inputs; cells = P .lent };
-      early = h;
-    };
-    form = form (P .loop);
-    block = body (P .loop);
-    pending = [];
-    stands = P .there;
-    follows = at-end (sym (P .ends-at));
-  }
+  loop-entered h = record { given = given-at (P .loop .given) (P .lent) h; form = P .loop .form; chain = body-chain }
 
   -- a round is left
   module _ (l : round < last) where
@@ -104,7 +96,7 @@ module _ {s : List ℕ} {i : ℕ} {ends : List ℕ} {r : Rec} {σ : Settings} {i
       round-ran : Ran limit inner to u w new e
       round-ran =
           ran-from (runs-same limit (going u w) (λ v. sym (⊳-nil inner v))) (λ o. refl)
-          (B .right (form (P .loop)) (body (P .loop)) [] (P .there) (at-end (sym (P .ends-at))))
+          (B .right (P .loop .form) body-chain)
 
       pub loop-halted : halted e ≡ true → StatementRan s i σ ins limit t₀ old new e
       loop-halted y = answered (one-more ∙ turned) (ran-halted round-ran (left r rest inner) next y)
@@ -112,7 +104,7 @@ module _ {s : List ℕ} {i : ℕ} {ends : List ℕ} {r : Rec} {σ : Settings} {i
       pub loop-next : halted e ≡ false → length new ≡ length w → Looping s i ends r σ ins limit t₀ old new (e .tick) to last (round + 1) next left
       loop-next y k = record {
         loop = P .loop;
-        there = P .there;
+        opens = P .opens;
         ends-at = P .ends-at;
         behind = P .behind;
         lent = k ∙ P .lent;
@@ -129,8 +121,8 @@ pub spinning-start : {s : List ℕ} {i : ℕ} {ends : List ℕ} {r : Rec} {σ : 
     → Statement s i ends ins w limit t → kindAt s i ≡ WHILE → r ≡ recordAt s i → to ≡ closing s i → next ≡ to + 1
     → Looping s i ends r σ ins limit t w w t to (r .count) 0 next (spinning i)
 spinning-start {s} {i} {r = r} {σ} {ins} S k h c n =
-    looping S (ap opensBlock k) (λ e. omega (arith, e, k)) c n (while (testOf r) (r .count) (body S) (afterFirst (block S)))
-    (while-at (block S) (stands S) (S .reached .inside) (S .goes-on) k ∙ ap (λ (y : Rec). while (testOf y) (y .count) (body S) (afterFirst (block S))) (sym h)) refl
+    looping S (ap opensBlock k) c n (while (testOf r) (r .count) (body S) (afterFirst (block S)))
+    (while-at (S .at) k ∙ ap (λ (y : Rec). while (testOf y) (y .count) (body S) (afterFirst (block S))) (sym h)) refl
     (λ v. ap (λ (m : ℕ). spinning i r m (run σ ins (body S) (i + 1)) v) (sym (sub-zero (r .count))))
 
 module _ {s : List ℕ} {i : ℕ} {ends : List ℕ} {r : Rec} {σ : Settings} {ins : List ℕ} {limit t₀ : ℕ} {old w : List ℕ} {t to round next : ℕ}
@@ -163,13 +155,13 @@ turning i r n f = rounds n f ⊳ single 1 i (lastTest (testOf r))
 
 times-is : {s : List ℕ} {i : ℕ} {ends : List ℕ} {r : Rec} {ins : List ℕ} {limit t : ℕ} {w : List ℕ} (S : Statement s i ends ins w limit t) → kindAt s i ≡ TIMES → r ≡ recordAt s i
     → block S ≡ times (testOf r) (r .count) (body S) (afterFirst (block S))
-times-is S k h = times-at (block S) (stands S) (S .reached .inside) (S .goes-on) k ∙ ap (λ (y : Rec). times (testOf y) (y .count) (body S) (afterFirst (block S))) (sym h)
+times-is S k h = times-at (S .at) k ∙ ap (λ (y : Rec). times (testOf y) (y .count) (body S) (afterFirst (block S))) (sym h)
 
 pub turning-start : {s : List ℕ} {i : ℕ} {ends : List ℕ} {r : Rec} {σ : Settings} {ins : List ℕ} {limit t : ℕ} {w : List ℕ} {to next : ℕ}
     → Statement s i ends ins w limit t → kindAt s i ≡ TIMES → r ≡ recordAt s i → to ≡ closing s i → next ≡ to + 1
     → Looping s i ends r σ ins limit t w w t to (r .count) 0 next (turning i)
 turning-start {s} {i} {r = r} {σ} {ins} S k h c n =
-    looping S (ap opensBlock k) (λ e. omega (arith, e, k)) c n (times (testOf r) (r .count) (body S) (afterFirst (block S))) (times-is S k h) refl
+    looping S (ap opensBlock k) c n (times (testOf r) (r .count) (body S) (afterFirst (block S))) (times-is S k h) refl
     (λ v. ap (λ (m : ℕ). turning i r m (run σ ins (body S) (i + 1)) v) (sym (sub-zero (r .count))))
 
 -- of an empty body no rounds are walked
@@ -177,8 +169,7 @@ pub times-empty : {s : List ℕ} {i : ℕ} {ends : List ℕ} {r : Rec} {σ : Set
     (S : Statement s i ends ins w limit t) → kindAt s i ≡ TIMES → r ≡ recordAt s i → to ≡ closing s i → to ≡ i + 1
     → Ran limit (single 1 i (lastTest (testOf r))) (to + 1) t w w p → StatementRan s i σ ins limit t w w p
 times-empty {s} {i} {r = r} {σ} {ins} {limit} {t} {w} S k h c e R =
-    let there = body-there S (ap opensBlock k) (λ x. omega (arith, x, k)) in
-    let none = no-records (body S) (omega (arith, closing-is i (body S) there)) in
+    let none = fills-none (body S) (open-at (S .at) (ap opensBlock k) .first .fills) (omega (arith, body-ends S (ap opensBlock k))) in
     let q = testOf r in
     told S (times q (r .count) nil (afterFirst (block S))) (times-is S k h ∙ ap (λ (a : Block). times q (r .count) a (afterFirst (block S))) none)
     (ran-from

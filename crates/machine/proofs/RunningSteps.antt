@@ -17,7 +17,8 @@ use Rattle.model.specs.Runs.{Effect, nothing, effect, Run, single, step}
 use Rattle.model.proofs.Shapes.{and-left, or-cases, Fit}
 use Rattle.reading.specs.Closing.{opensBlock, closesBlock}
 use Rattle.reading.specs.Ranges.{Stands, firstSize, afterFirst}
-use Rattle.reading.proofs.Standing.{stands-once, stands-some, skip-at, act-at}
+use Rattle.reading.proofs.Standing.{stands-once}
+use Rattle.reading.proofs.Walking.{some, skip-at, act-at}
 use Rattle.timing.specs.Times.{stepTicks}
 use Rattle.timing.proofs.Firsts.{act-ticks}
 use Rattle.stepping.specs.declared.progress.Progress.{Progress}
@@ -74,28 +75,27 @@ lasting {limit} {i = i} {j} {t} {f} {old} {new} {e} h R = subst (λ (n : ℕ). R
 
 -- a record that is reached and closes no block
 pub reached-statement : {s : List ℕ} {i : ℕ} {ends ins w : List ℕ} {limit t : ℕ} → Reached s i ends ins w limit t → closesBlock (kindAt s i) ≡ false → Statement s i ends ins w limit t
-reached-statement R k = record { reached = R; goes-on = k }
+reached-statement R k = record { given = R .given; form = R .form; at = record { file = R .file; early = R .inside; goes-on = k } }
 
 module _ {s : List ℕ} {i : ℕ} {ends ins w : List ℕ} {limit t : ℕ} (S : Statement s i ends ins w limit t) where
   abbrev pub block : Block
-  block = S .reached .block
+  block = S .at .file .block
 
-  abbrev pub form : Form
-  form = S .reached .form
-
-  pub stands : Stands form s i (extent s) block
-  stands = S .reached .stands
+  stands : Stands (S .form) s i (extent s) block
+  stands = S .at .file .stands
 
   -- what holds of it holds of every block at its place
   pub told : {σ : Settings} (b : Block) → block ≡ b → {new : List ℕ} {r : Progress} → Ran limit (firstRun σ ins b i) (i + firstSize b) t w new r
       → StatementRan s i σ ins limit t w new r
   told {σ} b e {new} {r} A = record {
-    right = λ f x X. subst (λ (y : Block). Ran limit (firstRun σ ins y i) (i + firstSize y) t w new r) (sym e ∙ stands-once block x stands X) A;
+    right = λ f B.
+        let same = stands-once block (B .file .block) stands (B .file .stands) in
+        subst (λ (y : Block). Ran limit (firstRun σ ins y i) (i + firstSize y) t w new r) (sym e ∙ same) A;
   }
 
   module _ {r : Rec} (h : r ≡ recordAt s i) where
     pub fields-fit : fieldsFit r ≡ true
-    fields-fit = ap fieldsFit h ∙ first-fits s i block stands (stands-some block stands (S .reached .inside) (S .goes-on))
+    fields-fit = ap fieldsFit h ∙ first-fits s i block stands (some (S .at))
 
     pub test-there : opensBlock (kindAt s i) ≡ true → testFits r ≡ true
     test-there o = test-fits r fields-fit (ap (λ (x : Rec). opensBlock (x .kind)) h ∙ o)
@@ -114,13 +114,13 @@ module _ {s : List ℕ} {i : ℕ} {ends ins w : List ℕ} {limit t : ℕ} (S : S
       skipped : kindAt s i ≡ SKIP → StatementRan s i σ ins limit t w new p
       skipped e =
           let b = afterFirst block in
-          let is = skip-at block stands (S .reached .inside) (S .goes-on) e in
-          let a = subst (Stands form s i (extent s)) is stands .fills .stands .0 in
+          let is = skip-at (S .at) e in
+          let a = subst (Stands (S .form) s i (extent s)) is stands .fills .stands .0 in
           one-step (skip (recordAt s i .count) b) is (recordAt s i .count) (λ v. nothing) refl refl (ap (stepTicks σ) (h ∙ a)) (λ v. ap (λ (q : Rec). recordEffect ins q v) (h ∙ a))
 
       acted : (kindAt s i ≡ SKIP → ⊥) → StatementRan s i σ ins limit t w new p
       acted e =
-          let A = act-at block stands (S .reached .inside) (S .goes-on) shut e in
+          let A = act-at (S .at) shut e in
           let q = A .act-of in
           one-step (act q (afterFirst block)) (A .is) (ticks σ q) (effect ins q) refl refl (ap (stepTicks σ) (h ∙ A .same) ∙ act-ticks σ q)
           (λ v. ap (λ (c : Rec). recordEffect ins c v) (h ∙ A .same) ∙ act-effect ins q v)

@@ -5,14 +5,12 @@ use mathlib.Core.Path.{_≡_, refl, ap, ap₂, sym, subst, _∙_}
 use mathlib.Core.Bool.{Bool, true, false, cond}
 use mathlib.Core.List.{List, [], _∷_}
 use Rattle.model.specs.declared.Form.{Form}
-use Rattle.model.specs.Records.{Rec, kindAt, recordAt}
+use Rattle.model.specs.Records.{kindAt}
 use Rattle.model.specs.Trees.{Test, Block, branch, size}
-use Rattle.model.proofs.Stands.{At}
-use Rattle.model.proofs.Sound.{OfForm}
-use Rattle.reading.specs.Closing.{closesBlock}
 use Rattle.reading.specs.Ranges.{Stands}
-use Rattle.reading.proofs.Standing.{closes, ending, standing-at, stands-once}
-use Rattle.machine.specs.Contracts.{extent, closing, closed, passed, chosen, Pending, at-end, and-behind}
+use Rattle.reading.proofs.FirstKinds.{kind-is}
+use Rattle.reading.proofs.Standing.{ending, stands-once, stands-last, stands-one, stands-two}
+use Rattle.machine.specs.Contracts.{extent, closing, closed, passed, chosen, Pending, at-end, and-behind, Chain}
 
 -- WHAT IS LEFT
 
@@ -42,46 +40,35 @@ pending-once {s = s} {k = k} (and-behind {b = b} B p) (and-behind {b = c} C q) =
     let e = stands-once b c (B .stands) (C .stands) in
     ap₂ (λ (x : Block) (xs : List Block). x ∷ xs) e (pending-once (pending-at (ap (λ (x : Block). passed s k + size x) e) p) q)
 
+-- and one chain at a place: what holds of it holds of every
+pub every-chain : {f g : Form} {s : List ℕ} {i to : ℕ} (P : Block → List Block → Type 0) (C : Chain f s i to) → P (C .file .block) (C .pending)
+    → (D : Chain g s i to) → P (D .file .block) (D .pending)
+every-chain {i = i} P C h D =
+    let e = stands-once (C .file .block) (D .file .block) (C .file .stands) (D .file .stands) in
+    subst (P (D .file .block)) (pending-once (pending-at (ap (λ (x : Block). i + size x) e) (C .follows)) (D .follows)) (subst (λ (b : Block). P b (C .pending)) e h)
+
 -- WHERE A BLOCK IS CLOSED
 
 pub closing-is : {f : Form} {s : List ℕ} (k : ℕ) (a : Block) → Stands f s (k + 1) (extent s) a → closing s k ≡ k + 1 + size a
 unfolding closing
 closing-is k a A = ending a A
 
-kind-is : (s : List ℕ) (i : ℕ) {r : Rec} → recordAt s i ≡ r → kindAt s i ≡ r .kind
-kind-is s i e = ap (λ (r : Rec). r .kind) e
-
--- a last part stands
-pub standing-last : {f : Form} {s : List ℕ} {i to : ℕ} {b : Block} (h : ℕ) (c : Block) → Stands f s i to b → At s h c → OfForm f c → h + size c ≡ i + size b → Stands f s h to c
-standing-last {f} {s} {i} {to} {b} h c B at o e =
-    standing-at c at o (omega (arith, B .ends)) (λ l. subst (λ (k : ℕ). closesBlock (kindAt s k) ≡ true) (sym e) (B .stops (omega arith)))
-
 -- THE PARTS OF AN IF
 
 module _ {f : Form} {s : List ℕ} {i : ℕ} (q : Test) (a d b : Block) (C : Stands f s i (extent s) (branch q a d b)) where
-  pub stands-one : Stands f s (i + 1) (extent s) a
-  stands-one =
-      let F = C .fills in
-      standing-at a (F .stands .1) (F .of-form .1) (omega (arith, C .ends)) (λ h. closes s (i + 1 + size a) (F .stands .0 .middle) refl)
-
-  pub stands-two : Stands f s (i + 2 + size a) (extent s) d
-  stands-two =
-      let F = C .fills in
-      standing-at d (F .stands .2) (F .of-form .2) (omega (arith, C .ends)) (λ h. closes s (i + 2 + size a + size d) (F .stands .0 .last) refl)
-
   pub stands-past : Stands f s (i + 3 + size a + size d) (extent s) b
-  stands-past = standing-last (i + 3 + size a + size d) b C (C .fills .stands .3) (C .fills .of-form .3) (omega arith)
+  stands-past = stands-last (i + 3 + size a + size d) b C (C .fills .stands .3) (C .fills .of-form .3) (omega arith)
 
   pub second-at : closed s i ≡ i + 2 + size a
-  second-at = omega (arith, closing-is i a stands-one)
+  second-at = omega (arith, closing-is i a (stands-one q a d b C))
 
   -- the side that a test chooses
   abbrev pub side : Bool → Block
   side o = cond o a d
 
   pub side-there : (o : Bool) → Stands f s (chosen s i o) (extent s) (side o)
-  side-there true = stands-one
-  side-there false = subst (λ (j : ℕ). Stands f s j (extent s) d) (sym second-at) stands-two
+  side-there true = stands-one q a d b C
+  side-there false = subst (λ (j : ℕ). Stands f s j (extent s) d) (sym second-at) (stands-two q a d b C)
 
   pub side-after : (o : Bool) → i < chosen s i o
   side-after true = omega arith
@@ -95,7 +82,7 @@ module _ {f : Form} {s : List ℕ} {i : ℕ} (q : Test) (a d b : Block) (C : Sta
   side-passed true =
       let m = kind-is s (i + 1 + size a) (C .fills .stands .0 .middle) in
       let e : i + 2 + size a ≡ i + 1 + size a + 1 = omega arith in
-      rw m (omega (arith, closing-is (i + 1 + size a) d (subst (λ (k : ℕ). Stands f s k (extent s) d) e stands-two)))
+      rw m (omega (arith, closing-is (i + 1 + size a) d (subst (λ (k : ℕ). Stands f s k (extent s) d) e (stands-two q a d b C))))
   side-passed false =
       let e : i + 2 + size a + size d ≡ closed s i + size d = omega (arith, second-at) in
       let m = ap (kindAt s) (sym e) ∙ kind-is s (i + 2 + size a + size d) (C .fills .stands .0 .last) in

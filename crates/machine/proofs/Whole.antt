@@ -3,7 +3,7 @@ use Prim.Native.Nat.{ℕ, _+_, _*_, _-_, _/_, _≤_, _<_}
 use native.Mathlib.Nat.{sub-zero}
 use native.Mathlib.Omega.{arith}
 use mathlib.Core.Path.{_≡_, refl, ap, ap₂, sym, subst, _∙_}
-use mathlib.Core.Bool.{Bool, true, false, not, _||_, false≢true}
+use mathlib.Core.Bool.{Bool, true, false, not, _||_, or-true, false≢true}
 use mathlib.Core.List.{List, [], _∷_}
 use lib.Dec.{eqb, ltb}
 use lib.ListN.{length, getD, take, drop, replicate}
@@ -20,29 +20,25 @@ use Rattle.model.specs.Answers.{Verdict, finished, refused, bit, kept}
 use Rattle.model.proofs.Bytes.{Bytes}
 use Rattle.model.specs.Placement.{LoopFree}
 use Rattle.model.proofs.Trees.{⧺-nil}
+use Rattle.theory.proofs.Accepted.{neither}
 use Rattle.theory.proofs.Sequences.{⊳-nil}
 use Rattle.theory.proofs.Reached.{rest-reached}
 use Rattle.theory.proofs.Stops.{upto-all}
 use Rattle.theory.proofs.Within.{run-within}
-use Rattle.reading.specs.Ranges.{Stands}
-use Rattle.reading.proofs.Standing.{stands-file}
+use Rattle.reading.proofs.Walking.{whole-file}
 use Rattle.stepping.specs.declared.progress.Progress.{Progress}
 use Rattle.stepping.specs.Machines.{Held, held, Machine, machine, does, runs}
 use Rattle.stepping.specs.Steps.{going, reached}
-use Rattle.machine.specs.Contracts.{Pending, at-end, ahead, Started, RecordsRan}
+use Rattle.machine.specs.Contracts.{at-end, Chain, along, Started, RecordsRan}
 use Rattle.stepping.specs.Buffers.{withVariables, withOutputs, Stored, StoredImage}
 use Rattle.machine.specs.Calls.{Checked, steps, RunWhole, StopsSound, againRows, Resumes}
 use Rattle.machine.proofs.Files.{file-sound, file-size}
-use Rattle.machine.proofs.Doing.{neither, heldAfter, does-upto}
+use Rattle.machine.proofs.Doing.{heldAfter, does-upto}
 use Rattle.machine.proofs.Marks.{marks-bytes}
 use Rattle.machine.proofs.Running.{runs-same}
 use Rattle.machine.proofs.Positions.{joined, Position, position, rest-shorter}
 use Rattle.machine.proofs.Bare.{bare, ahead-joined, runs-bare}
 use Rattle.stepping.proofs.ImageLaws.{beyond}
-
-or-true : (o : Bool) → (o || true) ≡ true
-or-true true = refl
-or-true false = refl
 
 -- LENGTHS
 
@@ -91,11 +87,8 @@ module _ {file : List ℕ} {σ : Settings} {v ins l m : List ℕ} (R : Checked f
   pub lent : Lengths (length v) (length ins) (length l) (length m)
   lent = good-lengths (length v) (length ins) (length l) (length m) (R .lengths)
 
-  whole-stands : Stands (R .form) file 0 (length file / 12) (fileTree file)
-  whole-stands = stands-file (R .form) file (R .sound)
-
-  whole-follows : Pending (R .form) file (length file / 12) (0 + size (fileTree file)) []
-  whole-follows = at-end {k = 0 + size (fileTree file)} (omega (arith, file-size (R .sound)))
+  abbrev whole-chain : Chain (R .form) file 0 (length file / 12)
+  whole-chain = record { file = whole-file (R .sound); pending = []; follows = at-end {k = 0 + size (fileTree file)} (omega (arith, file-size (R .sound))) }
 
   pub whole-started : {w : List ℕ} {limit : ℕ} → length w ≡ 50 → Started file 0 ins w limit 0
   whole-started k = record {
@@ -103,10 +96,7 @@ module _ {file : List ℕ} {σ : Settings} {v ins l m : List ℕ} (R : Checked f
     sound = R .sound;
     lent = record { inputs = lent .inputs; cells = k };
     early = omega arith;
-    block = fileTree file;
-    pending = [];
-    stands = whole-stands;
-    follows = whole-follows;
+    chain = whole-chain;
   }
 
   -- run from what h holds, up to a limit
@@ -120,7 +110,7 @@ module _ {file : List ℕ} {σ : Settings} {v ins l m : List ℕ} (R : Checked f
     whole-reaches : reached e new ≡ outcome (steps file σ ins v) limit
     unfolding runs
     whole-reaches =
-        B .right (R .form) (fileTree file) [] whole-stands whole-follows .reaches
+        B .right (R .form) whole-chain .reaches
         ∙ runs-same limit (machine 0 false false (held w)) (⊳-nil (run σ ins (fileTree file) 0))
         ∙ ap (λ (x : Held). does limit (run σ ins (fileTree file) 0 (x .variables)) (machine 0 false false x)) k
         ∙ ap (λ (x : List ℕ). does limit (run σ ins (fileTree file) 0 x) (machine 0 false false h)) same
@@ -246,9 +236,9 @@ module _ {file : List ℕ} {σ : Settings} {v ins l m : List ℕ} (R : Checked f
 
     -- what stands at the record, and is left behind it
     place : Position (R .form) file (length file / 12) j (rest (fileTree file) (j - 0) ⧺ nil)
-    place = position (fileTree file) 0 j [] loop-free (whole-stands R) (whole-follows R) (omega arith) (omega (arith, in-file, file-size (R .sound)))
+    place = position (fileTree file) 0 j [] loop-free (whole-chain R .file .stands) (whole-chain R .follows) (omega arith) (omega (arith, in-file, file-size (R .sound)))
 
-    place-is : place .block ⧺ joined (place .pending) ≡ rest (fileTree file) j
+    place-is : place .chain .file .block ⧺ joined (place .chain .pending) ≡ rest (fileTree file) j
     place-is = place .is ∙ ⧺-nil (rest (fileTree file) (j - 0)) ∙ ap (rest (fileTree file)) (sub-zero j)
 
     resume-started : {w : List ℕ} → length w ≡ 50 → Started file j ins w (t + σ .period) t
@@ -257,10 +247,7 @@ module _ {file : List ℕ} {σ : Settings} {v ins l m : List ℕ} (R : Checked f
       sound = R .sound;
       lent = record { inputs = lent R .inputs; cells = k };
       early = omega arith;
-      block = place .block;
-      pending = place .pending;
-      stands = place .stands;
-      follows = place .follows;
+      chain = place .chain;
     }
 
     abbrev again : List Step
@@ -282,9 +269,10 @@ module _ {file : List ℕ} {σ : Settings} {v ins l m : List ℕ} (R : Checked f
       resume-reaches : bare (reached e new) ≡ bare (outcome-from again (t + σ .period - t))
       unfolding runs takeUp
       resume-reaches =
-          ap bare (T .right (R .form) (place .block) (place .pending) (place .stands) (place .follows) .reaches)
-          ∙ runs-bare (t + σ .period) (ahead σ ins file j (place .block) (place .pending)) (run σ ins (place .block ⧺ joined (place .pending)) j) (going t w)
-          (ahead-joined σ ins file (place .block) (place .pending) j j)
+          let C = place .chain in
+          ap bare (T .right (R .form) C .reaches)
+          ∙ runs-bare (t + σ .period) (along σ ins C) (run σ ins (C .file .block ⧺ joined (C .pending)) j) (going t w)
+          (ahead-joined σ ins file (C .file .block) (C .pending) j j)
           ∙ ap (λ (b : Block). bare (runs (t + σ .period) (run σ ins b j) (going t w))) place-is
           ∙ ap (λ (x : Held). bare (does (t + σ .period) (run σ ins (rest (fileTree file) j) j (x .variables)) (machine t false false x))) k
           ∙ ap bare (does-upto (t + σ .period) again t false from (omega arith))

@@ -4,6 +4,7 @@ use mathlib.Core.Path.{_≡_}
 use mathlib.Core.Bool.{Bool, false}
 use mathlib.Core.List.{List}
 use lib.ListN.{length}
+use Rattle.model.specs.Limits.{mostTicks}
 use Rattle.model.specs.declared.Form.{Form}
 use Rattle.model.specs.declared.Settings.{Settings}
 use Rattle.model.specs.declared.Stopped.{Stopped}
@@ -14,7 +15,7 @@ use Rattle.model.specs.Times.{time}
 use Rattle.model.specs.Runs.{Step, duration, overran, leave, cleared, run}
 use Rattle.model.specs.Stopping.{upto, Image, imageOf, takeUp}
 use Rattle.model.specs.Answers.{Verdict, stopped, ran, kept}
-use Rattle.model.specs.Replies.{reading, badLengths, readyRows, buffersOf, imageIn, stopRows, imageOver, resumeRows}
+use Rattle.model.specs.Replies.{reading, badLengths, readyRows, buffersOf, savedAt, stopRows, imageOver, resumeRows}
 use Rattle.records.specs.declared.settings.Decoded.{Decoded}
 use Rattle.records.specs.declared.settings.Decoded.the-variants.{Valid}
 use Rattle.records.specs.Decoded.{decoded}
@@ -27,7 +28,7 @@ pub record Readies (s : List ℕ) (f : Form) (file : List ℕ) (bad : Bool) (r :
   pub settings : (σ : Settings) → r ≡ Valid σ → σ ≡ settingsOf s
   pub sound : (σ : Settings) → r ≡ Valid σ → SoundFile f file
   pub in-time : (σ : Settings) → r ≡ Valid σ → time σ (fileTree file) ≤ σ .period
-  pub short : (σ : Settings) → r ≡ Valid σ → σ .period ≤ 1000000
+  pub short : (σ : Settings) → r ≡ Valid σ → σ .period ≤ mostTicks
   pub good : (σ : Settings) → r ≡ Valid σ → bad ≡ false
 
 -- a file and settings that were read, and buffers of the table's lengths
@@ -35,7 +36,7 @@ pub record Checked (file : List ℕ) (σ : Settings) (v ins l m : List ℕ) : Ty
   pub form : Form
   pub sound : SoundFile form file
   pub in-time : time σ (fileTree file) ≤ σ .period
-  pub short : σ .period ≤ 1000000
+  pub short : σ .period ≤ mostTicks
   pub lengths : badLengths (length v) (length ins) (length l) (length m) ≡ false
 
 -- the steps of a whole run
@@ -52,7 +53,7 @@ pub record RunWhole (file : List ℕ) (σ : Settings) (ins v l m v′ l′ m′ 
 pub record StopsSound (file : List ℕ) (σ : Settings) (ins : List ℕ) (stop : ℕ) (v l m image v′ l′ m′ image′ : List ℕ) (r : Stopped) : Type 0 where
   pub reply : stopped r ≡ stopRows (steps file σ ins v) v stop
   pub leaves : buffersOf v′ l′ m′ ≡ kept (stopRows (steps file σ ins v) v stop) (leave (upto stop (steps file σ ins v)) (cleared v)) (buffersOf v l m)
-  pub saves : image′ ≡ kept (stopRows (steps file σ ins v) v stop) (imageOver (imageIn (steps file σ ins v) v stop) image) image
+  pub saves : image′ ≡ kept (stopRows (steps file σ ins v) v stop) (imageOver (savedAt stop (steps file σ ins v) v) image) image
 
 -- the steps of a run taken up: row 11, and the result
 abbrev pub again : List ℕ → Settings → List ℕ → Image → List Step

@@ -5,14 +5,16 @@ use mathlib.Core.Bool.{Bool, true, false, cond, _||_}
 use mathlib.Core.List.{List, [], _∷_}
 use lib.Dec.{eqb}
 use lib.ListN.{length}
+use Rattle.model.specs.Limits.{fileRecords}
 use Rattle.model.specs.declared.Form.{Form}
 use Rattle.model.specs.declared.Settings.{Settings}
 use Rattle.model.specs.Records.{kindAt, ELSE, WHILE, TIMES}
 use Rattle.model.specs.Trees.{Block, nil, skip, act, branch, while, times, size}
 use Rattle.model.specs.Times.{ticks}
 use Rattle.model.specs.Runs.{nothing, effect, lastTest, Run, _⊳_, single, choose, spin, rounds, run}
-use Rattle.reading.specs.Closing.{closesBlock, closingIn, Closings}
-use Rattle.reading.specs.Ranges.{SoundFile, Stands, firstSize}
+use Rattle.reading.specs.Closing.{closingIn, Closings}
+use Rattle.reading.specs.Ranges.{SoundFile, Stands, InFile, firstSize}
+use Rattle.reading.specs.Walks.{StatementAt}
 use Rattle.stepping.specs.declared.progress.Progress.{Progress}
 use Rattle.stepping.specs.Machines.{runs}
 use Rattle.stepping.specs.Steps.{Lent, going, halted, Ran}
@@ -53,6 +55,12 @@ pub data Pending (f : Form) (s : List ℕ) (to : ℕ) : ℕ → List Block → T
   at-end : {k : ℕ} → k ≡ to → Pending f s to k []
   and-behind : {k : ℕ} {b : Block} {bs : List Block} → Behind f s to k b → Pending f s to (passed s k + size b) bs → Pending f s to k (b ∷ bs)
 
+-- a block stands at i, and of the records up to `to` these blocks are left behind it
+pub record Chain (f : Form) (s : List ℕ) (i to : ℕ) : Type 0 where
+  pub file : InFile f s i (extent s)
+  pub pending : List Block
+  pub follows : Pending f s to (i + size (file .block)) pending
+
 -- THE RUNS
 
 -- the run of a block's first statement
@@ -73,11 +81,15 @@ after σ ins s k (b ∷ bs) = run σ ins b (passed s k) ⊳ after σ ins s (pass
 abbrev pub ahead : Settings → List ℕ → List ℕ → ℕ → Block → List Block → Run
 ahead σ ins s i b bs = run σ ins b i ⊳ after σ ins s (i + size b) bs
 
+-- of a chain
+abbrev pub along : Settings → List ℕ → {f : Form} {s : List ℕ} {i to : ℕ} → Chain f s i to → Run
+along σ ins {s = s} {i} C = ahead σ ins s i (C .file .block) (C .pending)
+
 -- WHAT IS ASKED AND ANSWERED
 
 -- a file of at most so many records and the table of its closings, lent to a run at tick t
 pub record Given (s closings ins w : List ℕ) (limit t : ℕ) : Type 0 where
-  pub few : extent s ≤ 5461
+  pub few : extent s ≤ fileRecords
   pub table : Closings s (extent s) closings
   pub lent : Lent ins w
   pub early : t ≤ limit
@@ -88,42 +100,36 @@ pub record Started (s : List ℕ) (i : ℕ) (ins w : List ℕ) (limit t : ℕ) :
   pub sound : SoundFile form s
   pub lent : Lent ins w
   pub early : t ≤ limit
-  pub block : Block
-  pub pending : List Block
-  pub stands : Stands form s i (extent s) block
-  pub follows : Pending form s (extent s) (i + size block) pending
+  pub chain : Chain form s i (extent s)
 
 -- the records from i up to `to` are run: a block, and those that are left behind it
 pub record Begun (s : List ℕ) (i to : ℕ) (closings ins w : List ℕ) (limit t : ℕ) : Type 0 where
   pub given : Given s closings ins w limit t
   pub form : Form
-  pub block : Block
-  pub pending : List Block
-  pub stands : Stands form s i (extent s) block
-  pub follows : Pending form s to (i + size block) pending
+  pub chain : Chain form s i to
 
 -- the record i is reached
 pub record Reached (s : List ℕ) (i : ℕ) (closings ins w : List ℕ) (limit t : ℕ) : Type 0 where
   pub given : Given s closings ins w limit t
   pub form : Form
-  pub block : Block
-  pub stands : Stands form s i (extent s) block
+  pub file : InFile form s i (extent s)
   pub inside : i < extent s
 
 -- the statement at i is run
 pub record Statement (s : List ℕ) (i : ℕ) (closings ins w : List ℕ) (limit t : ℕ) : Type 0 where
-  pub reached : Reached s i closings ins w limit t
-  pub goes-on : closesBlock (kindAt s i) ≡ false
+  pub given : Given s closings ins w limit t
+  pub form : Form
+  pub at : StatementAt form s i (extent s)
 
 pub record RecordsRan (s : List ℕ) (i to : ℕ) (σ : Settings) (ins : List ℕ) (limit t : ℕ) (old new : List ℕ) (r : Progress) : Type 0 where
-  pub right : (f : Form) (b : Block) (bs : List Block) → Stands f s i (extent s) b → Pending f s to (i + size b) bs → Ran limit (ahead σ ins s i b bs) to t old new r
+  pub right : (f : Form) (C : Chain f s i to) → Ran limit (along σ ins C) to t old new r
 
 -- of the records from `from` up to `to`, run from tick t₀ on, those from `next` on are left at tick t
 pub record Running (s : List ℕ) (from to : ℕ) (closings : List ℕ) (σ : Settings) (ins : List ℕ) (limit t₀ : ℕ) (old w : List ℕ) (t next : ℕ) : Type 0 where
   pub all : Begun s from to closings ins old limit t₀
   pub rest : Begun s next to closings ins w limit t
   pub on : from ≤ next
-  pub same : runs limit (ahead σ ins s from (all .block) (all .pending)) (going t₀ old) ≡ runs limit (ahead σ ins s next (rest .block) (rest .pending)) (going t w)
+  pub same : runs limit (along σ ins (all .chain)) (going t₀ old) ≡ runs limit (along σ ins (rest .chain)) (going t w)
 
 -- the records from i on are run up to where r is
 pub record Moved (s : List ℕ) (i to : ℕ) (closings : List ℕ) (σ : Settings) (ins : List ℕ) (limit t : ℕ) (old new : List ℕ) (r : Progress) : Type 0 where
@@ -145,10 +151,10 @@ pub record OneRan (s : List ℕ) (i : ℕ) (closings : List ℕ) (σ : Settings)
   pub past : (to : ℕ) → Begun s i to closings ins old limit t → i < to → Past s i to closings σ ins limit t old new r
 
 pub record StatementRan (s : List ℕ) (i : ℕ) (σ : Settings) (ins : List ℕ) (limit t : ℕ) (old new : List ℕ) (r : Progress) : Type 0 where
-  pub right : (f : Form) (b : Block) → Stands f s i (extent s) b → Ran limit (firstRun σ ins b i) (i + firstSize b) t old new r
+  pub right : (f : Form) (A : StatementAt f s i (extent s)) → Ran limit (firstRun σ ins (A .file .block) i) (i + firstSize (A .file .block)) t old new r
 
 -- the record k is one of the file's, whose closings are in the table
 pub record Inner (s : List ℕ) (k : ℕ) (closings : List ℕ) : Type 0 where
   pub before : k < extent s
-  pub few : extent s ≤ 5461
+  pub few : extent s ≤ fileRecords
   pub table : Closings s (extent s) closings

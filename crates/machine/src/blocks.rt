@@ -3,6 +3,7 @@
 ghost use mathlib.Core.Path.{_≡_};
 ghost use mathlib.Core.Bool.{true, false};
 ghost use Prim.Native.Nat.{_+_, _≤_, _<_};
+ghost use Rattle.model.specs.Limits.{fileRecords};
 ghost use Rattle.model.specs.Records.{kindAt, recordAt, WHILE, TIMES};
 ghost use Rattle.model.specs.Refusals.{fieldsFit};
 ghost use Rattle.model.specs.Runs.{single};
@@ -168,7 +169,7 @@ fn run_kind(
     tick: u32,
     cells: &mut [u32],
 ) -> Progress
-    requires { ⌜ (Lent (now inputs) (now cells)) × (fieldsFit (recordOf r) ≡ true) × (i < 5461) × (tick ≤ limit) × (r .kind ≡ kind) ⌝ }
+    requires { ⌜ (Lent (now inputs) (now cells)) × (fieldsFit (recordOf r) ≡ true) × (i < fileRecords) × (tick ≤ limit) × (r .kind ≡ kind) ⌝ }
     ensures { λ e. ⌜ Ran limit (single (stepTicks (settingsIn (now (table .entry))) (recordOf r)) i (recordEffect (now (inputs .entry)) (recordOf r)))
         (i + 1) tick (now (cells .entry)) (now (cells .exit)) e ⌝ }
 {
@@ -186,7 +187,7 @@ fn run_plain(
     tick: u32,
     cells: &mut [u32],
 ) -> Progress
-    requires { ⌜ (Lent (now inputs) (now cells)) × (fieldsFit (recordOf r) ≡ true) × (i < 5461) × (tick ≤ limit) ⌝ }
+    requires { ⌜ (Lent (now inputs) (now cells)) × (fieldsFit (recordOf r) ≡ true) × (i < fileRecords) × (tick ≤ limit) ⌝ }
     ensures { λ e. ⌜ Ran limit (single (stepTicks (settingsIn (now (table .entry))) (recordOf r)) i (recordEffect (now (inputs .entry)) (recordOf r)))
         (i + 1) tick (now (cells .entry)) (now (cells .exit)) e ⌝ }
 {

@@ -5,6 +5,7 @@ mod tables;
 
 ghost use mathlib.Core.Path.{_≡_};
 ghost use lib.ListN.{length, replicate};
+ghost use Rattle.model.specs.Limits.{imageLength, portCount};
 ghost use Rattle.model.specs.Answers.{ran, stopped};
 ghost use Rattle.model.specs.Replies.{runReply, runBuffers, stopReply, stopBuffers, stopImage, resumeReply, resumeBuffers, restartReply, restartBuffers, buffersOf, loan};
 ghost use Rattle.machine.specs.Calls.{Checked, RunWhole, StopsSound, Resumes};
@@ -13,6 +14,8 @@ use model::Ran;
 use model::Refusal;
 use model::Settings;
 use model::Stopped;
+use model::limits::IMAGE_LENGTH;
+use model::limits::PORTS;
 use ready::bad_buffers;
 use ready::ready;
 use records::settings::Decoded;
@@ -22,6 +25,7 @@ use stepping::buffers::load_variables;
 use stepping::buffers::load_words;
 use stepping::buffers::store;
 use stepping::buffers::store_marks;
+use stepping::cells::CELLS;
 use stepping::images::after_save;
 use stepping::images::store_image;
 use stepping::progress::Progress;
@@ -29,10 +33,10 @@ use tables::run_from;
 
 // All levels and marks set to 0.
 fn clear(levels: &mut [u32], marks: &mut [u8])
-    requires { ⌜ (length (now levels) ≡ 8) × (length (now marks) ≡ 8) ⌝ }
-    ensures { λ _. ⌜ (now (levels .exit) ≡ replicate 8 0) × (now (marks .exit) ≡ replicate 8 0) ⌝ }
+    requires { ⌜ (length (now levels) ≡ portCount) × (length (now marks) ≡ portCount) ⌝ }
+    ensures { λ _. ⌜ (now (levels .exit) ≡ replicate portCount 0) × (now (marks .exit) ≡ replicate portCount 0) ⌝ }
 {
-    let zeros: [u32; 8] = [0; 8];
+    let zeros: [u32; PORTS] = [0; PORTS];
     copy(&zeros, levels);
     store_marks(&zeros, marks);
 }
@@ -50,7 +54,7 @@ fn run_whole(
     ensures { λ e. ⌜ RunWhole (now (file .entry)) n (now (inputs .entry)) (now (variables .entry)) (now (levels .entry)) (now (marks .entry))
         (now (variables .exit)) (now (levels .exit)) (now (marks .exit)) e ⌝ }
 {
-    let mut cells: [u32; 50] = [0; 50];
+    let mut cells: [u32; CELLS] = [0; CELLS];
     load_variables(&mut cells, variables);
     load_outputs(&mut cells, levels, marks);
     let e = run_from(file, 0, n, inputs, n.period, 0, &mut cells);
@@ -103,11 +107,11 @@ fn run_until_ready(
     image: &mut [u8],
     stop: u32,
 ) -> Stopped
-    requires { ⌜ (Checked (now file) n (now variables) (now inputs) (now levels) (now marks)) × (length (now image) ≡ 72) ⌝ }
+    requires { ⌜ (Checked (now file) n (now variables) (now inputs) (now levels) (now marks)) × (length (now image) ≡ imageLength) ⌝ }
     ensures { λ r. ⌜ StopsSound (now (file .entry)) n (now (inputs .entry)) stop (now (variables .entry)) (now (levels .entry)) (now (marks .entry)) (now (image .entry))
         (now (variables .exit)) (now (levels .exit)) (now (marks .exit)) (now (image .exit)) r ⌝ }
 {
-    let mut cells: [u32; 50] = [0; 50];
+    let mut cells: [u32; CELLS] = [0; CELLS];
     load_variables(&mut cells, variables);
     let e = run_from(file, 0, n, inputs, stop, 0, &mut cells);
     if !e.cut {
@@ -140,7 +144,7 @@ pub fn run_until(
         inputs.len(),
         levels.len(),
         marks.len(),
-        image.len() != 72,
+        image.len() != IMAGE_LENGTH,
     );
     let r = ready(settings, form, file, bad);
     match r {
@@ -161,7 +165,7 @@ fn resume_ready(
     marks: &mut [u8],
     image: &[u8],
 ) -> Ran
-    requires { ⌜ (Checked (now file) n (now variables) (now inputs) (now levels) (now marks)) × (length (now image) ≡ 72) ⌝ }
+    requires { ⌜ (Checked (now file) n (now variables) (now inputs) (now levels) (now marks)) × (length (now image) ≡ imageLength) ⌝ }
     ensures { λ r. ⌜ Resumes (now (file .entry)) n (now (inputs .entry)) (now (variables .entry)) (now (levels .entry)) (now (marks .entry)) (now (image .entry))
         (now (variables .exit)) (now (levels .exit)) (now (marks .exit)) r ⌝ }
 {
@@ -175,7 +179,7 @@ fn resume_ready(
     if n.period < tick {
         return Ran::Refused(Refusal::BadImage);
     }
-    let mut cells: [u32; 50] = [0; 50];
+    let mut cells: [u32; CELLS] = [0; CELLS];
     load_variables(&mut cells, &words[2..]);
     load_outputs(&mut cells, levels, marks);
     let limit = tick + n.period;
@@ -207,7 +211,7 @@ pub fn resume(
         inputs.len(),
         levels.len(),
         marks.len(),
-        image.len() != 72,
+        image.len() != IMAGE_LENGTH,
     );
     let r = ready(settings, form, file, bad);
     match r {

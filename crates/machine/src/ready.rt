@@ -5,6 +5,9 @@ ghost use Rattle.model.specs.Replies.{badLengths};
 ghost use Rattle.machine.specs.Calls.{Readies};
 use model::Form;
 use model::Refusal;
+use model::limits::FILE_DEPTH;
+use model::limits::PORTS;
+use model::limits::VARIABLES;
 use records::settings::Decoded;
 use timing::blocks::block_time;
 use timing::ticks::Time;
@@ -19,7 +22,7 @@ pub fn bad_buffers(
 ) -> bool
     ensures { λ r. ⌜ r ≡ (badLengths variables inputs levels marks || cause) ⌝ }
 {
-    (variables != 16) | (inputs != 8) | (levels != 8) | (marks != 8) | cause
+    (variables != VARIABLES) | (inputs != PORTS) | (levels != PORTS) | (marks != PORTS) | cause
 }
 
 // The settings, or the first refusal of the rows. bad is row 10's cause.
@@ -30,7 +33,7 @@ pub fn ready(settings: &[u8], form: Form, file: &[u8], bad: bool) -> Decoded
     let Decoded::Valid(n) = read else {
         return read;
     };
-    let time = block_time(file, 0, file.len() / 12, 16, n);
+    let time = block_time(file, 0, file.len() / 12, FILE_DEPTH, n);
     let Time::Ticks(_) = time else {
         return Decoded::Refused(Refusal::OverPeriod);
     };

@@ -4,9 +4,16 @@ ghost use lib.ListN.{length};
 ghost use Rattle.machine.specs.Contracts.{extent, Started, RecordsRan};
 use crate::blocks::run_records;
 use model::Settings;
+use model::limits::FILE_RECORDS;
+use model::limits::TASK_RECORDS;
 use reading::closings::fill;
 use stepping::progress::Progress;
 use timing::ticks::ticks_of;
+
+// A place for each record, and one for the end.
+const TASK_PLACES: usize = TASK_RECORDS + 1;
+
+const FILE_PLACES: usize = FILE_RECORDS + 1;
 
 // The records from `from` on, with room for the table.
 fn run_by(
@@ -42,10 +49,10 @@ pub fn run_from(
     requires { ⌜ Started (now file) from (now inputs) (now cells) limit tick ⌝ }
     ensures { λ e. ⌜ RecordsRan (now (file .entry)) from (extent (now (file .entry))) n (now (inputs .entry)) limit tick (now (cells .entry)) (now (cells .exit)) e ⌝ }
 {
-    if file.len() / 12 <= 256 {
-        let mut ends: [u16; 257] = [0; 257];
+    if file.len() / 12 <= TASK_RECORDS {
+        let mut ends: [u16; TASK_PLACES] = [0; TASK_PLACES];
         return run_by(file, from, &mut ends, n, inputs, limit, tick, cells);
     }
-    let mut ends: [u16; 5462] = [0; 5462];
+    let mut ends: [u16; FILE_PLACES] = [0; FILE_PLACES];
     run_by(file, from, &mut ends, n, inputs, limit, tick, cells)
 }

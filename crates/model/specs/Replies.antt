@@ -164,11 +164,11 @@ runBuffers c = kept (runReply c) (leave (stepsOf c) (cleared (c .buffers .variab
 -- RUNNING UNTIL A TICK
 
 -- the image of the last SAVE that is finished at the stop tick, of steps that begin with variables v
-abbrev pub imageIn : List Step → List ℕ → ℕ → Saved
-imageIn es v stop = lastImage (upto stop es) 0 v none
+abbrev pub savedAt : ℕ → List Step → List ℕ → Saved
+savedAt stop es v = lastImage (upto stop es) 0 v none
 
 unfoldable pub imageAt : Loan → ℕ → Saved
-imageAt c stop = imageIn (stepsOf c) (c .buffers .variables) stop
+imageAt c stop = savedAt stop (stepsOf c) (c .buffers .variables)
 
 abbrev pub isSaved : Saved → Bool
 isSaved none = false
@@ -176,7 +176,7 @@ isSaved (saved m) = true
 
 -- "stop tick at or past the run's end" (row 12)
 abbrev pub stopRows : List Step → List ℕ → ℕ → Verdict
-stopRows es v stop = turnDown 12 (leb (duration es) stop) (finished (stop ∷ 0 ∷ bit (isSaved (imageIn es v stop)) ∷ []))
+stopRows es v stop = turnDown 12 (leb (duration es) stop) (finished (stop ∷ 0 ∷ bit (isSaved (savedAt stop es v)) ∷ []))
 
 unfoldable pub stopReply : Loan → List ℕ → ℕ → Verdict
 stopReply c image stop = ready c (badImageLength image) (stopRows (stepsOf c) (c .buffers .variables) stop)

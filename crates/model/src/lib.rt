@@ -1,4 +1,5 @@
 // The types that the definitions of specs/ and the public calls share.
+pub mod limits;
 pub mod refusals;
 
 // The forms that a file of records can have.

@@ -3,6 +3,7 @@ use Prim.Native.Nat.{ℕ, _+_, _-_, _≤_}
 use mathlib.Core.Path.{_≡_}
 use mathlib.Core.List.{List, _++_}
 use lib.ListN.{length}
+use Rattle.model.specs.Limits.{fileRecords}
 use Rattle.model.specs.declared.Settings.{Settings}
 use Rattle.model.specs.Records.{Rec, recordBytes, over}
 use Rattle.model.specs.Trees.{Block, beat, actRec, size}
@@ -20,7 +21,7 @@ bytesOf s c = blockBytes (settled (s .wait) c)
 
 -- c fits a file, after what is laid by s, and the buffer
 pub record Room (c : Block) (s : State) (out : List ℕ) : Type 0 where
-  pub few : s .records + size (settled (s .wait) c) ≤ 5461
+  pub few : s .records + size (settled (s .wait) c) ≤ fileRecords
   pub room : length (bytesOf s c) ≤ length out
 
 -- c is laid over the front of old
@@ -44,7 +45,7 @@ closingBytes σ s e x =
 
 pub record EndFits (σ : Settings) (s : State) (e : ℕ) (x : Rec) (out : List ℕ) : Type 0 where
   pub can : Fillable σ s e
-  pub few : s .records + size (merge (s .wait) (fill σ (e - s .tick) (s .tick) e)) ≤ 5461
+  pub few : s .records + size (merge (s .wait) (fill σ (e - s .tick) (s .tick) e)) ≤ fileRecords
   pub room : length (closingBytes σ s e x) ≤ length out
 
 -- the state behind c, laid from s on, and the record that closes it

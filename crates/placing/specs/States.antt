@@ -1,6 +1,7 @@
 -- What a state of laying out says, and how it goes on.
 use Prim.Native.Nat.{ℕ, _+_, _*_, _-_, _%_, _≤_, _<_, min}
 use mathlib.Core.Path.{_≡_}
+use Rattle.model.specs.Limits.{fileRecords, mostTicks}
 use Rattle.model.specs.declared.Settings.{Settings}
 use Rattle.model.specs.Trees.{Act, Block, nil, skip, act, _⧺_, size}
 use Rattle.model.specs.Times.{ticks, time}
@@ -14,12 +15,15 @@ use Rattle.placing.specs.Merging.{settled, waits}
 -- what reading and row 7 leave of the settings
 pub record Layable (σ : Settings) : Type 0 where
   pub fits : Fits σ
-  pub narrow : σ .window ≤ 1000000
-  pub short : σ .period ≤ 1000000
+  pub narrow : σ .window ≤ mostTicks
+  pub short : σ .period ≤ mostTicks
 
 -- a count of records that stops one past the longest file
+abbrev pub tooMany : ℕ
+tooMany = 1 + fileRecords
+
 abbrev pub cap : ℕ → ℕ
-cap n = min n 5462
+cap n = min n tooMany
 
 -- the ticks left to the next multiple of H, 0 at one before its commands, and the windows left from there to the next one of K × H
 pub record Shows (σ : Settings) (s : State) : Type 0 where
@@ -28,7 +32,7 @@ pub record Shows (σ : Settings) (s : State) : Type 0 where
   pub bound : (s .tick + s .left) % σ .window ≡ 0
   pub round : (s .tick + s .left + σ .window * s .windows) % (σ .spacing * σ .window) ≡ 0
   pub waited : s .wait ≤ s .tick
-  pub few : s .records ≤ 5462
+  pub few : s .records ≤ tooMany
 
 -- a state from which laying out may go on
 pub record Laying (σ : Settings) (s : State) : Type 0 where
@@ -60,7 +64,7 @@ pub record Idled (s : State) (k : ℕ) (r : State) : Type 0 where
 pub record Skipped (σ : Settings) (k : ℕ) (s r : State) : Type 0 where
   pub late : σ .period < s .tick + time σ (idles σ k (s .tick)) → σ .period < r .tick
   pub after : s .tick + time σ (idles σ k (s .tick)) ≤ σ .period → After σ (idles σ k (s .tick)) s r
-  pub few : r .records ≤ 5462
+  pub few : r .records ≤ tooMany
 
 -- SKIPs may fill up to tick e, where a step ends
 pub record Fillable (σ : Settings) (s : State) (e : ℕ) : Type 0 where

@@ -6,7 +6,11 @@ ghost use Rattle.model.specs.Layout.{commands};
 ghost use Rattle.model.specs.Times.{longest};
 ghost use Rattle.placing.specs.States.{cap, Laying, After, Readied, Stepped, Idled, Skipped, Fillable, FillCounted, backTo, started};
 use model::Settings;
+use model::limits::FILE_RECORDS;
 use records::skips::skip_records;
+
+// One record more than a file can have: where counting stops.
+pub const TOO_MANY: usize = FILE_RECORDS + 1;
 
 pub struct State {
     pub tick: u32,
@@ -39,8 +43,8 @@ pub fn counted(records: usize, more: usize) -> usize
     ensures { λ r. ⌜ r ≡ cap (records + more) ⌝ }
 {
     let n = records + more;
-    if 5461 < n {
-        return 5462;
+    if FILE_RECORDS < n {
+        return TOO_MANY;
     }
     n
 }
@@ -133,7 +137,7 @@ pub fn fill_count(n: Settings, from: State, end: u32) -> usize
     ensures { λ r. ⌜ FillCounted n from end r ⌝ }
 {
     let mut s = from;
-    while (s.left < end - s.tick) & (s.records < 5462) {
+    while (s.left < end - s.tick) & (s.records < TOO_MANY) {
         s = commanded(n, s);
     }
     s.records + skip_records((s.wait + (end - s.tick)) as u64)

@@ -8,7 +8,7 @@ ghost use Rattle.model.specs.Times.{time, longest};
 ghost use Rattle.model.specs.Layout.{commands, before, idles, fill, lastValue};
 ghost use Rattle.records.specs.Records.{recordOf};
 ghost use Rattle.records.specs.Blocks.{Wrote};
-ghost use Rattle.placing.specs.States.{Layable, Laying, Fillable};
+ghost use Rattle.placing.specs.States.{tooMany, Layable, Laying, Fillable};
 ghost use Rattle.placing.specs.Placed.{bytesOf, Room, Lays, stepBytes, StepLaid, EndFits, EndLaid, tailBytes};
 use crate::clock::State;
 use crate::clock::back;
@@ -26,7 +26,7 @@ use records::skips::skip_records;
 
 // The bytes of the records laid from one state to another.
 pub fn written(from: State, to: State) -> usize
-    requires { ⌜ (from .records ≤ to .records) × (to .records ≤ 5462) ⌝ }
+    requires { ⌜ (from .records ≤ to .records) × (to .records ≤ tooMany) ⌝ }
     ensures { λ r. ⌜ r ≡ 12 * (to .records - from .records) ⌝ }
 {
     12 * (to.records - from.records)

@@ -8,12 +8,15 @@ use layout::lay_out;
 use model::Equalised;
 use model::LaidOut;
 
-// The equalised file is the call's own: a task of 256 records becomes at most 1,025.
+// A task of 256 records becomes at most 1,025.
+const EQUALISED_LENGTH: usize = 12300;
+
+// The equalised file is the call's own.
 pub fn prepare(settings: &[u8], task: &[u8], out: &mut [u8]) -> LaidOut
     ensures { λ r. ⌜ (laidOut r ≡ prepareReply (now (settings .entry)) (now (task .entry)) (length (now (out .entry))))
         × (now (out .exit) ≡ prepareOut (now (settings .entry)) (now (task .entry)) (now (out .entry))) ⌝ }
 {
-    let mut equalised: [u8; 12300] = [0; 12300];
+    let mut equalised: [u8; EQUALISED_LENGTH] = [0; EQUALISED_LENGTH];
     let r = equalise(settings, task, &mut equalised);
     match r {
         Equalised::Refused(x) => LaidOut::Refused(x),

@@ -13,6 +13,8 @@ use listing::list_task;
 use model::LaidOut;
 use model::Refusal;
 use model::Shown;
+use model::limits::FILE_LENGTH;
+use model::limits::FILE_RECORDS;
 use model::refusals::row_of;
 use text::put_line;
 use text::put_number;
@@ -62,8 +64,8 @@ pub fn render(settings: &[u8], task: &[u8], out: &mut [u8; 349568]) -> usize
     ensures { λ r. ⌜ (r ≡ length (printedText (printed (now (settings .entry)) (now (task .entry)))))
         × (now (out .exit) ≡ over (printedText (printed (now (settings .entry)) (now (task .entry)))) (now (out .entry))) ⌝ }
 {
-    let mut laid: [u8; 65532] = [0; 65532];
-    let mut starts: [u32; 5461] = [0; 5461];
+    let mut laid: [u8; FILE_LENGTH] = [0; FILE_LENGTH];
+    let mut starts: [u32; FILE_RECORDS] = [0; FILE_RECORDS];
     let r = list_task(settings, task, &mut laid, &mut starts);
     match r {
         LaidOut::Refused(x) => put_refusal(out, x),

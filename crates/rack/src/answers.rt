@@ -1,6 +1,7 @@
 // Each call's answer as the number that C gets.
 ghost use mathlib.Core.Path.{_≡_};
 ghost use Prim.Native.Nat.{_+_, _*_, _^_, _≤_};
+ghost use Rattle.model.specs.Limits.{fileLength};
 ghost use Rattle.model.specs.Answers.{bit, timed, equalised, laidOut, ran, stopped};
 ghost use Rattle.rack.specs.Words.{fileWord, runWord, packed, firstIn};
 use crate::words::refused;
@@ -27,7 +28,7 @@ pub fn time_word(x: Timed) -> u64
 }
 
 pub fn equalised_word(x: Equalised) -> u64
-    requires { ⌜ firstIn (equalised x) ≤ 65532 ⌝ }
+    requires { ⌜ firstIn (equalised x) ≤ fileLength ⌝ }
     ensures { λ r. ⌜ r ≡ packed fileWord (equalised x) ⌝ }
 {
     match x {
@@ -37,7 +38,7 @@ pub fn equalised_word(x: Equalised) -> u64
 }
 
 pub fn laid_word(x: LaidOut) -> u64
-    requires { ⌜ firstIn (laidOut x) ≤ 65532 ⌝ }
+    requires { ⌜ firstIn (laidOut x) ≤ fileLength ⌝ }
     ensures { λ r. ⌜ r ≡ packed fileWord (laidOut x) ⌝ }
 {
     match x {

@@ -1,18 +1,20 @@
 -- The settings are judged first and then the file; where both were read, the settings are good and the file is sound.
-use Prim.Native.Nat.{ℕ}
+use Prim.Native.Nat.{ℕ, _≤_}
 use native.Mathlib.Omega.{arith}
-use mathlib.Core.Path.{_≡_, refl, _∙_}
+use mathlib.Core.Path.{_≡_, refl, sym, subst, _∙_}
 use mathlib.Core.Bool.{Bool, true, false}
 use mathlib.Core.List.{List, []}
 use Rattle.model.specs.declared.Form.{Form}
 use Rattle.model.specs.declared.Settings.{Settings}
 use Rattle.model.specs.declared.Refusal.{Refusal}
+use Rattle.model.specs.Limits.{mostTicks}
 use Rattle.model.specs.Settings.{badSettings}
 use Rattle.model.specs.Refusals.{Fault, sound, faulty, fault}
 use Rattle.model.specs.Answers.{Verdict, finished}
 use Rattle.model.specs.Replies.{turnDown, unless, reading}
-use Rattle.records.specs.declared.settings.Decoded.the-variants.{Valid, Refused}
+use Rattle.records.specs.declared.settings.Decoded.{Decoded}
 use Rattle.records.specs.Decoded.{Decodes}
+use Rattle.reading.specs.declared.Checked.the-variants.{Valid, Refused}
 use Rattle.reading.specs.declared.scan.Scanned.{Scanned}
 use Rattle.reading.specs.declared.scan.Scanned.the-variants.{Sound}
 use Rattle.reading.specs.Scanning.{scanned, Scans}
@@ -23,11 +25,11 @@ none x σ e = let z : _≡_ {A = ℕ} 0 1 = cc in absurd (omega arith)
 
 module _ (s : List ℕ) (f : Form) (file : List ℕ) where
   -- the settings are refused, whatever the file
-  pub settings-refused : (x : Refusal) → Decodes s (Refused x) → Reads s f file (Refused x)
+  pub settings-refused : (x : Refusal) → Decodes s (Decoded.Refused x) → Reads s f file (Refused x)
   unfolding reading
   settings-refused x D = record { reply = λ next. D .reply (unless (fault f file) next); settings = λ σ e. none x σ e; narrow = λ σ e. none x σ e }
 
-  module _ (σ : Settings) (D : Decodes s (Valid σ)) where
+  module _ (σ : Settings) (D : Decodes s (Decoded.Valid σ)) where
     then-scanned : (q : Scanned) → Scans f file q → (next : Verdict) → scanned q next ≡ reading s f file next
     unfolding reading
     then-scanned q S next = S .reply next ∙ D .reply (unless (fault f file) next)
@@ -36,7 +38,10 @@ module _ (s : List ℕ) (f : Form) (file : List ℕ) where
     file-refused x S = record { reply = then-scanned (Scanned.Refused x) S; settings = λ τ e. none x τ e; narrow = λ τ e. none x τ e }
 
     pub both-read : Scans f file Sound → Reads s f file (Valid σ)
-    both-read S = record { reply = then-scanned Sound S; settings = λ τ e. D .settings τ e; narrow = λ τ e. D .narrow τ e }
+    both-read S = record { reply = then-scanned Sound S; settings = λ τ e. sym (same e) ∙ D .settings σ refl; narrow = λ τ e. subst (λ (ρ : Settings). ρ .window ≤ mostTicks) (same e) (D .narrow σ refl) }
+      where
+        same : {τ : Settings} → Valid σ ≡ Valid τ → σ ≡ τ
+        same e = cc
 
   -- nothing refused it
   read-good : (σ : Settings) → Reads s f file (Valid σ) → (badSettings s ≡ false) × (fault f file ≡ sound)

@@ -6,6 +6,7 @@ use mathlib.Core.Path.{_≡_, refl, ap, sym, subst, _∙_}
 use mathlib.Core.Bool.{true, false, true≢false}
 use mathlib.Core.List.{List}
 use lib.ListN.{length}
+use Rattle.model.specs.declared.Form.the-variants.{Task}
 use Rattle.model.specs.declared.Form.{Form}
 use Rattle.model.specs.Records.{Rec, kindAt, recordAt, SKIP, IF, WHILE, TIMES}
 use Rattle.model.specs.Trees.{Block, nil, skip, while, times, size, depth, fileTree}
@@ -14,7 +15,7 @@ use Rattle.records.specs.Records.{recordOf}
 use Rattle.reading.specs.Closing.{opensBlock, closesBlock}
 use Rattle.reading.specs.Ranges.{SoundFile, Fills, Stands, InFile, firstSize, firstPart, secondPart, afterFirst, testOf}
 use Rattle.reading.specs.Walks.{StatementAt, OpenAt, IfAt, Walk}
-use Rattle.reading.proofs.FirstKinds.{kind-is, IsAct, skip-is, act-is, if-is, while-is, times-is}
+use Rattle.reading.proofs.FirstKinds.{kind-is, IsAct, skip-is, act-is, if-is, while-is, times-is, task-loop}
 use Rattle.reading.proofs.Filled.{size-first, fills-after, first-some}
 use Rattle.reading.proofs.Standing.{stands-file, stands-last, stands-once, stands-closed, stands-end, stands-one, stands-two, stands-open}
 
@@ -114,6 +115,11 @@ module _ {f : Form} {s : List ℕ} {i to : ℕ} (A : StatementAt f s i to) where
     -- the second side behind the ELSE at m
     abbrev pub second-in : {m : ℕ} → m ≡ i + 1 + size (firstPart block) → InFile f s (m + 1) to
     second-in e = elsewhere (secondPart block) (subst (λ (j : ℕ). Stands f s (j + 1) to (secondPart block)) (sym e) (if-at .second))
+
+-- a task has no loop but WHILE
+pub task-while : {s : List ℕ} {i to : ℕ} (A : StatementAt Task s i to) → opensBlock (kindAt s i) ≡ true → (kindAt s i ≡ IF → ⊥)
+    → block A ≡ while (testOf (recordAt s i)) (recordAt s i .count) (firstPart (block A)) (afterFirst (block A))
+task-while A o x = while-at A (task-loop (begun A) (block A) (A .file .stands .fills) o x)
 
 -- THE WALK
 

@@ -4,6 +4,7 @@ use mathlib.Core.List.{List}
 use mathlib.Core.Bool.{true}
 use Prim.Native.Nat.{ℕ, _+_, _*_, _≤_, _<_}
 use lib.ListN.{length}
+use Rattle.model.specs.Limits.{fileRecords}
 use Rattle.model.specs.declared.Form.{Form}
 use Rattle.model.specs.Records.{Rec, kindAt}
 use Rattle.model.specs.Trees.{Test, Block, nil, skip, act, branch, while, times, size, depth}
@@ -40,7 +41,7 @@ pub record Fillable (s : List ℕ) (to : ℕ) (closings : List ℕ) : Type 0 whe
   pub form : Form
   pub file : InFile form s 0 to
   pub ends : size (file .block) ≡ to
-  pub few : to ≤ 5461
+  pub few : to ≤ fileRecords
   pub room : to < length closings
 
 -- a range of the records of s

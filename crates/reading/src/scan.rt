@@ -10,6 +10,10 @@ use crate::nesting::Nested;
 use crate::nesting::nest;
 use model::Form;
 use model::Refusal;
+use model::limits::FILE_DEPTH;
+use model::limits::FILE_RECORDS;
+use model::limits::TASK_DEPTH;
+use model::limits::TASK_RECORDS;
 use records::Record;
 use records::record_at;
 
@@ -29,9 +33,9 @@ fn max_records(form: Form) -> usize
     ensures { λ r. ⌜ r ≡ maxRecords form ⌝ }
 {
     match form {
-        Form::Task => 256,
-        Form::Equalised => 5461,
-        Form::Laid => 5461,
+        Form::Task => TASK_RECORDS,
+        Form::Equalised => FILE_RECORDS,
+        Form::Laid => FILE_RECORDS,
     }
 }
 
@@ -39,9 +43,9 @@ fn max_depth(form: Form) -> usize
     ensures { λ r. ⌜ r ≡ maxDepth form ⌝ }
 {
     match form {
-        Form::Task => 8,
-        Form::Equalised => 16,
-        Form::Laid => 16,
+        Form::Task => TASK_DEPTH,
+        Form::Equalised => FILE_DEPTH,
+        Form::Laid => FILE_DEPTH,
     }
 }
 

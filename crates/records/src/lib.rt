@@ -10,6 +10,7 @@ ghost use lib.ListN.{length};
 ghost use Rattle.model.specs.Records.{rec, kindAt, recordAt, recordBytes, over};
 ghost use Rattle.model.specs.Replies.{noRoom};
 ghost use Rattle.records.specs.Records.{recordOf};
+use model::limits::FILE_RECORDS;
 use words::put_word;
 use words::word_at;
 
@@ -80,7 +81,7 @@ pub fn put_bare(out: &mut [u8], kind: u8, value: u32, count: u32)
 pub fn no_room(room: usize, n: usize) -> bool
     ensures { λ r. ⌜ r ≡ noRoom room n ⌝ }
 {
-    if 5461 < n {
+    if FILE_RECORDS < n {
         return true;
     }
     room < 12 * n

@@ -2,12 +2,15 @@
 ghost use mathlib.Core.Path.{_≡_};
 ghost use Prim.Native.Nat.{_≤_};
 ghost use lib.ListN.{length};
+ghost use Rattle.model.specs.Limits.{settingsLength};
 ghost use Rattle.model.specs.Settings.{settingsOf, outOfRange};
 ghost use Rattle.records.specs.Decoded.{Decodes};
 use crate::words::wide;
 use crate::words::word_at;
 use model::Refusal;
 use model::Settings;
+use model::limits::MOST_TICKS;
+use model::limits::SETTINGS_LENGTH;
 
 // The settings, or why a call that is handed them is turned down.
 pub enum Decoded {
@@ -17,7 +20,7 @@ pub enum Decoded {
 
 // The numbers in 12 bytes of settings.
 fn numbers(s: &[u8]) -> Settings
-    requires { ⌜ 12 ≤ length (now s) ⌝ }
+    requires { ⌜ settingsLength ≤ length (now s) ⌝ }
     ensures { λ r. ⌜ (r ≡ settingsOf (now (s .entry))) × (r .window ≤ 65535) ⌝ }
 {
     Settings {
@@ -46,14 +49,14 @@ fn out_of_range(n: Settings) -> bool
         | (n.spacing == 0)
         | (n.window == 0)
         | (n.period == 0)
-        | (1000000 < n.period)
+        | (MOST_TICKS < n.period)
 }
 
 // Refusal 6, or the settings.
 pub fn decode(s: &[u8]) -> Decoded
     ensures { λ r. ⌜ Decodes (now (s .entry)) r ⌝ }
 {
-    if s.len() != 12 {
+    if s.len() != SETTINGS_LENGTH {
         return Decoded::Refused(Refusal::BadSettings);
     }
     let n = numbers(s);

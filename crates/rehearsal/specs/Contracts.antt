@@ -3,6 +3,7 @@ use Prim.Native.Nat.{ℕ}
 use mathlib.Core.Path.{_≡_}
 use mathlib.Core.List.{List}
 use lib.ListN.{length, replicate}
+use Rattle.model.specs.Limits.{imageLength, portCount, variableCount}
 use Rattle.model.specs.declared.Form.the-variants.{Laid}
 use Rattle.model.specs.Answers.{Verdict, bit}
 use Rattle.model.specs.Replies.{Loan}
@@ -17,9 +18,9 @@ abbrev pub endIn : Final → End
 endIn e = record { buffers = record { variables = e .variables; levels = e .levels; marks = e .marks }; overran = bit (e .overran) }
 
 pub record Full (e : Final) : Type 0 where
-  pub variables : length (e .variables) ≡ 16
-  pub levels : length (e .levels) ≡ 8
-  pub marks : length (e .marks) ≡ 8
+  pub variables : length (e .variables) ≡ variableCount
+  pub levels : length (e .levels) ≡ portCount
+  pub marks : length (e .marks) ≡ portCount
 
 -- a laid file that is lent to a run with outputs that hold zeros
 abbrev pub laidLoan : List ℕ → List ℕ → List ℕ → List ℕ → Loan
@@ -28,13 +29,13 @@ laidLoan s file v ins = lend s Laid file ins v zeroOutputs
 -- the laid file run whole, or stopped with an image buffer and a spare set that hold zeros
 abbrev pub secondOf : Stop → End → ℕ → Loan → Verdict
 secondOf Stop.Never a total c = wholeOf a total c
-secondOf (Stop.At stop) a total c = stoppedOf a total c (replicate 72 0) (replicate 16 0) stop
+secondOf (Stop.At stop) a total c = stoppedOf a total c (replicate imageLength 0) (replicate variableCount 0) stop
 
 -- what a stop left
 abbrev pub outputsIn : Left → Outputs
 outputsIn x = record { levels = x .levels; marks = x .marks }
 
 pub record FullLeft (x : Left) : Type 0 where
-  pub levels : length (x .levels) ≡ 8
-  pub marks : length (x .marks) ≡ 8
-  pub image : length (x .image) ≡ 72
+  pub levels : length (x .levels) ≡ portCount
+  pub marks : length (x .marks) ≡ portCount
+  pub image : length (x .image) ≡ imageLength

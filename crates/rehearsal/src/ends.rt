@@ -3,12 +3,14 @@ ghost use mathlib.Core.Path.{_≡_};
 ghost use lib.ListN.{length};
 ghost use Rattle.model.specs.Rehearsal.{sameList, sameEnd};
 ghost use Rattle.rehearsal.specs.Contracts.{endIn, Full};
+use model::limits::PORTS;
+use model::limits::VARIABLES;
 
 // What a run that ended leaves, and whether it overran.
 pub struct Final {
-    pub variables: [u32; 16],
-    pub levels: [u32; 8],
-    pub marks: [u8; 8],
+    pub variables: [u32; VARIABLES],
+    pub levels: [u32; PORTS],
+    pub marks: [u8; PORTS],
     pub overran: bool,
 }
 

@@ -5,6 +5,7 @@ mod second;
 
 ghost use mathlib.Core.Path.{_≡_};
 ghost use lib.ListN.{length};
+ghost use Rattle.model.specs.Limits.{variableCount};
 ghost use Rattle.model.specs.declared.Form.the-variants.{Task};
 ghost use Rattle.model.specs.Replies.{runReply};
 ghost use Rattle.model.specs.Chain.{lend, runEnd};
@@ -19,6 +20,9 @@ use model::Ran;
 use model::Refusal;
 use model::Rehearsed;
 use model::Stop;
+use model::limits::FILE_LENGTH;
+use model::limits::PORTS;
+use model::limits::VARIABLES;
 use preparation::prepare;
 use records::words::copy;
 use second::stopped;
@@ -36,14 +40,14 @@ fn rehearse_laid(
     two_inputs: &[u32],
     stop: Stop,
 ) -> Rehearsed
-    requires { ⌜ (length (now one) ≡ 16) × (length (now two) ≡ 16) ⌝ }
+    requires { ⌜ (length (now one) ≡ variableCount) × (length (now two) ≡ variableCount) ⌝ }
     ensures { λ r. ⌜ (let c = lend (now (settings .entry)) Task (now (task .entry)) (now («one_inputs» .entry)) (now (one .entry)) zeroOutputs in
         rehearsed r ≡ andThen (runReply c) (secondOf stop (runEnd c) total (laidLoan (now (settings .entry)) (now (file .entry)) (now (two .entry)) (now («two_inputs» .entry))))) ⌝ }
 {
-    let mut variables: [u32; 16] = [0; 16];
+    let mut variables: [u32; VARIABLES] = [0; VARIABLES];
     copy(one, &mut variables);
-    let mut levels: [u32; 8] = [0; 8];
-    let mut marks: [u8; 8] = [0; 8];
+    let mut levels: [u32; PORTS] = [0; PORTS];
+    let mut marks: [u8; PORTS] = [0; PORTS];
     let r = run(
         settings,
         Form::Task,
@@ -73,7 +77,7 @@ fn rehearse_laid(
 fn bad_sets(one: usize, two: usize) -> bool
     ensures { λ r. ⌜ r ≡ badSets one two ⌝ }
 {
-    (one != 16) | (two != 16)
+    (one != VARIABLES) | (two != VARIABLES)
 }
 
 // The whole chain: the first refusal in it, or whether the ends are alike.
@@ -88,7 +92,7 @@ pub fn rehearse(
 ) -> Rehearsed
     ensures { λ r. ⌜ Rehearses (now (settings .entry)) (now (task .entry)) (setOf (now (one .entry)) (now («one_inputs» .entry))) (setOf (now (two .entry)) (now («two_inputs» .entry))) stop r ⌝ }
 {
-    let mut laid: [u8; 65532] = [0; 65532];
+    let mut laid: [u8; FILE_LENGTH] = [0; FILE_LENGTH];
     let r = prepare(settings, task, &mut laid);
     match r {
         LaidOut::Refused(x) => Rehearsed::Refused(x),

@@ -2,6 +2,7 @@
 ghost use mathlib.Core.Path.{_≡_};
 ghost use mathlib.Core.Bool.{true, false};
 ghost use lib.ListN.{length, replicate};
+ghost use Rattle.model.specs.Limits.{imageLength, variableCount};
 ghost use Rattle.model.specs.Stopping.{imageOf};
 ghost use Rattle.model.specs.declared.Form.the-variants.{Laid};
 ghost use Rattle.model.specs.Replies.{resumeReply, resumeBuffers, restartReply, restartBuffers};
@@ -19,15 +20,18 @@ use model::Form;
 use model::Ran;
 use model::Rehearsed;
 use model::Stopped;
+use model::limits::IMAGE_LENGTH;
+use model::limits::PORTS;
+use model::limits::VARIABLES;
 use records::words::copy;
 use records::words::word_at;
 use timing::ticks::beyond;
 
 // What a stop left for the run that is taken up.
 pub struct Left {
-    pub levels: [u32; 8],
-    pub marks: [u8; 8],
-    pub image: [u8; 72],
+    pub levels: [u32; PORTS],
+    pub marks: [u8; PORTS],
+    pub image: [u8; IMAGE_LENGTH],
 }
 
 // Whole.
@@ -39,13 +43,13 @@ pub fn whole(
     two: &[u32],
     inputs: &[u32],
 ) -> Rehearsed
-    requires { ⌜ (Full first) × (length (now two) ≡ 16) ⌝ }
+    requires { ⌜ (Full first) × (length (now two) ≡ variableCount) ⌝ }
     ensures { λ r. ⌜ rehearsed r ≡ wholeOf (endIn first) total (laidLoan (now (settings .entry)) (now (file .entry)) (now (two .entry)) (now (inputs .entry))) ⌝ }
 {
-    let mut variables: [u32; 16] = [0; 16];
+    let mut variables: [u32; VARIABLES] = [0; VARIABLES];
     copy(two, &mut variables);
-    let mut levels: [u32; 8] = [0; 8];
-    let mut marks: [u8; 8] = [0; 8];
+    let mut levels: [u32; PORTS] = [0; PORTS];
+    let mut marks: [u8; PORTS] = [0; PORTS];
     let r = run(
         settings,
         Form::Laid,
@@ -85,10 +89,10 @@ fn resumed(
     stop: u32,
 ) -> Rehearsed
     requires { ⌜ (Full first) × (FullLeft left) ⌝ }
-    ensures { λ r. ⌜ (let c = lend (now (settings .entry)) Laid (now (file .entry)) (now (inputs .entry)) (replicate 16 0) (outputsIn left) in
+    ensures { λ r. ⌜ (let c = lend (now (settings .entry)) Laid (now (file .entry)) (now (inputs .entry)) (replicate variableCount 0) (outputsIn left) in
         rehearsed r ≡ takenOf (endIn first) total c stop true (imageOf (left .image) .tick) (resumeReply c (left .image)) (resumeBuffers c (left .image))) ⌝ }
 {
-    let mut variables: [u32; 16] = [0; 16];
+    let mut variables: [u32; VARIABLES] = [0; VARIABLES];
     let mut levels = left.levels;
     let mut marks = left.marks;
     let image = left.image;
@@ -137,11 +141,11 @@ fn restarted(
     left: Left,
     stop: u32,
 ) -> Rehearsed
-    requires { ⌜ (Full first) × (FullLeft left) × (length (now two) ≡ 16) ⌝ }
+    requires { ⌜ (Full first) × (FullLeft left) × (length (now two) ≡ variableCount) ⌝ }
     ensures { λ r. ⌜ (let c = lend (now (settings .entry)) Laid (now (file .entry)) (now (inputs .entry)) (now (two .entry)) (outputsIn left) in
         rehearsed r ≡ takenOf (endIn first) total c stop false 0 (restartReply c) (restartBuffers c)) ⌝ }
 {
-    let mut variables: [u32; 16] = [0; 16];
+    let mut variables: [u32; VARIABLES] = [0; VARIABLES];
     copy(two, &mut variables);
     let mut levels = left.levels;
     let mut marks = left.marks;
@@ -187,15 +191,15 @@ pub fn stopped(
     inputs: &[u32],
     stop: u32,
 ) -> Rehearsed
-    requires { ⌜ (Full first) × (length (now two) ≡ 16) ⌝ }
+    requires { ⌜ (Full first) × (length (now two) ≡ variableCount) ⌝ }
     ensures { λ r. ⌜ rehearsed r ≡ stoppedOf (endIn first) total (laidLoan (now (settings .entry)) (now (file .entry)) (now (two .entry)) (now (inputs .entry)))
-        (replicate 72 0) (replicate 16 0) stop ⌝ }
+        (replicate imageLength 0) (replicate variableCount 0) stop ⌝ }
 {
-    let mut variables: [u32; 16] = [0; 16];
+    let mut variables: [u32; VARIABLES] = [0; VARIABLES];
     copy(two, &mut variables);
-    let mut levels: [u32; 8] = [0; 8];
-    let mut marks: [u8; 8] = [0; 8];
-    let mut image: [u8; 72] = [0; 72];
+    let mut levels: [u32; PORTS] = [0; PORTS];
+    let mut marks: [u8; PORTS] = [0; PORTS];
+    let mut image: [u8; IMAGE_LENGTH] = [0; IMAGE_LENGTH];
     let r = run_until(
         settings,
         Form::Laid,

@@ -4,9 +4,10 @@ use mathlib.Core.Path.{_≡_}
 use mathlib.Core.Bool.{Bool}
 use mathlib.Core.List.{List}
 use lib.ListN.{length}
+use Rattle.model.specs.Limits.{portCount, variableCount}
 use Rattle.model.specs.Stopping.{Saved}
 use Rattle.model.specs.Replies.{isSaved, imageOver}
-use Rattle.stepping.specs.Machines.{Held}
+use Rattle.stepping.specs.Machines.{cellCount, Held}
 
 abbrev pub withVariables : List ℕ → Held → Held
 withVariables v h = record { variables = v; levels = h .levels; marks = h .marks; image = h .image }
@@ -16,10 +17,10 @@ withOutputs l m h = record { variables = h .variables; levels = l; marks = m; im
 
 -- the table's lengths
 pub record Sized (w v l m : List ℕ) : Type 0 where
-  pub cells : length w ≡ 50
-  pub variables : length v ≡ 16
-  pub levels : length l ≡ 8
-  pub marks : length m ≡ 8
+  pub cells : length w ≡ cellCount
+  pub variables : length v ≡ variableCount
+  pub levels : length l ≡ portCount
+  pub marks : length m ≡ portCount
 
 -- the buffers show what is held
 pub record Stored (h : Held) (v l m : List ℕ) : Type 0 where

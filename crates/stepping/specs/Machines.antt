@@ -4,6 +4,7 @@ use mathlib.Core.Bool.{Bool, true, cond, _||_}
 use mathlib.Core.List.{List, [], _∷_}
 use lib.Dec.{eqb, leb}
 use lib.ListN.{getD, take, drop}
+use Rattle.model.specs.Limits.{byVariable, portCount, variableCount}
 use Rattle.model.specs.Records.{Rec, SET, READ, WRITE, CHECK, BEAT, SAVE}
 use Rattle.model.specs.Runs.{Effect, nothing, assigns, outputs, beats, saves, isSave, isOverrun, Step, onVariables, onOutputs, level, mark}
 use Rattle.model.specs.Runs.{rightValue, result, lastTest, Run}
@@ -28,14 +29,17 @@ affect next t w h = record {
 }
 
 -- It is held in 50 cells: the variables, the levels, the marks, and the last image, whose index is 0 while there is none.
+abbrev pub cellCount : ℕ
+cellCount = 50
+
 abbrev pub imageIn : List ℕ → Saved
 imageIn xs = cond (eqb (getD xs 0 0) 0) none (saved (record { index = getD xs 0 0; tick = getD xs 1 0; variables = drop 2 xs }))
 
 unfoldable pub held : List ℕ → Held
 held w = record {
-  variables = take 16 w;
-  levels = take 8 (drop 16 w);
-  marks = take 8 (drop 24 w);
+  variables = take variableCount w;
+  levels = take portCount (drop 16 w);
+  marks = take portCount (drop 24 w);
   image = imageIn (drop 32 w);
 }
 
@@ -71,7 +75,7 @@ runs limit f m = does limit (f (m .holds .variables)) m
 
 -- the result of a SET's operation
 abbrev pub setResult : Rec → List ℕ → ℕ
-setResult r v = result (r .op % 16) (getD v (r .left) 0) (rightValue (r .op) (r .value) v)
+setResult r v = result (r .op % byVariable) (getD v (r .left) 0) (rightValue (r .op) (r .value) v)
 
 -- what a record that opens and closes no block does
 abbrev pub recordEffect : List ℕ → Rec → List ℕ → Effect

@@ -5,10 +5,11 @@ use mathlib.Core.Bool.{Bool, false, cond, _||_}
 use mathlib.Core.List.{List}
 use lib.Dec.{eqb, ltb}
 use lib.ListN.{length}
+use Rattle.model.specs.Limits.{portCount}
 use Rattle.model.specs.Records.{Rec}
 use Rattle.model.specs.Runs.{isOverrun, Run}
 use Rattle.stepping.specs.declared.progress.Progress.{Progress}
-use Rattle.stepping.specs.Machines.{held, affect, Machine, machine, runs, recordEffect}
+use Rattle.stepping.specs.Machines.{cellCount, held, affect, Machine, machine, runs, recordEffect}
 
 -- less, equal or more
 abbrev pub ordered : ℕ → ℕ → ℕ
@@ -16,8 +17,8 @@ ordered a b = cond (ltb a b) 0 (cond (eqb a b) 1 2)
 
 -- what a run is lent: inputs and cells
 pub record Lent (ins w : List ℕ) : Type 0 where
-  pub inputs : length ins ≡ 8
-  pub cells : length w ≡ 50
+  pub inputs : length ins ≡ portCount
+  pub cells : length w ≡ cellCount
 
 -- the machine at tick t, and where a function left it
 abbrev pub going : ℕ → List ℕ → Machine

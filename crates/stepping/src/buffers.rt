@@ -2,20 +2,23 @@
 ghost use mathlib.Core.Path.{_≡_};
 ghost use Prim.Native.Nat.{_*_};
 ghost use lib.ListN.{length};
+ghost use Rattle.model.specs.Limits.{portCount, variableCount};
 ghost use Rattle.model.specs.Stopping.{words, wordsFrom};
 ghost use Rattle.model.proofs.Bytes.{Bytes};
-ghost use Rattle.stepping.specs.Machines.{held};
+ghost use Rattle.stepping.specs.Machines.{cellCount, held};
 ghost use Rattle.stepping.specs.Buffers.{Sized, Stored, withVariables, withOutputs};
+use crate::cells::LEVELS;
+use crate::cells::MARKS;
 use records::words::copy;
 use records::words::put_word;
 use records::words::word_at;
 
 // The variables that a run starts with.
 pub fn load_variables(cells: &mut [u32], variables: &[u32])
-    requires { ⌜ (length (now cells) ≡ 50) × (length (now variables) ≡ 16) ⌝ }
+    requires { ⌜ (length (now cells) ≡ cellCount) × (length (now variables) ≡ variableCount) ⌝ }
     ensures { λ _. ⌜ held (now (cells .exit)) ≡ withVariables (now (variables .entry)) (held (now (cells .entry))) ⌝ }
 {
-    copy(variables, &mut cells[..16]);
+    copy(variables, &mut cells[..LEVELS]);
 }
 
 fn load_marks(marks: &[u8], to: &mut [u32])
@@ -31,10 +34,10 @@ fn load_marks(marks: &[u8], to: &mut [u32])
 
 // The outputs that a run taken up starts with.
 pub fn load_outputs(cells: &mut [u32], levels: &[u32], marks: &[u8])
-    requires { ⌜ (length (now cells) ≡ 50) × (length (now levels) ≡ 8) × (length (now marks) ≡ 8) ⌝ }
+    requires { ⌜ (length (now cells) ≡ cellCount) × (length (now levels) ≡ portCount) × (length (now marks) ≡ portCount) ⌝ }
     ensures { λ _. ⌜ held (now (cells .exit)) ≡ withOutputs (now (levels .entry)) (now (marks .entry)) (held (now (cells .entry))) ⌝ }
 {
-    copy(levels, &mut cells[16..24]);
+    copy(levels, &mut cells[LEVELS..MARKS]);
     load_marks(marks, &mut cells[24..32]);
 }
 
@@ -54,8 +57,8 @@ pub fn store(cells: &[u32], variables: &mut [u32], levels: &mut [u32], marks: &m
     requires { ⌜ (Sized (now cells) (now variables) (now levels) (now marks)) × (Bytes (held (now cells) .marks)) ⌝ }
     ensures { λ _. ⌜ Stored (held (now (cells .entry))) (now (variables .exit)) (now (levels .exit)) (now (marks .exit)) ⌝ }
 {
-    copy(&cells[..16], variables);
-    copy(&cells[16..24], levels);
+    copy(&cells[..LEVELS], variables);
+    copy(&cells[LEVELS..MARKS], levels);
     store_marks(&cells[24..32], marks);
 }
 

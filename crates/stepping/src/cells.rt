@@ -3,23 +3,28 @@
 ghost use mathlib.Core.Path.{_≡_};
 ghost use Prim.Native.Nat.{_+_, _≤_, _<_};
 ghost use lib.ListN.{length, getD};
+ghost use Rattle.model.specs.Limits.{portCount, variableCount};
 ghost use Rattle.model.specs.Runs.{assigns, outputs, saves};
-ghost use Rattle.stepping.specs.Machines.{held, affect};
+ghost use Rattle.stepping.specs.Machines.{cellCount, held, affect};
+use model::limits::PORTS;
+use model::limits::VARIABLES;
 use records::words::copy;
 
-const LEVELS: usize = 16;
+pub const CELLS: usize = 50;
 
-const MARKS: usize = 24;
+pub const LEVELS: usize = VARIABLES;
 
-pub const INDEX: usize = 32;
+pub const MARKS: usize = LEVELS + PORTS;
 
-const TICK: usize = 33;
+pub const INDEX: usize = MARKS + PORTS;
 
-const SAVED: usize = 34;
+const TICK: usize = INDEX + 1;
+
+const SAVED: usize = TICK + 1;
 
 // A variable's value.
 pub fn variable(cells: &[u32], a: usize) -> u32
-    requires { ⌜ (length (now cells) ≡ 50) × (a < 16) ⌝ }
+    requires { ⌜ (length (now cells) ≡ cellCount) × (a < variableCount) ⌝ }
     ensures { λ r. ⌜ r ≡ getD (held (now (cells .entry)) .variables) a 0 ⌝ }
 {
     cells[a]
@@ -27,7 +32,7 @@ pub fn variable(cells: &[u32], a: usize) -> u32
 
 // A value put into a variable.
 pub fn assign(cells: &mut [u32], a: usize, x: u32)
-    requires { ⌜ (length (now cells) ≡ 50) × (a < 16) ⌝ }
+    requires { ⌜ (length (now cells) ≡ cellCount) × (a < variableCount) ⌝ }
     ensures { λ _. ⌜ held (now (cells .exit)) ≡ affect 0 0 (assigns a x) (held (now (cells .entry))) ⌝ }
 {
     cells[a] = x;
@@ -35,7 +40,7 @@ pub fn assign(cells: &mut [u32], a: usize, x: u32)
 
 // A level written to a port, and the port's mark.
 pub fn output(cells: &mut [u32], p: usize, x: u32)
-    requires { ⌜ (length (now cells) ≡ 50) × (p < 8) ⌝ }
+    requires { ⌜ (length (now cells) ≡ cellCount) × (p < portCount) ⌝ }
     ensures { λ _. ⌜ held (now (cells .exit)) ≡ affect 0 0 (outputs p x) (held (now (cells .entry))) ⌝ }
 {
     cells[LEVELS + p] = x;
@@ -44,11 +49,11 @@ pub fn output(cells: &mut [u32], p: usize, x: u32)
 
 // The image of a SAVE that ends at `tick`, before the record with that index.
 pub fn save(cells: &mut [u32], index: u32, tick: u32)
-    requires { ⌜ (length (now cells) ≡ 50) × (1 ≤ index) ⌝ }
+    requires { ⌜ (length (now cells) ≡ cellCount) × (1 ≤ index) ⌝ }
     ensures { λ _. ⌜ held (now (cells .exit)) ≡ affect index tick (saves 0) (held (now (cells .entry))) ⌝ }
 {
-    let mut variables: [u32; 16] = [0; 16];
-    copy(&cells[..16], &mut variables);
+    let mut variables: [u32; VARIABLES] = [0; VARIABLES];
+    copy(&cells[..VARIABLES], &mut variables);
     copy(&variables, &mut cells[SAVED..]);
     cells[INDEX] = index;
     cells[TICK] = tick;

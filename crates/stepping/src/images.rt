@@ -1,8 +1,9 @@
 // Images: the last one that a run holds, written to a lent buffer, and whether one can be taken up.
 ghost use mathlib.Core.Path.{_≡_};
 ghost use lib.ListN.{length};
+ghost use Rattle.model.specs.Limits.{imageLength};
 ghost use Rattle.model.specs.Replies.{afterSave};
-ghost use Rattle.stepping.specs.Machines.{held};
+ghost use Rattle.stepping.specs.Machines.{cellCount, held};
 ghost use Rattle.stepping.specs.Buffers.{StoredImage};
 use crate::buffers::store_words;
 use crate::cells::INDEX;
@@ -10,7 +11,7 @@ use records::kinds;
 
 // The image in the cells, if there is one.
 pub fn store_image(cells: &[u32], image: &mut [u8]) -> bool
-    requires { ⌜ (length (now cells) ≡ 50) × (length (now image) ≡ 72) ⌝ }
+    requires { ⌜ (length (now cells) ≡ cellCount) × (length (now image) ≡ imageLength) ⌝ }
     ensures { λ r. ⌜ StoredImage (held (now (cells .entry)) .image) (now (image .entry)) (now (image .exit)) r ⌝ }
 {
     if cells[INDEX] == 0 {

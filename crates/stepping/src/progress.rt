@@ -3,11 +3,12 @@ ghost use mathlib.Core.Path.{_≡_};
 ghost use mathlib.Core.Bool.{true, false};
 ghost use Prim.Native.Nat.{_+_, _≤_, _<_};
 ghost use lib.ListN.{length};
+ghost use Rattle.model.specs.Limits.{fileRecords};
 ghost use Rattle.model.specs.Refusals.{testFits, fieldsFit};
 ghost use Rattle.model.specs.Runs.{single, lastTest};
 ghost use Rattle.records.specs.Records.{recordOf};
 ghost use Rattle.reading.specs.Ranges.{testOf};
-ghost use Rattle.stepping.specs.Machines.{recordEffect};
+ghost use Rattle.stepping.specs.Machines.{cellCount, recordEffect};
 ghost use Rattle.stepping.specs.Steps.{Lent, halted, Ran};
 use crate::steps::act;
 use crate::steps::test_holds;
@@ -65,7 +66,7 @@ pub fn run_step(
     tick: u32,
     cells: &mut [u32],
 ) -> Progress
-    requires { ⌜ (Lent (now inputs) (now cells)) × (fieldsFit (recordOf r) ≡ true) × (i < 5461) × (tick ≤ limit) × (r .kind ≡ kind) ⌝ }
+    requires { ⌜ (Lent (now inputs) (now cells)) × (fieldsFit (recordOf r) ≡ true) × (i < fileRecords) × (tick ≤ limit) × (r .kind ≡ kind) ⌝ }
     ensures { λ e. ⌜ Ran limit (single lasts i (recordEffect (now (inputs .entry)) (recordOf r))) (i + 1) tick (now (cells .entry)) (now (cells .exit)) e ⌝ }
 {
     if limit - tick < lasts {
@@ -91,7 +92,7 @@ pub fn run_last_test(
     tick: u32,
     cells: &[u32],
 ) -> Progress
-    requires { ⌜ (length (now cells) ≡ 50) × (testFits (recordOf r) ≡ true) × (tick ≤ limit) ⌝ }
+    requires { ⌜ (length (now cells) ≡ cellCount) × (testFits (recordOf r) ≡ true) × (tick ≤ limit) ⌝ }
     ensures { λ e. ⌜ Ran limit (single 1 i (lastTest (testOf (recordOf r)))) next tick (now (cells .entry)) (now (cells .entry)) e ⌝ }
 {
     if limit <= tick {

@@ -3,16 +3,18 @@ ghost use mathlib.Core.Path.{_≡_};
 ghost use mathlib.Core.Bool.{true};
 ghost use Prim.Native.Nat.{_≤_, _<_};
 ghost use lib.ListN.{length};
+ghost use Rattle.model.specs.Limits.{byVariable, fileRecords, variableCount};
 ghost use Rattle.model.specs.Refusals.{testFits, setFits, fieldsFit};
 ghost use Rattle.model.specs.Runs.{rightValue, compares, holds, result};
 ghost use Rattle.records.specs.Records.{recordOf};
 ghost use Rattle.reading.specs.Ranges.{testOf};
-ghost use Rattle.stepping.specs.Machines.{held, setResult};
+ghost use Rattle.stepping.specs.Machines.{cellCount, held, setResult};
 ghost use Rattle.stepping.specs.Steps.{ordered, Lent, Acts};
 use crate::cells::assign;
 use crate::cells::output;
 use crate::cells::save;
 use crate::cells::variable;
+use model::limits::BY_VARIABLE;
 use records::Record;
 use records::kinds;
 use records::words::wrapping_mul;
@@ -21,10 +23,10 @@ use std::num::wrapping_sub_u32;
 
 // The right value of a test or an operation: a number, or a variable's value.
 fn right_value(cells: &[u32], op: u8, value: u32) -> u32
-    requires { ⌜ (length (now cells) ≡ 50) × (16 ≤ op → value < 16) ⌝ }
+    requires { ⌜ (length (now cells) ≡ cellCount) × (byVariable ≤ op → value < variableCount) ⌝ }
     ensures { λ r. ⌜ r ≡ rightValue op value (held (now (cells .entry)) .variables) ⌝ }
 {
-    if 16 <= op {
+    if BY_VARIABLE <= op {
         return variable(cells, value as usize);
     }
     value
@@ -56,12 +58,12 @@ fn compare(relation: u8, a: u32, b: u32) -> bool
 
 // Whether the test in a record holds.
 pub fn test_holds(cells: &[u32], r: Record) -> bool
-    requires { ⌜ (length (now cells) ≡ 50) × (testFits (recordOf r) ≡ true) ⌝ }
+    requires { ⌜ (length (now cells) ≡ cellCount) × (testFits (recordOf r) ≡ true) ⌝ }
     ensures { λ o. ⌜ o ≡ holds (testOf (recordOf r)) (held (now (cells .entry)) .variables) ⌝ }
 {
     let a = variable(cells, r.left as usize);
     let b = right_value(cells, r.op, r.value);
-    compare(r.op % 16, a, b)
+    compare(r.op % BY_VARIABLE, a, b)
 }
 
 fn compute(op: u8, a: u32, b: u32) -> u32
@@ -77,17 +79,17 @@ fn compute(op: u8, a: u32, b: u32) -> u32
 
 // The result of a SET's operation.
 pub fn set_value(cells: &[u32], r: Record) -> u32
-    requires { ⌜ (length (now cells) ≡ 50) × (setFits (recordOf r) ≡ true) ⌝ }
+    requires { ⌜ (length (now cells) ≡ cellCount) × (setFits (recordOf r) ≡ true) ⌝ }
     ensures { λ x. ⌜ x ≡ setResult (recordOf r) (held (now (cells .entry)) .variables) ⌝ }
 {
     let a = variable(cells, r.left as usize);
     let b = right_value(cells, r.op, r.value);
-    compute(r.op % 16, a, b)
+    compute(r.op % BY_VARIABLE, a, b)
 }
 
 // What a record of that kind does at the tick where it ends, before the record `next`; whether it overran.
 pub fn act(kind: u8, r: Record, next: usize, tick: u32, inputs: &[u32], cells: &mut [u32]) -> bool
-    requires { ⌜ (Lent (now inputs) (now cells)) × (fieldsFit (recordOf r) ≡ true) × (1 ≤ next) × (next ≤ 5461) × (r .kind ≡ kind) ⌝ }
+    requires { ⌜ (Lent (now inputs) (now cells)) × (fieldsFit (recordOf r) ≡ true) × (1 ≤ next) × (next ≤ fileRecords) × (r .kind ≡ kind) ⌝ }
     ensures { λ o. ⌜ Acts (now (inputs .entry)) (recordOf r) next tick (now (cells .entry)) (now (cells .exit)) o ⌝ }
 {
     let target = r.target as usize;

@@ -13,7 +13,7 @@ use Rattle.model.specs.Equalising.{F, merge, equalise}
 use Rattle.model.specs.Layout.{layout, total}
 use Rattle.model.specs.Stopping.{upto, none, lastImage}
 use Rattle.model.specs.Answers.{finished}
-use Rattle.model.specs.Replies.{fileTime, equalisedTree, equaliseReply, laidTree, laidTotal, layOutReply}
+use Rattle.model.specs.Replies.{savedAt, fileTime, equalisedTree, equaliseReply, laidTree, laidTotal, layOutReply}
 use Rattle.model.specs.Replies.{Loan, stepsOf, imageAt, stopReply, stopBuffers, imageOver, stopImage}
 use Rattle.model.specs.Placement.{Fits}
 use Rattle.model.specs.Chain.{Outputs, lend, takenUpSteps, imageTick}
@@ -28,7 +28,7 @@ use Rattle.theory.proofs.TakenUp.{laid-again}
 use Rattle.theory.proofs.Stops.{beyond, upto-beyond, upto-only, upto-all, upto-ended}
 use Rattle.theory.proofs.Accepted.{equalise-accepted, lay-out-accepted, Runnable, timed, stop-accepted}
 use Rattle.theory.proofs.Files.{task-runnable, equalised-runnable, equalised-written, laid-runnable, laid-written}
-use Rattle.theory.proofs.Running.{good-lengths, savedAt, steps, run-steps}
+use Rattle.theory.proofs.Running.{good-lengths, steps, run-steps}
 use Rattle.theory.proofs.StoppedOnce.{tick-taken, steps-taken, answered}
 use Rattle.theory.specs.Demand2.{Equalises, LaidSteps, TakesUp, LaysOut, Stops, Demand2}
 

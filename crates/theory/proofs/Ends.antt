@@ -13,7 +13,7 @@ use Rattle.model.specs.Runs.{Step, duration, level, mark, run}
 use Rattle.model.specs.Equalising.{equalise}
 use Rattle.model.specs.Layout.{layout}
 use Rattle.model.specs.Stopping.{upto, none}
-use Rattle.model.specs.Replies.{Loan, badBuffers, stepsOf, runReply, stopReply, ended}
+use Rattle.model.specs.Replies.{savedAt, Loan, badBuffers, stepsOf, runReply, stopReply, ended}
 use Rattle.model.specs.Timeline.{endedBy, lastSaveEnd}
 use Rattle.model.specs.Answers.{isFinished, valueAt}
 use Rattle.model.specs.Chain.{Set, Outputs, Chain, LentSet, LentOutputs, Lent, equalising, layingOut, laidFile, lend, plainLoan, preparedLoan, wholeLoan, stoppedLoan}
@@ -24,7 +24,7 @@ use Rattle.theory.proofs.Twice.{saved-tick}
 use Rattle.theory.proofs.Stops.{upto-ended}
 use Rattle.theory.proofs.Accepted.{Runnable}
 use Rattle.theory.proofs.Files.{fileOf}
-use Rattle.theory.proofs.Running.{LentLengths, lengths-good, savedAt, steps, run-answer, run-leaves, stop-answer}
+use Rattle.theory.proofs.Running.{LentLengths, lengths-good, steps, run-answer, run-leaves, stop-answer}
 use Rattle.theory.proofs.StoppedOnce.{endFrom, EndsAs, ends-alike, soon, image-early}
 use Rattle.theory.proofs.Prepared.{Prepared, prepared}
 

@@ -12,14 +12,10 @@ use Rattle.model.specs.Trees.{Block, fileTree}
 use Rattle.model.specs.Runs.{Step, duration, Buffers, leave, cleared, run}
 use Rattle.model.specs.Stopping.{upto, Image, Saved, none, lastImage, imageOf, start, takeUp}
 use Rattle.model.specs.Answers.{finished, bit}
-use Rattle.model.specs.Replies.{badBuffers, badImageLength, ended, stepsOf, runReply, runBuffers, imageAt, isSaved, stopReply, stopBuffers, imageOver, stopImage}
+use Rattle.model.specs.Replies.{savedAt, badBuffers, badImageLength, ended, stepsOf, runReply, runBuffers, imageAt, isSaved, stopReply, stopBuffers, imageOver, stopImage}
 use Rattle.model.specs.Replies.{takenUp, takenBuffers, afterSave, resumeReply, resumeBuffers, restartReply, restartBuffers}
 use Rattle.model.specs.Chain.{Outputs, lend}
 use Rattle.theory.proofs.Accepted.{neither, Runnable, readied}
-
--- the image of the last SAVE that is finished at the stop
-abbrev pub savedAt : ℕ → List Step → List ℕ → Saved
-savedAt stop es v = lastImage (upto stop es) 0 v none
 
 -- what steps from an image on leave, with the outputs o before
 abbrev pub onward : List Step → Image → Outputs → Buffers

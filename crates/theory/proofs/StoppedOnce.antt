@@ -12,7 +12,7 @@ use Rattle.model.specs.Trees.{Block}
 use Rattle.model.specs.Runs.{Step, duration, outputsAfter, level, mark, overran, leave, cleared, run}
 use Rattle.model.specs.Stopping.{upto, Image, Saved, none, saved, imageBytes, imageOf, start, takeUp}
 use Rattle.model.specs.Answers.{bit, valueAt, isFinished}
-use Rattle.model.specs.Replies.{Loan, badBuffers, ended, isSaved, imageOver, stopBuffers, stopImage, takenUp, resumeReply, resumeBuffers, restartReply, restartBuffers}
+use Rattle.model.specs.Replies.{savedAt, Loan, badBuffers, ended, isSaved, imageOver, stopBuffers, stopImage, takenUp, resumeReply, resumeBuffers, restartReply, restartBuffers}
 use Rattle.model.specs.Placement.{Fits, Placed, StepsPlaced}
 use Rattle.model.specs.Chain.{Outputs, lend, hasImage, takingUp, takenUpBuffers, takenUpSteps, imageTick, End, endOf, takenUpEnd}
 use Rattle.model.proofs.Images.{image-length, image-back}
@@ -25,7 +25,7 @@ use Rattle.theory.proofs.Resuming.{orStart, taken-up}
 use Rattle.theory.proofs.Checkpoints.{checkpoint}
 use Rattle.theory.proofs.Accepted.{Runnable}
 use Rattle.theory.proofs.Files.{fileOf}
-use Rattle.theory.proofs.Running.{LentLengths, lengths-good, savedAt, onward, stop-answer, stop-leaves, stop-image}
+use Rattle.theory.proofs.Running.{LentLengths, lengths-good, onward, stop-answer, stop-leaves, stop-image}
 use Rattle.theory.proofs.Running.{taken, restart-answer, restart-leaves, resume-answer, resume-leaves}
 
 -- the end that steps from the start lead to

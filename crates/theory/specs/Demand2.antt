@@ -4,6 +4,7 @@ use mathlib.Core.Path.{_≡_}
 use mathlib.Core.Bool.{true, false}
 use mathlib.Core.List.{List, [], _∷_, _++_, map}
 use lib.ListN.{length, drop}
+use Rattle.model.specs.Limits.{variableCount}
 use Rattle.model.specs.declared.Settings.{Settings}
 use Rattle.model.specs.declared.Form.the-variants.{Task, Equalised, Laid}
 use Rattle.model.specs.Records.{bytes}
@@ -98,7 +99,7 @@ pub record LaysOut (s file out xs : List ℕ) : Type 0 where
   pub steps : (ins v : List ℕ) (o : Outputs) → LaidSteps (settingsOf s) (laidTotal s file) 0 (stepsOf (lend s Laid (laidBytes s file) ins v o))
   -- stopped at any tick before its end, with anything in the image buffer, and taken up, with any 16 numbers as lent variables
   pub taken-up : (ins v : List ℕ) (o : Outputs) (image spare : List ℕ) (stop : ℕ) (ys : List ℕ)
-      → stopReply (lend s Laid (laidBytes s file) ins v o) image stop ≡ finished ys → length spare ≡ 16
+      → stopReply (lend s Laid (laidBytes s file) ins v o) image stop ≡ finished ys → length spare ≡ variableCount
       → TakesUp (lend s Laid (laidBytes s file) ins v o) (laidTotal s file) image spare stop
 
 -- STOPPING

@@ -11,7 +11,7 @@ use Rattle.model.specs.Times.{time}
 use Rattle.model.specs.Answers.{refusal}
 use Rattle.model.specs.Replies.{timeReply}
 use Rattle.model.proofs.Sound.{sound-file}
-use Rattle.records.specs.declared.settings.Decoded.the-variants.{Valid, Refused}
+use Rattle.reading.specs.declared.Checked.the-variants.{Valid, Refused}
 use Rattle.reading.specs.Answers.{Reads}
 use Rattle.reading.proofs.Filled.{fills-file}
 use Rattle.reading.proofs.Entry.{read-sound}

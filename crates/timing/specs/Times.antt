@@ -5,6 +5,7 @@ use mathlib.Core.Bool.{cond}
 use mathlib.Core.List.{List, [], _∷_}
 use lib.Dec.{eqb, ltb}
 use lib.ListN.{getD}
+use Rattle.model.specs.Limits.{byVariable}
 use Rattle.model.specs.declared.Settings.{Settings}
 use Rattle.model.specs.Records.{Rec, SKIP, SET, READ, WRITE, WHILE, BEAT, SAVE}
 use Rattle.model.specs.Answers.{Verdict, finished, refused}
@@ -26,7 +27,7 @@ pub record Gives (p t : ℕ) (r : Time) : Type 0 where
 
 -- a record that opens and closes no block
 abbrev pub setTicks : Settings → ℕ → ℕ
-setTicks σ o = cond (eqb (o % 16) 3) (σ .multiply) (σ .set)
+setTicks σ o = cond (eqb (o % byVariable) 3) (σ .multiply) (σ .set)
 
 abbrev pub stepTicks : Settings → Rec → ℕ
 stepTicks σ r =

@@ -9,7 +9,8 @@ use blocks::block_time;
 use model::Form;
 use model::Refusal;
 use model::Timed;
-use records::settings::Decoded;
+use model::limits::FILE_DEPTH;
+use reading::Checked;
 use ticks::Time;
 
 // The file's time, or the first refusal of 6, 1 to 5 and 8.
@@ -18,9 +19,9 @@ pub fn time_file(settings: &[u8], form: Form, file: &[u8]) -> Timed
 {
     let read = reading::read(settings, form, file);
     match read {
-        Decoded::Refused(x) => Timed::Refused(x),
-        Decoded::Valid(n) => {
-            let time = block_time(file, 0, file.len() / 12, 16, n);
+        Checked::Refused(x) => Timed::Refused(x),
+        Checked::Valid(n) => {
+            let time = block_time(file, 0, file.len() / 12, FILE_DEPTH, n);
             match time {
                 Time::Ticks(t) => Timed::Ticks(t),
                 Time::OverPeriod => Timed::Refused(Refusal::OverPeriod),

@@ -2,9 +2,11 @@
 ghost use mathlib.Core.Path.{_≡_};
 ghost use Prim.Native.Nat.{ℕ, _+_, _-_, _%_, _^_, _≤_, max};
 ghost use lib.Dec.{eqb};
+ghost use Rattle.model.specs.Limits.{byVariable};
 ghost use Rattle.records.specs.Records.{recordOf};
 ghost use Rattle.timing.specs.Times.{Gives, setTicks, stepTicks, settingsIn, roundTicks, loopTicks};
 use model::Settings;
+use model::limits::BY_VARIABLE;
 use records::Record;
 use records::kinds;
 
@@ -46,9 +48,9 @@ pub fn later(x: u32, y: u32) -> u32
 
 // Whether a SET of that operation multiplies.
 fn multiplies(op: u8) -> bool
-    ensures { λ r. ⌜ r ≡ eqb (op % 16) 3 ⌝ }
+    ensures { λ r. ⌜ r ≡ eqb (op % byVariable) 3 ⌝ }
 {
-    op % 16 == 3
+    op % BY_VARIABLE == 3
 }
 
 fn set_ticks(n: Settings, op: u8) -> u32

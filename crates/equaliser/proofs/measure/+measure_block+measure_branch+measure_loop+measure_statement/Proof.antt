@@ -9,9 +9,8 @@ use Rattle.model.specs.Records.{Rec, kindAt}
 use Rattle.records.proofs.Blocks.{one-skip}
 use Rattle.reading.specs.Closing.{opensBlock, closesBlock}
 use Rattle.reading.proofs.Standing.{closing-told}
-use Rattle.equaliser.proofs.StatementSizes.{plain-size, first-asks, first-late, middle-early, middle-late, second-asks, first-small, second-late}
-use Rattle.equaliser.proofs.StatementSizes.{end-early, second-small, branch-long, branch-size}
-use Rattle.equaliser.proofs.StatementSizes.{body-asks, body-late, body-early, body-small, loop-long, loop-size}
+use Rattle.equaliser.proofs.StatementSizes.{plain-size, first-asks, first-late, first-on, first-early, first-small, first-long, loop-size}
+use Rattle.equaliser.proofs.StatementSizes.{second-asks, second-late, second-early, second-small, second-long, branch-size}
 use Rattle.equaliser.proofs.Measured.{Measured, measured-start, measured-few, measured-all, measured-closed, measured-asks, measured-over, measured-past, measured-on, measured-next}
 use borrow.Fn.Kinds.{In}
 use borrow.Fn.PlainCycle.{Measures, is, falls, and}
@@ -144,7 +143,7 @@ measure-block-measure-statement-requires : (t : ℕ) → measure-block-lts.Need-
 measure-block-measure-statement-requires t c κs =
     let at-loop-test = c .before .before .before .before in
     let at-loop = at-loop-test .before in
-    (omega (arith, at-loop .loop .inv .on, at-loop-test .loop-test .taken), measured-asks (at-loop .loop .inv) (at-loop-test .loop-test .taken) (going t (c .before)))
+    (omega (arith, at-loop .loop .inv .walk .on, at-loop-test .loop-test .taken), measured-asks (at-loop .loop .inv) (at-loop-test .loop-test .taken) (going t (c .before)))
 
 measure-block-returns : (t : ℕ) → measure-block-lts.Need-returns (measure-block-claims t) (measure-block-at t) measure-block.Post measure-block-Inv-loop measure-block-μ-loop
 measure-block-returns t c =
@@ -189,17 +188,17 @@ measure-block-returns-4 t c = measured-closed (c .before .before .before .before
 measure-branch-measure-block-requires : (t : ℕ) → measure-branch-lts.Need-measure-block-requires (measure-branch-claims t) (measure-branch-at t) measure-branch.Post
 measure-branch-measure-block-requires t c κs =
     let start = c .before .before in
-    (omega arith, first-asks (start .pre .1 .0) (start .pre .1 .1))
+    (omega arith, first-asks (start .pre .1 .0) (ap opensBlock (start .pre .1 .1)))
 
 measure-branch-returns : (t : ℕ) → measure-branch-lts.Need-returns (measure-branch-claims t) (measure-branch-at t) measure-branch.Post
 measure-branch-returns t c =
     let start = c .before .before .before .before .before in
-    first-late (start .pre .1 .0) (start .pre .1 .1) (c .before .before .measure-block .ensures) (c .enum-told .given .1)
+    first-late (start .pre .1 .0) (ap opensBlock (start .pre .1 .1)) (c .before .before .measure-block .ensures) (c .enum-told .given .1)
 
 measure-branch-add-measure-block-2 : (t : ℕ) → measure-branch-lts.Need-add-measure-block-2 (measure-branch-claims t) (measure-branch-at t) measure-branch.Post
 measure-branch-add-measure-block-2 t c =
     let start = c .before .before .before .before .before .before .before in
-    omega (arith, middle-early (start .pre .1 .0) (start .pre .1 .1) (c .before .before .before .before .measure-block .ensures) (c .before .before .one .given .1))
+    omega (arith, first-early (start .pre .1 .0) (ap opensBlock (start .pre .1 .1)) (c .before .before .before .before .measure-block .ensures) (c .before .before .one .given .1))
 
 measure-branch-measure-block-requires-2 : (t : ℕ) → measure-branch-lts.Need-measure-block-requires-2 (measure-branch-claims t) (measure-branch-at t) measure-branch.Post
 measure-branch-measure-block-requires-2 t c κs =
@@ -210,7 +209,7 @@ measure-branch-measure-block-requires-2 t c κs =
         arith,
         start .pre .0,
         start .pre .1 .0 .statement .early,
-        middle-late (start .pre .1 .0) (start .pre .1 .1) (at-measure-block .measure-block .ensures)
+        first-on (start .pre .1 .0) (ap opensBlock (start .pre .1 .1)) (at-measure-block .measure-block .ensures)
             (at-one .one .given .1),
       ),
       second-asks (start .pre .1 .0) (start .pre .1 .1) (at-measure-block .measure-block .ensures) (at-one .one .given .1),
@@ -227,17 +226,17 @@ measure-branch-keep-requires : (t : ℕ) → measure-branch-lts.Need-keep-requir
 measure-branch-keep-requires t c κs =
     let at-one = c .before .before .before .before .before .before .before .before .before .before in
     let start = at-one .before .before .before .before .before in (
-      branch-long (start .pre .1 .0) (start .pre .1 .1) (at-one .before .before .measure-block .ensures) (at-one .one .given .1)
-          (c .before .before .before .before .before .before .measure-block2 .ensures) (c .before .before .before .before .two .given .1),
+      second-long (start .pre .1 .0) (start .pre .1 .1) (at-one .before .before .measure-block .ensures) (at-one .one .given .1)
+          (c .before .before .before .before .before .before .measure-block2 .ensures),
       omega
-          (arith, start .pre .1 .0 .statement .early, start .pre .1 .0 .statement .task .few),
+          (arith, start .pre .1 .0 .statement .early, start .pre .1 .0 .few),
     )
 
 measure-branch-padded-records-requires : (t : ℕ) → measure-branch-lts.Need-padded-records-requires (measure-branch-claims t) (measure-branch-at t) measure-branch.Post
 measure-branch-padded-records-requires t c κs =
     let at-one = c .before .before .before .before .before .before .before .before .before .before .before in
     let start = at-one .before .before .before .before .before in
-    first-small (start .pre .1 .0) (start .pre .1 .1) (at-one .before .before .measure-block .ensures) (at-one .one .given .1)
+    first-small (start .pre .1 .0) (ap opensBlock (start .pre .1 .1)) (at-one .before .before .measure-block .ensures) (at-one .one .given .1)
 
 measure-branch-padded-records-requires-2 : (t : ℕ) → measure-branch-lts.Need-padded-records-requires-2 (measure-branch-claims t) (measure-branch-at t) measure-branch.Post
 measure-branch-padded-records-requires-2 t c κs =
@@ -267,10 +266,10 @@ measure-branch-add-t24 t c =
     let start = at-measure-block .before .before .before in
     omega (
       arith,
-      end-early (start .pre .1 .0) (start .pre .1 .1) (at-measure-block .measure-block .ensures)
+      second-early (start .pre .1 .0) (start .pre .1 .1) (at-measure-block .measure-block .ensures)
           (at-two .before .before .before .before .before .before .one .given .1) (at-two .before .before .measure-block2 .ensures) (at-two .two .given .1),
       start .pre .1 .0
-          .statement .task .few,
+          .few,
     )
 
 measure-branch-returns-3 : (t : ℕ) → measure-branch-lts.Need-returns-3 (measure-branch-claims t) (measure-branch-at t) measure-branch.Post
@@ -287,24 +286,24 @@ measure-branch-returns-3 t c =
 measure-loop-measure-block-requires : (t : ℕ) → measure-loop-lts.Need-measure-block-requires (measure-loop-claims t) (measure-loop-at t) measure-loop.Post
 measure-loop-measure-block-requires t c κs =
     let start = c .before .before in
-    (omega arith, body-asks (start .pre .1 .0) (start .pre .1 .2) (start .pre .1 .3))
+    (omega arith, first-asks (start .pre .1 .0) (start .pre .1 .2))
 
 measure-loop-returns : (t : ℕ) → measure-loop-lts.Need-returns (measure-loop-claims t) (measure-loop-at t) measure-loop.Post
 measure-loop-returns t c =
     let start = c .before .before .before .before .before in
-    body-late (start .pre .1 .0) (start .pre .1 .2) (start .pre .1 .3) (c .before .before .measure-block .ensures) (c .enum-told .given .1)
+    first-late (start .pre .1 .0) (start .pre .1 .2) (c .before .before .measure-block .ensures) (c .enum-told .given .1)
 
 measure-loop-keep-requires : (t : ℕ) → measure-loop-lts.Need-keep-requires (measure-loop-claims t) (measure-loop-at t) measure-loop.Post
 measure-loop-keep-requires t c κs =
     let start = c .before .before .before .before .before .before .before in (
-      loop-long (start .pre .1 .0) (start .pre .1 .2) (start .pre .1 .3) (c .before .before .before .before .measure-block .ensures) (c .before .before .time .given .1),
-      omega (arith, start .pre .1 .0 .statement .early, start .pre .1 .0 .statement .task .few),
+      first-long (start .pre .1 .0) (start .pre .1 .2) (c .before .before .before .before .measure-block .ensures),
+      omega (arith, start .pre .1 .0 .statement .early, start .pre .1 .0 .few),
     )
 
 measure-loop-padded-records-requires : (t : ℕ) → measure-loop-lts.Need-padded-records-requires (measure-loop-claims t) (measure-loop-at t) measure-loop.Post
 measure-loop-padded-records-requires t c κs =
     let start = c .before .before .before .before .before .before .before .before in
-    body-small (start .pre .1 .0) (start .pre .1 .2) (start .pre .1 .3) (c .before .before .before .before .before .measure-block .ensures)
+    first-small (start .pre .1 .0) (start .pre .1 .2) (c .before .before .before .before .before .measure-block .ensures)
     (c .before .before .before .time .given .1)
 
 measure-loop-add-sides : (t : ℕ) → measure-loop-lts.Need-add-sides (measure-loop-claims t) (measure-loop-at t) measure-loop.Post
@@ -334,9 +333,9 @@ measure-loop-add-t20 t c =
     let start = at-time .before .before .before .before .before in
     omega (
       arith,
-      body-early (start .pre .1 .0) (start .pre .1 .2) (start .pre .1 .3) (at-time .before .before .measure-block .ensures) (at-time .time .given .1),
+      first-early (start .pre .1 .0) (start .pre .1 .2) (at-time .before .before .measure-block .ensures) (at-time .time .given .1),
       start
-          .pre .1 .0 .statement .task .few,
+          .pre .1 .0 .few,
     )
 
 measure-loop-returns-2 : (t : ℕ) → measure-loop-lts.Need-returns-2 (measure-loop-claims t) (measure-loop-at t) measure-loop.Post

@@ -138,7 +138,7 @@ write-block-write-statement-requires t c κs =
     let at-loop-test = c .before .before .before .before in
     let at-loop = at-loop-test .before in
     let start = at-loop .before .before .before in (
-      omega (arith, start .pre .0, at-loop .loop .inv (start .pre .1) .on, at-loop-test .loop-test .taken),
+      omega (arith, start .pre .0, at-loop .loop .inv (start .pre .1) .walk .on, at-loop-test .loop-test .taken),
       statement-fits (start .pre .1)
           (at-loop .loop .inv (start .pre .1)) (at-loop-test .loop-test .taken) (going t (c .before)),
     )
@@ -317,7 +317,7 @@ write-branch-add-write-block-2 t c =
       arith,
       else-early (start .pre .1 .0) (start .pre .1 .1) (start .pre .1 .2) (branch-else t (c .before .before .before) (start .pre .1 .0)),
       start .pre .1 .0
-          .statement .task .few,
+          .few,
     )
 
 write-branch-sub-write-block-2 : (t : ℕ) → write-branch-lts.Need-sub-write-block-2 (write-branch-claims t) (write-branch-at t) write-branch.Post
@@ -376,8 +376,7 @@ write-branch-add-t15 t c =
     omega (
       arith,
       end-early (start .pre .1 .0) (start .pre .1 .1) (start .pre .1 .2) (branch-second t at-write-block2 (start .pre .1 .0)),
-      start .pre .1 .0 .statement
-          .task .few,
+      start .pre .1 .0 .few,
     )
 
 write-branch-add-t30 : (t : ℕ) → write-branch-lts.Need-add-t30 (write-branch-claims t) (write-branch-at t) write-branch.Post
@@ -489,7 +488,7 @@ write-loop-add-t13 t c =
       arith,
       body-early (start .pre .1 .0) (start .pre .1 .1) (start .pre .1 .2) (start .pre .1 .3) (loop-body t at-write-block (start .pre .1 .0)),
       start .pre .1
-          .0 .statement .task .few,
+          .0 .few,
     )
 
 write-loop-returns : (t : ℕ) → write-loop-lts.Need-returns (write-loop-claims t) (write-loop-at t) write-loop.Post

@@ -122,7 +122,7 @@ run-while-claims t = (
 run-loop-record-at-requires : (t : ℕ) → run-loop-lts.Need-record-at-requires (run-loop-claims t) (run-loop-at t) run-loop.Post
 run-loop-record-at-requires t c κs =
     let w = c .before .before .before .before in
-    omega (arith, w .pre .1 .0 .reached .inside)
+    omega (arith, w .pre .1 .0 .at .early)
 
 run-loop-run-while-requires : (t : ℕ) → run-loop-lts.Need-run-while-requires (run-loop-claims t) (run-loop-at t) run-loop.Post
 run-loop-run-while-requires t c κs =
@@ -216,18 +216,18 @@ run-times-μ-loop s i ends r table inputs limit tick cells₀ body to next at₀
 run-times-add-body : (t : ℕ) → run-times-lts.Need-add-body (run-times-claims t) (run-times-at t) run-times.Post run-times-Inv-loop run-times-μ-loop
 run-times-add-body t c =
     let w = c .before .before .before .before in
-    omega (arith, w .pre .1 .0 .reached .inside, w .pre .1 .0 .reached .given .few)
+    omega (arith, w .pre .1 .0 .at .early, w .pre .1 .0 .given .few)
 
 run-times-last-requires : (t : ℕ) → run-times-lts.Need-last-requires (run-times-claims t) (run-times-at t) run-times.Post run-times-Inv-loop run-times-μ-loop
 run-times-last-requires t c κs =
     let w = c .before .before .before .before in
-    record { before = w .pre .1 .0 .reached .inside; few = w .pre .1 .0 .reached .given .few; table = w .pre .1 .0 .reached .given .table }
+    record { before = w .pre .1 .0 .at .early; few = w .pre .1 .0 .given .few; table = w .pre .1 .0 .given .table }
 
 run-times-run-last-test-requires : (t : ℕ) → run-times-lts.Need-run-last-test-requires (run-times-claims t) (run-times-at t) run-times.Post run-times-Inv-loop run-times-μ-loop
 run-times-run-last-test-requires t c κs =
     let w = c .before .before .before .before .before .before .before in
     let fits = test-there (w .pre .1 .0) (w .pre .1 .1) (ap opensBlock (w .pre .1 .2)) in
-    (w .pre .1 .0 .reached .given .lent .cells, fits, w .pre .1 .0 .reached .given .early)
+    (w .pre .1 .0 .given .lent .cells, fits, w .pre .1 .0 .given .early)
 
 run-times-returns : (t : ℕ) → run-times-lts.Need-returns (run-times-claims t) (run-times-at t) run-times.Post run-times-Inv-loop run-times-μ-loop
 run-times-returns t c =
@@ -242,7 +242,7 @@ run-times-loop-holds t c =
 run-times-run-records-requires : (t : ℕ) → run-times-lts.Need-run-records-requires (run-times-claims t) (run-times-at t) run-times.Post run-times-Inv-loop run-times-μ-loop
 run-times-run-records-requires t c κs =
     let w = c .before .before .before .before .before .before .before .before .before .before in
-    (omega (arith, w .pre .0, w .pre .1 .0 .reached .inside, w .pre .1 .0 .reached .given .few), loop-entered (c .before .before .before .loop .inv) (c .before .before .before .loop .inv .early))
+    (omega (arith, w .pre .0, w .pre .1 .0 .at .early, w .pre .1 .0 .given .few), loop-entered (c .before .before .before .loop .inv) (c .before .before .before .loop .inv .early))
 
 run-times-returns-2 : (t : ℕ) → run-times-lts.Need-returns-2 (run-times-claims t) (run-times-at t) run-times.Post run-times-Inv-loop run-times-μ-loop
 run-times-returns-2 t c =
@@ -280,12 +280,12 @@ run-while-μ-loop s i ends r table inputs limit tick cells₀ body to next at₀
 run-while-add-body : (t : ℕ) → run-while-lts.Need-add-body (run-while-claims t) (run-while-at t) run-while.Post run-while-Inv-loop run-while-μ-loop
 run-while-add-body t c =
     let w = c .before .before .before .before in
-    omega (arith, w .pre .1 .0 .reached .inside, w .pre .1 .0 .reached .given .few)
+    omega (arith, w .pre .1 .0 .at .early, w .pre .1 .0 .given .few)
 
 run-while-last-requires : (t : ℕ) → run-while-lts.Need-last-requires (run-while-claims t) (run-while-at t) run-while.Post run-while-Inv-loop run-while-μ-loop
 run-while-last-requires t c κs =
     let w = c .before .before .before .before in
-    record { before = w .pre .1 .0 .reached .inside; few = w .pre .1 .0 .reached .given .few; table = w .pre .1 .0 .reached .given .table }
+    record { before = w .pre .1 .0 .at .early; few = w .pre .1 .0 .given .few; table = w .pre .1 .0 .given .table }
 
 run-while-loop-holds : (t : ℕ) → run-while-lts.Need-loop-holds (run-while-claims t) (run-while-at t) run-while.Post run-while-Inv-loop run-while-μ-loop
 run-while-loop-holds t c =
@@ -313,7 +313,7 @@ run-while-run-records-requires : (t : ℕ) → run-while-lts.Need-run-records-re
 run-while-run-records-requires t c κs =
     let w = c .before .before .before .before .before .before .before in
     let v = w .before .before .before .before .before .before in
-    (omega (arith, v .pre .0, v .pre .1 .0 .reached .inside, v .pre .1 .0 .reached .given .few), loop-entered (w .loop .inv) (search needs))
+    (omega (arith, v .pre .0, v .pre .1 .0 .at .early, v .pre .1 .0 .given .few), loop-entered (w .loop .inv) (search needs))
 
 run-while-returns-3 : (t : ℕ) → run-while-lts.Need-returns-3 (run-while-claims t) (run-while-at t) run-while.Post run-while-Inv-loop run-while-μ-loop
 run-while-returns-3 t c =

@@ -30,7 +30,7 @@ run-one-requires : tie.Need-run-one-requires Inv-loop μ-loop
 run-one-requires c κs =
     let w = c .before .before .before .before in
     let R = w .before .loop .inv .rest in (
-      record { given = R .given; form = R .form; block = R .block; stands = R .stands; inside = omega (arith, running-inside R, w .loop-test .taken) },
+      record { given = R .given; form = R .form; file = R .chain .file; inside = omega (arith, running-inside R, w .loop-test .taken) },
       (c .before .before .before .record-at) .ensures,
       sym (c .before .before .loops .ensures) ∙ c .before .if1 .left,
     )

@@ -1,0 +1,25 @@
+// Document 01's limits and lengths, as specs/Limits.antt has them.
+// A task's records, and the records and bytes of the longest file.
+pub const TASK_RECORDS: usize = 256;
+
+pub const FILE_RECORDS: usize = 5461;
+
+pub const FILE_LENGTH: usize = 65532;
+// How deep a task and any other file nests.
+pub const TASK_DEPTH: usize = 8;
+
+pub const FILE_DEPTH: usize = 16;
+// Variables and ports.
+pub const VARIABLES: usize = 16;
+
+pub const PORTS: usize = 8;
+// Added to an operation or a relation whose right value numbers a variable.
+pub const BY_VARIABLE: u8 = 16;
+// The longest period, count of a SKIP and value of a BEAT, and the most rounds of a loop.
+pub const MOST_TICKS: u32 = 1000000;
+
+pub const MOST_ROUNDS: u32 = 65535;
+// The bytes of settings and of an image.
+pub const SETTINGS_LENGTH: usize = 12;
+
+pub const IMAGE_LENGTH: usize = 72;
