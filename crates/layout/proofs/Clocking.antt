@@ -16,6 +16,7 @@ use Rattle.model.proofs.Shapes.{or-cases, neither}
 use Rattle.records.specs.declared.Record.{Record}
 use Rattle.records.specs.Records.{recordOf}
 use Rattle.reading.specs.Closing.{closesBlock}
+use Rattle.reading.specs.Ranges.{firstPart, secondPart}
 use Rattle.timing.specs.Times.{stepTicks, settingsIn}
 use Rattle.placing.specs.declared.clock.State.{State}
 use Rattle.placing.specs.States.{Laying, Stepped, Skipped, backTo}
@@ -25,7 +26,6 @@ use Rattle.layout.specs.Idling.{AllIdle, IdleEnds}
 use Rattle.layout.specs.Meetings.{Noting, BlockMeasured, StatementMeasured}
 use Rattle.layout.specs.Lent.{loaded, placeIn, passage, Stored, Placed}
 use Rattle.layout.specs.Clocked.{StepStarts, StepEnds, BlockLent, StatementLent, BlockClocked, StatementClocked}
-use Rattle.reading.proofs.Walking.{if-at}
 use Rattle.layout.proofs.Lending.{passage-is}
 use Rattle.layout.proofs.Passing.{statement-next, passing-on}
 use Rattle.layout.proofs.PassingSteps.{step-short, is-act, act-lasts}
@@ -33,6 +33,7 @@ use Rattle.layout.proofs.PassingRounds as loops
 use Rattle.layout.proofs.PassingRounds.{Loop}
 use Rattle.layout.proofs.IdleLoops.{idle-measured}
 use Rattle.layout.proofs.PassingBranches as ifs
+use Rattle.layout.proofs.PassingBranches.{Tested}
 use Rattle.layout.proofs.Measuring.{statement-late, Measuring, measuring-start, measuring-few, measuring-closed, measuring-ended, measuring-late, measuring-next}
 use Rattle.layout.proofs.Measuring.{side-empty, skip-measured, act-measured, MeasuringRounds, loop-start, loop-few, loop-late, loop-next, loop-measured, first-few, branch-measured}
 
@@ -223,8 +224,8 @@ module _ {s : List ℕ} {i to : ℕ} {t c : List ℕ} (S : StatementLent s i to 
     pub idle-few : (length c ≡ 6) × (y .records ≤ 5462)
     idle-few = (S .lent .long, E .few)
 
-    pub idle-clocked : {m : ℕ} (O : Loop s i to (settingsIn t) (loaded c) m) {r : Idle} (A : AllIdle s (i + 1) to m (settingsIn t .period) r) → r .only ≡ true → n ≡ r .ticks
-        → {table d : List ℕ} → Stored y c d → StatementClocked s i to t c d table table (r .next + 1)
+    pub idle-clocked : {m : ℕ} (O : Loop s i to (settingsIn t) (loaded c) m) {r : Idle} (A : AllIdle s (i + 1) to m (settingsIn t .period) r) → r .only ≡ true
+        → n ≡ r .ticks → {table d : List ℕ} → Stored y c d → StatementClocked s i to t c d table table (r .next + 1)
     idle-clocked O {r} A o z {table} {d} D = record {
       measured = subst (StatementMeasured s i to (settingsIn t) (loaded c) (placeIn c) table table) (passage-is d (r .next + 1) (D .holds) (D .same))
           (idle-measured O A o (S .lent .few) (subst (λ (j : ℕ). IdleEnds (settingsIn t) j (loaded c) y) z (subst (λ (w : State). IdleEnds (settingsIn t) n w y) h E)));
@@ -245,19 +246,16 @@ module _ {s : List ℕ} {i to : ℕ} {t c : List ℕ} (S : StatementLent s i to 
   test-laying = subst (λ (τ : Settings). Laying τ x) (sym e) (subst (Laying σ) (sym g) (S .statement .ready .laying))
 
   module _ (k : kindAt s i ≡ IF) {test : State} (T′ : Stepped n x 1 test) where
-    pub T : Stepped σ (loaded c) 1 test
-    T = subst (λ (z : State). Stepped σ z 1 test) g (subst (λ (τ : Settings). Stepped τ x 1 test) e T′)
+    abbrev I : Tested s i to σ (loaded c) test
+    I = record { statement = S .statement; kind = k; stepped = subst (λ (z : State). Stepped σ z 1 test) g (subst (λ (τ : Settings). Stepped τ x 1 test) e T′) }
 
     pub test-few : (length c ≡ 6) × (test .records ≤ 5462)
-    test-few = (S .lent .long, ifs.tested (S .statement) k T .shows .few)
-
-    pub inside : i + 1 + size (ifs.one (S .statement) k T) + 1 + size (ifs.two (S .statement) k T) < to
-    inside = if-at (S .statement .here) k .ends
+    test-few = (S .lent .long, ifs.tested I .shows .few)
 
     module _ {c1 : List ℕ} (D1 : Stored test c c1) where
       pub test-late : {table : List ℕ} → σ .period < test .tick → StatementClocked s i to t c c1 table table i
       test-late {table} h = record {
-        measured = subst (StatementMeasured s i to σ (loaded c) (placeIn c) table table) (passage-is c1 i (D1 .holds) refl) (statement-late (ifs.test-late (S .statement) k T h) h);
+        measured = subst (StatementMeasured s i to σ (loaded c) (placeIn c) table table) (passage-is c1 i (D1 .holds) refl) (statement-late (ifs.test-late I h) h);
         long = D1 .long;
       }
 
@@ -270,7 +268,7 @@ module _ {s : List ℕ} {i to : ℕ} {t c : List ℕ} (S : StatementLent s i to 
 
         pub one-lent : BlockLent s (i + 1) to t c2
         one-lent = record {
-          entered = subst (Entered s (i + 1) to σ) (sym (P .same ∙ D1 .holds)) (ifs.one-entered (S .statement) k T h);
+          entered = subst (Entered s (i + 1) to σ) (sym (P .same ∙ D1 .holds)) (ifs.one-entered I h);
           lent = record { long = P .long; few = omega (arith, first-place) };
         }
 
@@ -282,21 +280,21 @@ module _ {s : List ℕ} {i to : ℕ} {t c : List ℕ} (S : StatementLent s i to 
             pub one-late : σ .period < y .tick → StatementClocked s i to t c c3 old mid j
             one-late l′ =
                 let l = subst (λ (z : State). σ .period < z .tick) p l′ in
-                record { measured = statement-late (ifs.one-late (S .statement) k T h (A .passed) l) l; long = A′ .long }
+                record { measured = statement-late (ifs.one-late I h (A .passed) l) l; long = A′ .long }
 
             module _ (l′ : y .tick ≤ σ .period) where
               l : loaded c3 .tick ≤ σ .period
               l = subst (λ (z : State). z .tick ≤ σ .period) p l′
 
-              pub one-goes : j ≡ i + 1 + size (ifs.one (S .statement) k T)
-              one-goes = ifs.one-goes (S .statement) k T h (A .passed) l
+              pub one-goes : j ≡ i + 1 + size (firstPart (S .statement .here .file .block))
+              one-goes = ifs.one-goes I h (A .passed) l
 
               module _ {z : State} (q : z ≡ backTo test 0 (y .records)) where
                 starts : z ≡ backTo test 0 (loaded c3 .records)
                 starts = q ∙ ap (λ (u : State). backTo test 0 (u .records)) p
 
                 pub start-few : (length c3 ≡ 6) × (z .records ≤ 5462)
-                start-few = (A′ .long, omega (arith, ap (λ (u : State). u .records) starts, ifs.one-after (S .statement) k T h (A .passed) l .shows .few))
+                start-few = (A′ .long, omega (arith, ap (λ (u : State). u .records) starts, ifs.one-after I h (A .passed) l .shows .few))
 
                 module _ {c4 : List ℕ} (D4 : Stored z c3 c4) where
                   holds : loaded c4 ≡ backTo test 0 (loaded c3 .records)
@@ -304,8 +302,8 @@ module _ {s : List ℕ} {i to : ℕ} {t c : List ℕ} (S : StatementLent s i to 
 
                   pub two-lent : BlockLent s (j + 1) to t c4
                   two-lent = record {
-                    entered = subst (Entered s (j + 1) to σ) (sym holds) (ifs.two-entered (S .statement) k T h (A .passed) l);
-                    lent = record { long = D4 .long; few = omega (arith, D4 .same, first-few (S .statement) k (S .lent .few) T h first-place A l) };
+                    entered = subst (Entered s (j + 1) to σ) (sym holds) (ifs.two-entered I h (A .passed) l);
+                    lent = record { long = D4 .long; few = omega (arith, D4 .same, first-few I h (S .lent .few) first-place A l) };
                   }
 
                   module _ {c5 end : List ℕ} {m : ℕ} (E′ : BlockClocked s (j + 1) to t c4 c5 mid end m) where
@@ -318,21 +316,21 @@ module _ {s : List ℕ} {i to : ℕ} {t c : List ℕ} (S : StatementLent s i to 
                       pub two-late : σ .period < w .tick → StatementClocked s i to t c c5 old end m
                       two-late v′ =
                           let v = subst (λ (u : State). σ .period < u .tick) o v′ in
-                          record { measured = statement-late (ifs.two-late (S .statement) k T h (A .passed) l (E .passed) v) v; long = E′ .long }
+                          record { measured = statement-late (ifs.two-late I h (A .passed) l (E .passed) v) v; long = E′ .long }
 
                       module _ (v′ : w .tick ≤ σ .period) where
                         v : loaded c5 .tick ≤ σ .period
                         v = subst (λ (u : State). u .tick ≤ σ .period) o v′
 
-                        pub two-goes : m ≡ i + 1 + size (ifs.one (S .statement) k T) + 1 + size (ifs.two (S .statement) k T)
-                        two-goes = ifs.two-goes (S .statement) k T h (A .passed) l (E .passed) v
+                        pub two-goes : m ≡ i + 1 + size (firstPart (S .statement .here .file .block)) + 1 + size (secondPart (S .statement .here .file .block))
+                        two-goes = ifs.two-goes I h (A .passed) l (E .passed) v
 
                         module _ {n2 : Settings} (f : n2 ≡ settingsIn t) where
                           pub both-meet : Meeting n2 y w
                           both-meet =
                               subst (λ (τ : Settings). Meeting τ y w) (sym f)
                               (subst (λ (u : State). Meeting σ u w) (sym p)
-                              (subst (λ (u : State). Meeting σ (loaded c3) u) (sym o) (ifs.meeting (S .statement) k T h (A .passed) l (E .passed) v)))
+                              (subst (λ (u : State). Meeting σ (loaded c3) u) (sym o) (ifs.meeting I h (A .passed) l (E .passed) v)))
 
                           module _ {r : State} (M′ : Meets n2 y w r) where
                             M : Meets σ (loaded c3) (loaded c5) r
@@ -343,14 +341,14 @@ module _ {s : List ℕ} {i to : ℕ} {t c : List ℕ} (S : StatementLent s i to 
                             pub met-few : (length c5 ≡ 6) × (r .records ≤ 5462)
                             met-few = (
                               E′ .long,
-                              M .right test (ifs.first (S .statement) k T) (ifs.second (S .statement) k T) (ifs.test-wait (S .statement) k T)
-                                  (ifs.one-after (S .statement) k T h (A .passed) l) (ifs.two-after (S .statement) k T h (A .passed) l (E .passed) v) .shows .few,
+                              M .right test (ifs.first I) (ifs.second I) (ifs.test-wait I)
+                                  (ifs.one-after I h (A .passed) l) (ifs.two-after I h (A .passed) l (E .passed) v) .shows .few,
                             )
 
                             pub branch-clocked : {c6 new : List ℕ} {a : ℕ} → Stored r c5 c6 → a ≡ placeIn c1 → Noting a (r .tick) end new → StatementClocked s i to t c c6 old new (m + 1)
                             branch-clocked {c6} {new} {a} D6 b N = record {
                               measured = subst (StatementMeasured s i to σ (loaded c) (placeIn c) old new) (passage-is c6 (m + 1) (D6 .holds) (D6 .same))
-                                  (branch-measured (S .statement) k (S .lent .few) T h first-place A l E v M
+                                  (branch-measured I h (S .lent .few) first-place A l E v M
                                   (subst (λ (u : ℕ). Noting u (r .tick) end new) (b ∙ D1 .same) N));
                               long = D6 .long;
                             }

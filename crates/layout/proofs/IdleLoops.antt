@@ -293,7 +293,8 @@ module _ {σ : Settings} {k : ℕ} {x : Rec} {s : State} {out : List ℕ} (F : I
 
 -- A LOOP OF THE FILE
 
-module _ {s : List ℕ} {i to : ℕ} {σ : Settings} {from : State} {c : ℕ} (O : Loop s i to σ from c) {r : Idle} (A : AllIdle s (i + 1) to c (σ .period) r) (o : r .only ≡ true) where
+module _ {s : List ℕ} {i to : ℕ} {σ : Settings} {from : State} {c : ℕ} (O : Loop s i to σ from c) {r : Idle} (A : AllIdle s (i + 1) to c (σ .period) r)
+    (o : r .only ≡ true) where
   the : IdleBody (loops.body O) (i + 1) c (σ .period) r
   the = A .right (loops.body O) (loops.opened O .first) o
 
@@ -305,7 +306,8 @@ module _ {s : List ℕ} {i to : ℕ} {σ : Settings} {from : State} {c : ℕ} (O
   idle-as =
       let A = loops.times-as O in
       let rest : Block → Block = λ b. before σ (from .tick + time σ b) 1 ⧺ act (check (loops.test O)) nil in
-      record { same = A .same ∙ ap (λ (b : Block). b ⧺ rest b) (the .same σ (O .statement .ready .laying .settings .fits) (from .tick) (O .statement .ready .free)); records = A .records }
+      let R = O .statement .ready in
+      record { same = A .same ∙ ap (λ (b : Block). b ⧺ rest b) (the .same σ (R .laying .settings .fits) (from .tick) (R .free)); records = A .records }
 
   -- its END stands at the next record
   pub idle-inside : r .next < to

@@ -21,7 +21,7 @@ use Rattle.placing.specs.States.{Stepped, Skipped, backTo}
 use Rattle.layout.specs.Ranges.{only}
 use Rattle.layout.specs.Measured.{laid, Meets, Entered, Statement, BlockPassed, StatementPassed}
 use Rattle.layout.specs.Meetings.{meetings, Noting, Noted, Notes, BlockMeasured, StatementMeasured}
-use Rattle.reading.proofs.Walking.{every, if-at, none-closed, none-ended}
+use Rattle.reading.proofs.Walking.{every, none-closed, none-ended}
 use Rattle.layout.proofs.Noting.{notes-++, notes-first, plain-step, plain-idles, noted-plain, noted-⧺}
 use Rattle.layout.proofs.Unrolled.{rounds, rounds-none}
 use Rattle.layout.proofs.Passing.{in-time, Passing, passing-start, left, all-done, passing-done, one, passing-late, passing-next}
@@ -29,6 +29,7 @@ use Rattle.layout.proofs.PassingSteps.{LaidAs, laid-every, skip-as, ski
 use Rattle.layout.proofs.PassingRounds as loops
 use Rattle.layout.proofs.PassingRounds.{PassingRounds}
 use Rattle.layout.proofs.PassingBranches as ifs
+use Rattle.layout.proofs.PassingBranches.{Tested}
 
 -- nothing is noted of what ends too late
 pub block-late : {s : List ℕ} {i to : ℕ} {σ : Settings} {at : State} {k : ℕ} {old new : List ℕ} {r : Passage} → BlockPassed s i to σ at r → σ .period < r .state .tick
@@ -97,7 +98,8 @@ pub noted-as : {s : List ℕ} {i to : ℕ} {σ : Settings} {from : State} {S : S
     → Noted σ c (from .tick) k n old new → (y : Block) → Stands Equalised s i to y → Noted σ (laid σ (only y) (from .tick)) (from .tick) k n old new
 noted-as {σ = σ} {from} {k = k} {n} {old} {new} A N y Y = laid-every (λ (d : Block) (m : ℕ). Noted σ d (from .tick) k n old new) A N y Y
 
-module _ {s : List ℕ} {i to : ℕ} {σ : Settings} {from : State} (S : Statement s i to σ from) {k : ℕ} (few : k ≤ 1821) {table : List ℕ} {x : Record} (e : recordOf x ≡ recordAt s i) where
+module _ {s : List ℕ} {i to : ℕ} {σ : Settings} {from : State} (S : Statement s i to σ from) {k : ℕ} (few : k ≤ 1821) {table : List ℕ} {x : Record}
+    (e : recordOf x ≡ recordAt s i) where
   pub skip-measured : x .kind ≡ SKIP → {r : State} → Skipped σ (x .count) from r
       → StatementMeasured s i to σ from k table table (record { state = r; next = i + 1; ifs = k })
   skip-measured h A = record {
@@ -165,31 +167,30 @@ module _ {s : List ℕ} {i to : ℕ} {σ : Settings} {from : State} {last : ℕ}
 
 -- AN IF
 
-module _ {s : List ℕ} {i to : ℕ} {σ : Settings} {from : State} (S : Statement s i to σ from) (c : kindAt s i ≡ IF) {k : ℕ} (few : k ≤ 1821) {test : State} (T : Stepped σ from 1 test)
-    (h : test .tick ≤ σ .period) where
+module _ {s : List ℕ} {i to : ℕ} {σ : Settings} {from test : State} (I : Tested s i to σ from test) (h : test .tick ≤ σ .period) {k : ℕ} (few : k ≤ 1821) where
   -- the first place behind its own
   module _ {n : ℕ} (e : n ≡ min (k + 1) 1821) {old mid : List ℕ} {a : Passage} (A : BlockMeasured s (i + 1) to σ test n old mid a) (l : a .state .tick ≤ σ .period) where
-    first-noted : Noted σ (ifs.first S c T) (test .tick) n (a .ifs) old mid
-    first-noted = A .noted (ifs.one S c T) (if-at (S .here) c .first) (in-time (A .passed .right (ifs.one S c T) (if-at (S .here) c .first)) l)
+    first-noted : Noted σ (ifs.first I) (test .tick) n (a .ifs) old mid
+    first-noted = A .noted (ifs.one I) (ifs.sides I .first) (in-time (A .passed .right (ifs.one I) (ifs.sides I .first)) l)
 
     pub first-few : a .ifs ≤ 1821
     first-few = omega (arith, first-noted .next)
 
     module _ {end : List ℕ} {d : Passage} (D : BlockMeasured s (a .next + 1) to σ (backTo test 0 (a .state .records)) (a .ifs) mid end d) (m : d .state .tick ≤ σ .period) where
-      second-noted : Noted σ (ifs.second S c T) (test .tick) (a .ifs) (d .ifs) mid end
+      second-noted : Noted σ (ifs.second I) (test .tick) (a .ifs) (d .ifs) mid end
       second-noted =
-          let there = ifs.two-in S c T h (A .passed) l .stands in
-          D .noted (ifs.two S c T) there (in-time (D .passed .right (ifs.two S c T) there) m)
+          let there = ifs.two-in I h (A .passed) l .stands in
+          D .noted (ifs.two I) there (in-time (D .passed .right (ifs.two I) there) m)
 
       module _ {r : State} (M : Meets σ (a .state) (d .state) r) {new : List ℕ} (N : Noting k (r .tick) end new) where
-        meets-at : r .tick ≡ ifs.end S c T
-        meets-at = M .right test (ifs.first S c T) (ifs.second S c T) (ifs.test-wait S c T) (ifs.one-after S c T h (A .passed) l) (ifs.two-after S c T h (A .passed) l (D .passed) m) .tick
+        meets-at : r .tick ≡ ifs.end I
+        meets-at = M .right test (ifs.first I) (ifs.second I) (ifs.test-wait I) (ifs.one-after I h (A .passed) l) (ifs.two-after I h (A .passed) l (D .passed) m) .tick
 
-        all-noted : Noted σ (ifs.whole S c T) (from .tick) k (d .ifs) old new
+        all-noted : Noted σ (ifs.whole I) (from .tick) k (d .ifs) old new
         all-noted =
-            let x = meetings σ (ifs.first S c T) (test .tick) in
-            let y = meetings σ (ifs.second S c T) (test .tick) in
-            let z = ifs.whole-meetings S c T in
+            let x = meetings σ (ifs.first I) (test .tick) in
+            let y = meetings σ (ifs.second I) (test .tick) in
+            let z = ifs.whole-meetings I in
             record {
               next = omega (arith, e, first-noted .next, second-noted .next, ap length z, length-append x y);
               notes = subst (λ (ms : List ℕ). Notes ms k old new) (sym z)
@@ -199,6 +200,6 @@ module _ {s : List ℕ} {i to : ℕ} {σ : Settings} {from : State} (S : Stateme
 
         pub branch-measured : StatementMeasured s i to σ from k old new (record { state = r; next = d .next + 1; ifs = d .ifs })
         branch-measured = record {
-          passed = ifs.branch-passed S c T h (A .passed) l (D .passed) m M;
-          noted = λ y Y w. noted-as (ifs.branch-as S c T) all-noted y Y;
+          passed = ifs.branch-passed I h (A .passed) l (D .passed) m M;
+          noted = λ y Y w. noted-as (ifs.branch-as I) all-noted y Y;
         }

@@ -15,6 +15,7 @@ use Rattle.theory.proofs.Times.{time-⧺}
 use Rattle.theory.proofs.Windows.{Free, later, free-tested, free-later}
 use Rattle.records.proofs.Blocks.{size-waiting}
 use Rattle.reading.specs.Closing.{opensBlock}
+use Rattle.reading.specs.Walks.{IfAt}
 use Rattle.reading.specs.Ranges.{InFile, firstPart, secondPart, afterFirst, testOf}
 use Rattle.placing.specs.declared.clock.State.{State}
 use Rattle.layout.specs.declared.measure.Passage.{Passage}
@@ -76,14 +77,25 @@ module _ {σ : Settings} {from test : State} (q : Test) (a d : Block) (fits : Fi
       counts = M .records ∙ ap (λ (e : ℕ). cap (test .records + (2 + size (merge 0 (filled σ (test .tick) a e)) + size (merge 0 (filled σ (test .tick) d e))))) (M .tick)
 
 -- the IF at i, whose test ends at `test`
-module _ {s : List ℕ} {i to : ℕ} {σ : Settings} {from : State} (S : Statement s i to σ from) (k : kindAt s i ≡ IF) {test : State} (T : Stepped σ from 1 test) where
+pub record Tested (s : List ℕ) (i to : ℕ) (σ : Settings) (from test : State) : Type 0 where
+  pub statement : Statement s i to σ from
+  pub kind : kindAt s i ≡ IF
+  pub stepped : Stepped σ from 1 test
+
+module _ {s : List ℕ} {i to : ℕ} {σ : Settings} {from test : State} (I : Tested s i to σ from test) where
+  abbrev S : Statement s i to σ from
+  S = I .statement
+
+  pub sides : IfAt Equalised s i to (block S)
+  sides = if-at (S .here) (I .kind)
+
   abbrev pub one : Block
   one = firstPart (block S)
 
   abbrev pub two : Block
   two = secondPart (block S)
 
-  abbrev pub q : Test
+  abbrev q : Test
   q = testOf (recordAt s i)
 
   -- THE TEST
@@ -92,7 +104,7 @@ module _ {s : List ℕ} {i to : ℕ} {σ : Settings} {from : State} (S : Stateme
   lead = before σ (from .tick) 1
 
   pub tested : After σ (lead ⧺ act (check q) nil) from test
-  tested = T .after (check q) refl
+  tested = I .stepped .after (check q) refl
 
   pub test-tick : test .tick ≡ from .tick + time σ lead + 1
   test-tick = omega (arith, tested .tick, time-⧺ σ lead (act (check q) nil))
@@ -119,7 +131,7 @@ module _ {s : List ℕ} {i to : ℕ} {σ : Settings} {from : State} (S : Stateme
 
   pub branch-as : LaidAs S whole (3 + size one + size two)
   branch-as =
-      laid-as (branch q one two (afterFirst (block S))) (if-at (S .here) k .is)
+      laid-as (branch q one two (afterFirst (block S))) (sides .is)
       (laid-branch σ q one two (from .tick)
       ∙ ap (λ (u : ℕ).
       let e = u + max (time σ (laid σ one u)) (time σ (laid σ two u)) in
@@ -127,10 +139,10 @@ module _ {s : List ℕ} {i to : ℕ} {σ : Settings} {from : State} (S : Stateme
 
   -- where each side ends, and where they meet
   pub first-free : Free σ 1 (test .tick + time σ first)
-  first-free = laid-free σ (S .ready .laying .settings .fits) one 1 (test .tick) (if-at (S .here) k .first .fills .of-form) (omega arith) test-free
+  first-free = laid-free σ (S .ready .laying .settings .fits) one 1 (test .tick) (sides .first .fills .of-form) (omega arith) test-free
 
   pub second-free : Free σ 1 (test .tick + time σ second)
-  second-free = laid-free σ (S .ready .laying .settings .fits) two 1 (test .tick) (if-at (S .here) k .second .fills .of-form) (omega arith) test-free
+  second-free = laid-free σ (S .ready .laying .settings .fits) two 1 (test .tick) (sides .second .fills .of-form) (omega arith) test-free
 
   pub end-free : Free σ 1 end
   end-free = free-later σ (S .ready .laying .settings .fits) end (test .tick + time σ first) (test .tick + time σ second) (omega arith) first-free second-free
@@ -192,11 +204,11 @@ module _ {s : List ℕ} {i to : ℕ} {σ : Settings} {from : State} (S : Stateme
     -- THE FIRST SIDE
 
     unfoldable pub one-entered : Entered s (i + 1) to σ test
-    one-entered = record { file = first-in (S .here) (ap opensBlock k); ready = ready }
+    one-entered = record { file = first-in (S .here) (ap opensBlock (I .kind)); ready = ready }
 
     module _ {a : Passage} (A : BlockPassed s (i + 1) to σ test a) where
       one-passes : Passes σ first (i + 1 + size one) test a
-      one-passes = A .right one (if-at (S .here) k .first)
+      one-passes = A .right one (sides .first)
 
       pub one-late : σ .period < a .state .tick → StatementPassed s i to σ from a
       one-late l = answered branch-as (passed-late (omega (arith, not-before, too-late one-passes l)) l)
@@ -211,7 +223,7 @@ module _ {s : List ℕ} {i to : ℕ} {σ : Settings} {from : State} (S : Stateme
         -- THE SECOND
 
         abbrev pub two-in : InFile Equalised s (a .next + 1) to
-        two-in = second-in (S .here) k one-goes
+        two-in = second-in (S .here) (I .kind) one-goes
 
         -- its records are counted after those of the first
         abbrev pub second-start : State
@@ -249,4 +261,5 @@ module _ {s : List ℕ} {i to : ℕ} {σ : Settings} {from : State} (S : Stateme
               met = M .right test first second test-wait one-after two-after
 
               pub branch-passed : {p : ℕ} → StatementPassed s i to σ from (record { state = r; next = d .next + 1; ifs = p })
-              branch-passed = answered branch-as (passed (branch-after q first second (S .ready .laying .settings .fits) tested met first-free second-free) (omega (arith, two-goes)))
+              branch-passed =
+                  answered branch-as (passed (branch-after q first second (S .ready .laying .settings .fits) tested met first-free second-free) (omega (arith, two-goes)))

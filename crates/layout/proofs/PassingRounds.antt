@@ -95,7 +95,8 @@ module _ {s : List ℕ} {i to : ℕ} {σ : Settings} {from : State} {last : ℕ}
     later = λ h. absurd (omega arith);
   }
 
-module _ {s : List ℕ} {i to : ℕ} {σ : Settings} {from : State} {last : ℕ} {O : Loop s i to σ from last} {state : State} {next round : ℕ} (P : Rounding O state next round) where
+module _ {s : List ℕ} {i to : ℕ} {σ : Settings} {from : State} {last : ℕ} {O : Loop s i to σ from last} {state : State} {next round : ℕ}
+    (P : Rounding O state next round) where
   abbrev a : Block
   a = body O
 

@@ -52,7 +52,8 @@ module _ {s : List ℕ} {i to : ℕ} {σ : Settings} {from : State} {S : Stateme
   laid-as b e f = record { same = ap (λ (x : Block). laid σ (only x) (from .tick)) e ∙ f; records = ap firstSize e }
 
   -- what holds of c and n holds of how every block at the place is laid
-  pub laid-every : {c : Block} {n : ℕ} (P : Block → ℕ → Type 0) → LaidAs S c n → P c n → (b : Block) → Stands Equalised s i to b → P (laid σ (only b) (from .tick)) (firstSize b)
+  pub laid-every : {c : Block} {n : ℕ} (P : Block → ℕ → Type 0) → LaidAs S c n → P c n → (b : Block) → Stands Equalised s i to b
+      → P (laid σ (only b) (from .tick)) (firstSize b)
   laid-every {c} P A h b B =
       let b₀ = S .here .file .block in
       every (λ (x : Block). P (laid σ (only x) (from .tick)) (firstSize x)) (S .here .file)

@@ -30,7 +30,7 @@ use Rattle.placing.proofs.Writing.{laidBytes}
 use Rattle.reading.proofs.Walking.{first-in, if-at, second-in}
 use Rattle.layout.proofs.Noting.{holds-first, holds-rest, holds-left, holds-right}
 use Rattle.layout.proofs.Unrolled.{laid-branch, filled-ends}
-use Rattle.layout.proofs.PassingBranches.{branch-after, one, two, tested, test-wait, end, whole, branch-as, first-free, second-free, end-free}
+use Rattle.layout.proofs.PassingBranches.{branch-after, Tested, sides, one, two, tested, test-wait, end, whole, branch-as, first-free, second-free, end-free}
 use Rattle.layout.proofs.PassingSteps.{laid-as, block}
 use Rattle.layout.proofs.PassingBranches.{whole-meetings, not-before, ready, ready-again}
 use Rattle.layout.proofs.WritingSteps.{fits-as, holds-as, answered-as}
@@ -83,23 +83,26 @@ module _ {s : List ℕ} {i to : ℕ} {σ : Settings} {from : State} {p : ℕ} {t
   -- THE TEST ENDS AT `test`
 
   module _ {test : State} {new : List ℕ} (T : StepLaid σ from 1 x old new test) where
+    abbrev I : Tested s i to σ from test
+    I = record { statement = S; kind = k; stepped = T .state }
+
     abbrev A : Block
-    A = one S k (T .state)
+    A = one I
 
     abbrev D : Block
-    D = two S k (T .state)
+    D = two I
 
     abbrev meets : ℕ
-    meets = end S k (T .state)
+    meets = end I
 
     abbrev side : Block → Block
     side b = filled σ (test .tick) (laid σ b (test .tick)) meets
 
     abbrev all : Block
-    all = whole S k (T .state)
+    all = whole I
 
     the-if : LaidFits σ all from old
-    the-if = fits-as F (branch-as S k (T .state))
+    the-if = fits-as F (branch-as I)
 
     sizes : size (settled (from .wait) all) ≡ size (settled (from .wait) lead) + skipRecords w + (3 + size (merge 0 (side A)) + size (merge 0 (side D)))
     sizes = branch-size (side A) (side D)
@@ -119,7 +122,7 @@ module _ {s : List ℕ} {i to : ℕ} {σ : Settings} {from : State} {p : ℕ} {t
         ∙ simp append-assoc
 
     in-time : meets ≤ σ .period
-    in-time = omega (arith, the-if .within, not-before S k (T .state))
+    in-time = omega (arith, the-if .within, not-before I)
 
     soon : test .tick ≤ σ .period
     soon = omega (arith, in-time)
@@ -139,7 +142,7 @@ module _ {s : List ℕ} {i to : ℕ} {σ : Settings} {from : State} {p : ℕ} {t
     test-upto = (omega (arith, test-records), omega (arith, test-records, sizes, the-if .room .few))
 
     no-wait : test .wait ≡ 0
-    no-wait = test-wait S k (T .state)
+    no-wait = test-wait I
 
     -- its meeting stands in the table, and those in its sides
     abbrev ms-one : List ℕ
@@ -149,10 +152,10 @@ module _ {s : List ℕ} {i to : ℕ} {σ : Settings} {from : State} {p : ℕ} {t
     ms-two = meetings σ (laid σ D (test .tick)) (test .tick)
 
     all-meetings : meetings σ all (from .tick) ≡ meets ∷ (ms-one ++ ms-two)
-    all-meetings = whole-meetings S k (T .state)
+    all-meetings = whole-meetings I
 
     held : Holds (meets ∷ (ms-one ++ ms-two)) p table
-    held = subst (λ (ms : List ℕ). Holds ms p table) all-meetings (holds-as F (branch-as S k (T .state)))
+    held = subst (λ (ms : List ℕ). Holds ms p table) all-meetings (holds-as F (branch-as I))
 
     pub table-at : (p < 1821) × (getD table p 0 ≡ meets)
     table-at = holds-first held
@@ -179,10 +182,10 @@ module _ {s : List ℕ} {i to : ℕ} {σ : Settings} {from : State} {p : ℕ} {t
       pub one-fits : SideFits s (i + 1) to σ test m elseRec (p + 1) table (lent new n)
       one-fits =
           subst (λ (j : ℕ). SideFits s (i + 1) to σ test j elseRec (p + 1) table (lent new n)) meets-at (record {
-            entered = record { file = first-in (S .here) (ap opensBlock k); ready = ready S k (T .state) soon };
+            entered = record { file = first-in (S .here) (ap opensBlock k); ready = ready I soon };
             reaches = omega arith;
             upto = in-time;
-            free = end-free S k (T .state);
+            free = end-free I;
             few = omega (arith, sizes, the-if .room .few, test-records, ap (λ (w : ℕ). size (merge w (side A))) no-wait);
             room = subst (λ (w : ℕ). length (blockBytes (merge w (side A)) ++ recordBytes elseRec) ≤ length (lent new n)) (sym no-wait)
                 (part-fits (side-bytes A elseRec) (side-bytes D endRec) test-part);
@@ -195,7 +198,7 @@ module _ {s : List ℕ} {i to : ℕ} {σ : Settings} {from : State} {p : ℕ} {t
 
         one-lays : SideLays σ A meets elseRec (i + 1 + size A) (p + 1) test (lent new n) ys a
         one-lays =
-            subst (λ (j : ℕ). SideLays σ A j elseRec (i + 1 + size A) (p + 1) test (lent new n) ys a) (sym meets-at) (L .right A (if-at (S .here) k .first))
+            subst (λ (j : ℕ). SideLays σ A j elseRec (i + 1 + size A) (p + 1) test (lent new n) ys a) (sym meets-at) (L .right A (sides I .first))
 
         one-records : a .state .records ≡ test .records + size (merge 0 (side A)) + 1
         one-records = omega (arith, one-lays .closed .records, ap (λ (w : ℕ). size (merge w (side A))) no-wait)
@@ -237,10 +240,10 @@ module _ {s : List ℕ} {i to : ℕ} {σ : Settings} {from : State} {p : ℕ} {t
             pub two-fits : SideFits s (a .next + 1) to σ z m endRec (a .ifs) table (lent new-2 l)
             two-fits = subst (λ (z : State). SideFits s (a .next + 1) to σ z m endRec (a .ifs) table (lent new-2 l)) (sym st)
                 (subst (λ (j : ℕ). SideFits s (a .next + 1) to σ (starts (a .state .records)) j endRec (a .ifs) table (lent new-2 l)) meets-at (record {
-                  entered = record { file = two-in; ready = ready-again S k (T .state) soon (one-upto .1) };
+                  entered = record { file = two-in; ready = ready-again I soon (one-upto .1) };
                   reaches = omega arith;
                   upto = in-time;
-                  free = end-free S k (T .state);
+                  free = end-free I;
                   few = omega (arith, one-records, test-records, sizes, the-if .room .few);
                   room = part-fits-last one-part;
                   holds = subst (λ (j : ℕ). Holds ms-two j table) (sym (one-lays .ifs)) (holds-right ms-one ms-two (holds-rest (ms-one ++ ms-two) held));
@@ -257,7 +260,7 @@ module _ {s : List ℕ} {i to : ℕ} {σ : Settings} {from : State} {p : ℕ} {t
 
               ends-at : d .state .tick ≡ meets
               ends-at = two-lays .closed .tick
-                  ∙ filled-ends σ (S .ready .laying .settings .fits) (laid σ D (test .tick)) (test .tick) meets (second-free S k (T .state)) (end-free S k (T .state)) (omega arith)
+                  ∙ filled-ends σ (S .ready .laying .settings .fits) (laid σ D (test .tick)) (test .tick) meets (second-free I) (end-free I) (omega arith)
 
               met : Met σ test (laid σ A (test .tick)) (laid σ D (test .tick)) (d .state)
               met = record {
@@ -274,11 +277,11 @@ module _ {s : List ℕ} {i to : ℕ} {σ : Settings} {from : State} {p : ℕ} {t
 
               pub branch-laid : StatementLaid s i to σ from p old (back new-2 l zs) (record { state = d .state; next = d .next + 1; ifs = d .ifs })
               branch-laid =
-                  answered-as F (branch-as S k (T .state))
+                  answered-as F (branch-as I)
                   (record {
                     lays = record {
-                      after = branch-after q (laid σ A (test .tick)) (laid σ D (test .tick)) (S .ready .laying .settings .fits) (tested S k (T .state)) met
-                          (first-free S k (T .state)) (second-free S k (T .state));
+                      after = branch-after q (laid σ A (test .tick)) (laid σ D (test .tick)) (S .ready .laying .settings .fits) (tested I) met
+                          (first-free I) (second-free I);
                       wrote = part-last one-part (two-lays .wrote);
                     };
                     goes = omega (arith, two-ends);

@@ -9,13 +9,13 @@ use Rattle.layout.specs.Lent.{loaded}
 use Rattle.model.specs.Records.{Rec, kindAt}
 use Rattle.reading.specs.Closing.{closesBlock}
 use Rattle.reading.proofs.Standing.{told}
-use Rattle.reading.proofs.Walking.{kind-there, count-there}
+use Rattle.reading.proofs.Walking.{kind-there, count-there, if-at}
 use Rattle.layout.proofs.PassingRounds.{Loop, opened, at-end}
 use Rattle.layout.proofs.IdleLoops.{idle-inside}
 use Rattle.layout.proofs.Clocking.{kinds-told, Clocking, clocking-start, clocking-empty, store-fits, clocking-closed, clocking-ended, inner-lent, inner-late, inner-on, inner-next}
 use Rattle.layout.proofs.Clocking.{step-starts, step-few, step-late, step-next, ClockingRounds, rounds-start, body-lent, rounds-late}
 use Rattle.layout.proofs.Clocking.{rounds-next, check-laying, check-few, rounds-clocked, other-kind, idle-laying, idle-few, idle-clocked}
-use Rattle.layout.proofs.Clocking.{test-laying, test-few, inside, test-late, place-fits, one-lent, one-late}
+use Rattle.layout.proofs.Clocking.{test-laying, test-few, test-late, place-fits, one-lent, one-late}
 use Rattle.layout.proofs.Clocking.{one-goes, start-few, two-lent, two-late, two-goes, both-meet, met-few, branch-clocked}
 use borrow.Fn.Kinds.{In}
 use borrow.Fn.PlainCycle.{Measures, is, falls, and}
@@ -330,8 +330,7 @@ measure-branch-measure-side-requires t c κs =
       (
         one-lent ((start .pre) .1 .0) ((at-settings-in .settings-in) .ensures) ((at-load .load) .ensures) ((start .pre) .1 .1) ((at-stepped .stepped) .ensures)
             ((at-store .store) .ensures) ((c .before .before .before .before .if1) .left) ((c .before .before .place) .ensures .1),
-        omega
-            (arith, inside ((start .pre) .1 .0) ((at-settings-in .settings-in) .ensures) ((at-load .load) .ensures) ((start .pre) .1 .1) ((at-stepped .stepped) .ensures)),
+        omega (arith, if-at ((start .pre) .1 .0 .statement .here) ((start .pre) .1 .1) .ends),
       ),
     )
 
@@ -370,78 +369,32 @@ measure-branch-add-measure-side-2 t c =
       one-goes ((start .pre) .1 .0) ((at-settings-in .settings-in) .ensures) ((at-load .load) .ensures) ((start .pre) .1 .1) ((at-stepped .stepped) .ensures)
           ((at-if1 .before .before .before .store) .ensures) ((at-if1 .if1) .left) ((at-load2 .before .before .before .before .before .place) .ensures .1)
           ((at-load2 .before .before .measure-side) .ensures) ((at-load2 .load2) .ensures) ((c .before .before .before .if2) .left),
-      inside ((start .pre) .1 .0)
-          ((at-settings-in .settings-in) .ensures) ((at-load .load) .ensures) ((start .pre) .1 .1) ((at-stepped .stepped) .ensures),
+      if-at ((start .pre) .1 .0 .statement .here) ((start .pre) .1 .1) .ends,
       (start .pre) .1 .0 .statement .here .file .inside,
       (start .good) .0 .0,
     )
 
 measure-branch-measure-side-requires-2 : (t : ℕ) → measure-branch-lts.Need-measure-side-requires-2 (measure-branch-claims t) (measure-branch-at t) measure-branch.Post
 unfolding settingsIn
-measure-branch-measure-side-requires-2 t c κs = (
-  omega (
-    arith,
-    one-goes ((c .before .before .before .before .before .before .before .before .before .before .before .before .before .before .before .before .before .before
-        .before .before .before .before .before .before .before .pre) .1 .0)
-        ((c .before .before .before .before .before .before .before .before .before .before .before .before .before .before .before .before .before .before .before .before .before
-        .before .before .settings-in) .ensures) ((c .before .before .before .before .before .before .before .before .before .before .before .before .before .before .before .before
-        .before .before .before .before .before .load) .ensures)
-        ((c .before .before .before .before .before .before .before .before .before .before .before .before .before .before .before .before .before .before .before .before .before
-        .before .before .before .before .pre) .1 .1)
-        ((c .before .before .before .before .before .before .before .before .before .before .before .before .before .before .before .before .before .before .before .before .stepped)
-        .ensures) ((c .before .before .before .before .before .before .before .before .before .before .before .before .before .before .before .before .before .before .store) .ensures)
-        ((c .before .before .before .before .before .before .before .before .before .before .before .before .before .before .before .if1) .left)
-        ((c .before .before .before .before .before .before .before .before .before .before .before .before .before .place) .ensures .1)
-        ((c .before .before .before .before .before .before .before .before .before .before .measure-side) .ensures)
-        ((c .before .before .before .before .before .before .before .before .load2) .ensures) ((c .before .before .before .before .before .if2) .left),
-    (c .before .before .before .before .before .before .before .before .before .before .before .before .before .before .before .before .before .before .before .before .before
-        .before .before .before .before .pre) .0,
-    (c .before .before .before .before .before .before .before .before .before .before .before .before .before .before .before .before .before .before .before .before .before
-        .before .before .before .before .pre) .1 .0 .statement .here .early,
-  ),
-  (
-    two-lent ((c .before .before .before .before .before .before .before .before .before .before .before .before .before .before .before .before .before .before .before .before
-        .before .before .before .before .before .pre) .1 .0)
-        ((c .before .before .before .before .before .before .before .before .before .before .before .before .before .before .before .before .before .before .before .before .before
-        .before .before .settings-in) .ensures) ((c .before .before .before .before .before .before .before .before .before .before .before .before .before .before .before .before
-        .before .before .before .before .before .load) .ensures)
-        ((c .before .before .before .before .before .before .before .before .before .before .before .before .before .before .before .before .before .before .before .before .before
-        .before .before .before .before .pre) .1 .1)
-        ((c .before .before .before .before .before .before .before .before .before .before .before .before .before .before .before .before .before .before .before .before .stepped)
-        .ensures) ((c .before .before .before .before .before .before .before .before .before .before .before .before .before .before .before .before .before .before .store) .ensures)
-        ((c .before .before .before .before .before .before .before .before .before .before .before .before .before .before .before .if1) .left)
-        ((c .before .before .before .before .before .before .before .before .before .before .before .before .before .place) .ensures .1)
-        ((c .before .before .before .before .before .before .before .before .before .before .measure-side) .ensures)
-        ((c .before .before .before .before .before .before .before .before .load2) .ensures) ((c .before .before .before .before .before .if2) .left)
-        ((c .before .before .before .before .back) .ensures) ((c .before .before .store2) .ensures),
-    omega (
-      arith,
-      one-goes ((c .before .before .before .before .before .before .before .before .before .before .before .before .before .before .before .before .before .before .before
-          .before .before .before .before .before .before .pre) .1 .0)
-          ((c .before .before .before .before .before .before .before .before .before .before .before .before .before .before .before .before .before .before .before .before .before
-          .before .before .settings-in) .ensures) ((c .before .before .before .before .before .before .before .before .before .before .before .before .before .before .before .before
-          .before .before .before .before .before .load) .ensures)
-          ((c .before .before .before .before .before .before .before .before .before .before .before .before .before .before .before .before .before .before .before .before .before
-          .before .before .before .before .pre) .1 .1)
-          ((c .before .before .before .before .before .before .before .before .before .before .before .before .before .before .before .before .before .before .before .before .stepped)
-          .ensures) ((c .before .before .before .before .before .before .before .before .before .before .before .before .before .before .before .before .before .before .store) .ensures)
-          ((c .before .before .before .before .before .before .before .before .before .before .before .before .before .before .before .if1) .left)
-          ((c .before .before .before .before .before .before .before .before .before .before .before .before .before .place) .ensures .1)
-          ((c .before .before .before .before .before .before .before .before .before .before .measure-side) .ensures)
-          ((c .before .before .before .before .before .before .before .before .load2) .ensures) ((c .before .before .before .before .before .if2) .left),
-      inside
-          ((c .before .before .before .before .before .before .before .before .before .before .before .before .before .before .before .before .before .before .before .before .before
-          .before .before .before .before .pre) .1 .0)
-          ((c .before .before .before .before .before .before .before .before .before .before .before .before .before .before .before .before .before .before .before .before .before
-          .before .before .settings-in) .ensures) ((c .before .before .before .before .before .before .before .before .before .before .before .before .before .before .before .before
-          .before .before .before .before .before .load) .ensures)
-          ((c .before .before .before .before .before .before .before .before .before .before .before .before .before .before .before .before .before .before .before .before .before
-          .before .before .before .before .pre) .1 .1)
-          ((c .before .before .before .before .before .before .before .before .before .before .before .before .before .before .before .before .before .before .before .before .stepped)
-          .ensures),
-    ),
-  ),
-)
+measure-branch-measure-side-requires-2 t c κs =
+    let at-load2 = c .before .before .before .before .before .before .before .before in
+    let at-if1 = at-load2 .before .before .before .before .before .before .before in
+    let at-stepped = at-if1 .before .before .before .before .before in
+    let at-load = at-stepped .before in
+    let at-settings-in = at-load .before .before in
+    let start = at-settings-in .before .before in
+    let goes = one-goes ((start .pre) .1 .0) ((at-settings-in .settings-in) .ensures) ((at-load .load) .ensures) ((start .pre) .1 .1) ((at-stepped .stepped) .ensures)
+    ((at-if1 .before .before .before .store) .ensures) ((at-if1 .if1) .left) ((at-load2 .before .before .before .before .before .place) .ensures .1)
+    ((at-load2 .before .before .measure-side) .ensures) ((at-load2 .load2) .ensures) ((c .before .before .before .before .before .if2) .left) in (
+      omega (arith, goes, (start .pre) .0, (start .pre) .1 .0 .statement .here .early),
+      (
+        two-lent ((start .pre) .1 .0) ((at-settings-in .settings-in) .ensures) ((at-load .load) .ensures) ((start .pre) .1 .1) ((at-stepped .stepped) .ensures)
+            ((at-if1 .before .before .before .store) .ensures) ((at-if1 .if1) .left) ((at-load2 .before .before .before .before .before .place) .ensures .1)
+            ((at-load2 .before .before .measure-side) .ensures) ((at-load2 .load2) .ensures) ((c .before .before .before .before .before .if2) .left)
+            ((c .before .before .before .before .back) .ensures) ((c .before .before .store2) .ensures),
+        omega (arith, goes, if-at ((start .pre) .1 .0 .statement .here) ((start .pre) .1 .1) .ends),
+      ),
+    )
 
 measure-branch-returns-3 : (t : ℕ) → measure-branch-lts.Need-returns-3 (measure-branch-claims t) (measure-branch-at t) measure-branch.Post
 unfolding settingsIn
@@ -504,8 +457,7 @@ measure-branch-add-result t c =
           ((at-load2 .before .before .measure-side) .ensures) ((at-load2 .load2) .ensures) ((at-store2 .before .before .before .if2) .left)
           ((at-store2 .before .before .back) .ensures) ((at-store2 .store2) .ensures) ((at-if3 .before .before .before .before .before .measure-side2) .ensures)
           ((at-if3 .before .before .before .load3) .ensures) ((at-if3 .if3) .left),
-      inside ((start .pre) .1 .0) ((at-settings-in .settings-in) .ensures)
-          ((at-load .load) .ensures) ((start .pre) .1 .1) ((at-stepped .stepped) .ensures),
+      if-at ((start .pre) .1 .0 .statement .here) ((start .pre) .1 .1) .ends,
       (start .pre) .1 .0 .statement .here .file .inside,
       (start .good) .0 .0,
     )

@@ -221,17 +221,16 @@ write-branch-written-requires-2 t c κs =
 
 write-branch-add-write-side-3 : (t : ℕ) → write-branch-lts.Need-add-write-side-3 (write-branch-claims t) (write-branch-at t) write-branch.Post
 write-branch-add-write-side-3 t c =
+    let at-write-side = c .before .before .before .before .before in
+    let at-put-step = at-write-side .before .before .before .before .before .before in
+    let start = at-put-step .before .before .before .before in
     omega (
       arith,
-      one-ends ((c .before .before .before .before .before .before .before .before .before .before .before .before .before .before .before .pre) .1 .0)
-          ((c .before .before .before .before .before .before .before .before .before .before .before .before .before .before .before .pre) .1 .2)
-          ((c .before .before .before .before .before .before .before .before .before .before .before .before .before .before .before .pre) .1 .1)
-          ((c .before .before .before .before .before .before .before .before .before .before .before .put-step) .ensures) refl
-          ((c .before .before .before .before .before .before .before .before .written) .ensures) ((c .before .before .before .before .before .write-side) .ensures),
-      if-at ((c .before .before .before .before .before .before .before .before .before .before .before .before .before .before .before .pre) .1 .0 .statement .here)
-          ((c .before .before .before .before .before .before .before .before .before .before .before .before .before .before .before .pre) .1 .2) .ends,
-      (c .before .before .before .before .before .before .before .before .before .before .before .before .before .before .before .pre) .1 .0 .statement .here .file .inside,
-      (c .before .before .before .before .before .before .before .before .before .before .before .before .before .before .before .good) .0 .0,
+      one-ends ((start .pre) .1 .0) ((start .pre) .1 .2) ((start .pre) .1 .1) ((at-put-step .put-step) .ensures) refl
+          ((at-write-side .before .before .before .written) .ensures) ((at-write-side .write-side) .ensures),
+      if-at ((start .pre) .1 .0 .statement .here) ((start .pre) .1 .2) .ends,
+      (start .pre) .1 .0 .statement .here .file .inside,
+      (start .good) .0 .0,
     )
 
 write-branch-sub-write-side-2 : (t : ℕ) → write-branch-lts.Need-sub-write-side-2 (write-branch-claims t) (write-branch-at t) write-branch.Post
@@ -270,24 +269,17 @@ write-branch-write-side-requires-2 t c κs =
 
 write-branch-add-t24 : (t : ℕ) → write-branch-lts.Need-add-t24 (write-branch-claims t) (write-branch-at t) write-branch.Post
 write-branch-add-t24 t c =
+    let at-written2 = c .before .before .before .before .before .before .before .before in
+    let at-written = at-written2 .before .before .before .before .before .before .before in
+    let start = at-written .before .before .before .before .before .before .before in
     omega (
       arith,
-      two-ends ((c .before .before .before .before .before .before .before .before .before .before .before .before .before .before .before .before .before .before .before .before
-          .before .before .pre) .1 .0) ((c .before .before .before .before .before .before .before .before .before .before .before .before .before .before .before .before .before
-          .before .before .before .before .before .pre) .1 .2)
-          ((c .before .before .before .before .before .before .before .before .before .before .before .before .before .before .before .before .before .before .before .before .before
-          .before .pre) .1 .1) ((c .before .before .before .before .before .before .before .before .before .before .before .before .before .before .before .before .before .before
-          .put-step) .ensures) refl ((c .before .before .before .before .before .before .before .before .before .before .before .before .before .before .before .written) .ensures)
-          ((c .before .before .before .before .before .before .before .before .before .before .before .before .write-side) .ensures)
-          ((c .before .before .before .before .before .before .before .before .written2) .ensures) ((c .before .before .before .before .before .before .back) .ensures)
-          ((c .before .before .before .before .write-side2) .ensures),
-      if-at ((c .before .before .before .before .before .before .before .before .before .before .before .before .before .before .before .before .before .before .before
-          .before .before .before .pre) .1 .0 .statement .here)
-          ((c .before .before .before .before .before .before .before .before .before .before .before .before .before .before .before .before .before .before .before .before .before
-          .before .pre) .1 .2) .ends,
-      (c .before .before .before .before .before .before .before .before .before .before .before .before .before .before .before .before .before .before .before .before .before
-          .before .pre) .1 .0 .statement .here .file .inside,
-      (c .before .before .before .before .before .before .before .before .before .before .before .before .before .before .before .before .before .before .before .before .before .before .good) .0 .0,
+      two-ends ((start .pre) .1 .0) ((start .pre) .1 .2) ((start .pre) .1 .1) ((at-written .before .before .before .put-step) .ensures) refl ((at-written .written) .ensures)
+          ((at-written2 .before .before .before .before .write-side) .ensures) ((at-written2 .written2) .ensures)
+          ((c .before .before .before .before .before .before .back) .ensures) ((c .before .before .before .before .write-side2) .ensures),
+      if-at ((start .pre) .1 .0 .statement .here) ((start .pre) .1 .2) .ends,
+      (start .pre) .1 .0 .statement .here .file .inside,
+      (start .good) .0 .0,
     )
 
 write-branch-same-length : (t : ℕ) → write-branch-lts.Need-same-length (write-branch-claims t) (write-branch-at t) write-branch.Post
