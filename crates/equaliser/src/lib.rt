@@ -24,13 +24,13 @@ use timing::ticks::Time;
 use write::write_block;
 
 // A task that was read: refusals 8 and 9, or the equalised task over the front of out.
-fn equalise_sound(task: &[u8], n: Settings, out: &mut [u8]) -> Equalised
+fn equalise_sound(task: &[u8], rack: Settings, out: &mut [u8]) -> Equalised
     requires { ⌜ SoundFile Task (now task) ⌝ }
-    ensures { λ r. ⌜ EqualisesSound (now (task .entry)) n (now (out .entry)) (now (out .exit)) r ⌝ }
+    ensures { λ r. ⌜ EqualisesSound (now (task .entry)) rack (now (out .entry)) (now (out .exit)) r ⌝ }
 {
     let to = task.len() / 12;
     let mut pads: [u32; PADS] = [0; PADS];
-    let whole = measure_block(task, 0, to, n, &mut pads);
+    let whole = measure_block(task, 0, to, rack, &mut pads);
     let time = whole.time;
     let Time::Ticks(t) = time else {
         return Equalised::Refused(Refusal::OverPeriod);
@@ -53,6 +53,6 @@ pub fn equalise(settings: &[u8], task: &[u8], out: &mut [u8]) -> Equalised
     let read = reading::read(settings, Form::Task, task);
     match read {
         Checked::Refused(x) => Equalised::Refused(x),
-        Checked::Valid(n) => equalise_sound(task, n, out),
+        Checked::Valid(rack) => equalise_sound(task, rack, out),
     }
 }

@@ -18,11 +18,11 @@ use records::kinds;
 use records::record_at;
 use records::skips::skip_records;
 use timing::ticks::Time;
-use timing::ticks::beyond;
 use timing::ticks::branch_time;
+use timing::ticks::excess;
 use timing::ticks::loop_time;
 use timing::ticks::step_ticks;
-use timing::ticks::up_to;
+use timing::ticks::within;
 
 // The time of a statement or a block, the records written by its end, the ticks of SKIP that wait there, and the index of the record after it.
 // A time above the period says that alone. What waits has 64 bits, since it is added before the sum is held against the period.
@@ -42,11 +42,11 @@ pub fn padded_records(block: Extent, pad: u32) -> usize
 }
 
 // The record r, which opens no block, after waiting ticks of SKIP and before the record `next`.
-fn measure_plain(n: Settings, r: Record, wait: u64, next: usize) -> Extent
+fn measure_plain(rack: Settings, r: Record, wait: u64, next: usize) -> Extent
     requires { ⌜ wait ≤ 2 ^ 32 ⌝ }
-    ensures { λ e. ⌜ PlainSize n r wait next e ⌝ }
+    ensures { λ e. ⌜ PlainSize rack r wait next e ⌝ }
 {
-    let time = up_to(n.period, step_ticks(n, r) as u64);
+    let time = within(rack.period, step_ticks(rack, r) as u64);
     if r.kind == kinds::SKIP {
         let wait = wait + r.count as u64;
         return Extent {
@@ -66,18 +66,18 @@ fn measure_plain(n: Settings, r: Record, wait: u64, next: usize) -> Extent
 
 // The WHILE at i, with the record r, after waiting ticks of SKIP.
 fn measure_loop(
-    s: &[u8],
+    file: &[u8],
     i: usize,
     to: usize,
     r: Record,
-    n: Settings,
+    rack: Settings,
     wait: u64,
     pads: &mut [u32; PADS],
 ) -> Extent
-    requires { ⌜ (StatementAsks (now s) i to wait (now pads)) × (recordOf r ≡ recordAt (now s) i) × (opensBlock (kindAt (now s) i) ≡ true) × (kindAt (now s) i ≡ IF → ⊥) ⌝ }
-    ensures { λ e. ⌜ StatementSize (now (s .entry)) i to n wait (now (pads .entry)) (now (pads .exit)) e ⌝ }
+    requires { ⌜ (StatementAsks (now file) i to wait (now pads)) × (recordOf r ≡ recordAt (now file) i) × (opensBlock (kindAt (now file) i) ≡ true) × (kindAt (now file) i ≡ IF → ⊥) ⌝ }
+    ensures { λ e. ⌜ StatementSize (now (file .entry)) i to rack wait (now (pads .entry)) (now (pads .exit)) e ⌝ }
 {
-    let body = measure_block(s, i + 1, to, n, pads);
+    let body = measure_block(file, i + 1, to, rack, pads);
     let time = body.time;
     let Time::Ticks(t) = time else {
         return body;
@@ -85,7 +85,7 @@ fn measure_loop(
     keep(pads, i, t, 0);
     let sides = padded_records(body, 0) + skip_records(t as u64);
     Extent {
-        time: loop_time(n.period, r, time),
+        time: loop_time(rack.period, r, time),
         records: skip_records(wait) + (5 + sides),
         wait: 0,
         next: body.next + 1,
@@ -94,32 +94,32 @@ fn measure_loop(
 
 // The IF at i, after waiting ticks of SKIP.
 fn measure_branch(
-    s: &[u8],
+    file: &[u8],
     i: usize,
     to: usize,
-    n: Settings,
+    rack: Settings,
     wait: u64,
     pads: &mut [u32; PADS],
 ) -> Extent
-    requires { ⌜ (StatementAsks (now s) i to wait (now pads)) × (kindAt (now s) i ≡ IF) ⌝ }
-    ensures { λ e. ⌜ StatementSize (now (s .entry)) i to n wait (now (pads .entry)) (now (pads .exit)) e ⌝ }
+    requires { ⌜ (StatementAsks (now file) i to wait (now pads)) × (kindAt (now file) i ≡ IF) ⌝ }
+    ensures { λ e. ⌜ StatementSize (now (file .entry)) i to rack wait (now (pads .entry)) (now (pads .exit)) e ⌝ }
 {
-    let first = measure_block(s, i + 1, to, n, pads);
+    let first = measure_block(file, i + 1, to, rack, pads);
     let one = first.time;
     let Time::Ticks(x) = one else {
         return first;
     };
-    let second = measure_block(s, first.next + 1, to, n, pads);
+    let second = measure_block(file, first.next + 1, to, rack, pads);
     let two = second.time;
     let Time::Ticks(y) = two else {
         return second;
     };
-    let pad_one = beyond(y, x);
-    let pad_two = beyond(x, y);
+    let pad_one = excess(y, x);
+    let pad_two = excess(x, y);
     keep(pads, i, pad_one, pad_two);
     let sides = padded_records(first, pad_one) + padded_records(second, pad_two);
     Extent {
-        time: branch_time(n.period, one, two),
+        time: branch_time(rack.period, one, two),
         records: skip_records(wait) + (3 + sides),
         wait: 0,
         next: second.next + 1,
@@ -128,51 +128,51 @@ fn measure_branch(
 
 // The statement at i, after waiting ticks of SKIP.
 fn measure_statement(
-    s: &[u8],
+    file: &[u8],
     i: usize,
     to: usize,
-    n: Settings,
+    rack: Settings,
     wait: u64,
     pads: &mut [u32; PADS],
 ) -> Extent
-    requires { ⌜ StatementAsks (now s) i to wait (now pads) ⌝ }
-    ensures { λ e. ⌜ StatementSize (now (s .entry)) i to n wait (now (pads .entry)) (now (pads .exit)) e ⌝ }
+    requires { ⌜ StatementAsks (now file) i to wait (now pads) ⌝ }
+    ensures { λ e. ⌜ StatementSize (now (file .entry)) i to rack wait (now (pads .entry)) (now (pads .exit)) e ⌝ }
 {
-    let r = record_at(s, i);
+    let r = record_at(file, i);
     if !opens(r.kind) {
-        return measure_plain(n, r, wait, i + 1);
+        return measure_plain(rack, r, wait, i + 1);
     }
     if r.kind == kinds::IF {
-        return measure_branch(s, i, to, n, wait, pads);
+        return measure_branch(file, i, to, rack, wait, pads);
     }
-    measure_loop(s, i, to, r, n, wait, pads)
+    measure_loop(file, i, to, r, rack, wait, pads)
 }
 
 // The block at `from`, up to the record that closes it. The sum is given up once it passes the period.
 pub fn measure_block(
-    s: &[u8],
+    file: &[u8],
     from: usize,
     to: usize,
-    n: Settings,
+    rack: Settings,
     pads: &mut [u32; PADS],
 ) -> Extent
-    requires { ⌜ BlockAsks (now s) from to (now pads) ⌝ }
-    ensures { λ e. ⌜ BlockSize (now (s .entry)) from to n (now (pads .entry)) (now (pads .exit)) e ⌝ }
+    requires { ⌜ BlockAsks (now file) from to (now pads) ⌝ }
+    ensures { λ e. ⌜ BlockSize (now (file .entry)) from to rack (now (pads .entry)) (now (pads .exit)) e ⌝ }
 {
     let mut sum: u32 = 0;
     let mut records: usize = 0;
     let mut wait: u64 = 0;
     let mut next = from;
     while next < to {
-        if closes(kind_at(s, next)) {
+        if closes(kind_at(file, next)) {
             break;
         }
-        let e = measure_statement(s, next, to, n, wait, pads);
+        let e = measure_statement(file, next, to, rack, wait, pads);
         let one = e.time;
         let Time::Ticks(t) = one else {
             return e;
         };
-        if n.period - sum < t {
+        if rack.period - sum < t {
             let time = Time::OverPeriod;
             return Extent {
                 time,

@@ -29,18 +29,18 @@ pub struct Written {
 
 // The loop that the WHILE at i, with the record r, becomes.
 fn write_loop(
-    s: &[u8],
+    file: &[u8],
     i: usize,
     to: usize,
     r: Record,
     pads: &[u32; PADS],
     out: &mut [u8],
 ) -> Written
-    requires { ⌜ (StatementFits (now s) i to 0 (now pads) (now out)) × (recordOf r ≡ recordAt (now s) i) × (opensBlock (kindAt (now s) i) ≡ true) × (kindAt (now s) i ≡ IF → ⊥) ⌝ }
-    ensures { λ w. ⌜ StatementWritten (now (s .entry)) i to 0 (now (pads .entry)) (now (out .entry)) (now (out .exit)) w ⌝ }
+    requires { ⌜ (StatementFits (now file) i to 0 (now pads) (now out)) × (recordOf r ≡ recordAt (now file) i) × (opensBlock (kindAt (now file) i) ≡ true) × (kindAt (now file) i ≡ IF → ⊥) ⌝ }
+    ensures { λ w. ⌜ StatementWritten (now (file .entry)) i to 0 (now (pads .entry)) (now (out .entry)) (now (out .exit)) w ⌝ }
 {
     put_loop_head(out, r);
-    let body = write_block(s, i + 1, to, 0, pads, &mut out[24..]);
+    let body = write_block(file, i + 1, to, 0, pads, &mut out[24..]);
     let at = 24 + body.bytes;
     let bytes = at + put_loop_tail(&mut out[at..], pads[i]);
     Written {
@@ -52,23 +52,23 @@ fn write_loop(
 
 // The IF at i, with the record r.
 fn write_branch(
-    s: &[u8],
+    file: &[u8],
     i: usize,
     to: usize,
     r: Record,
     pads: &[u32; PADS],
     out: &mut [u8],
 ) -> Written
-    requires { ⌜ (StatementFits (now s) i to 0 (now pads) (now out)) × (recordOf r ≡ recordAt (now s) i) × (kindAt (now s) i ≡ IF) ⌝ }
-    ensures { λ w. ⌜ StatementWritten (now (s .entry)) i to 0 (now (pads .entry)) (now (out .entry)) (now (out .exit)) w ⌝ }
+    requires { ⌜ (StatementFits (now file) i to 0 (now pads) (now out)) × (recordOf r ≡ recordAt (now file) i) × (kindAt (now file) i ≡ IF) ⌝ }
+    ensures { λ w. ⌜ StatementWritten (now (file .entry)) i to 0 (now (pads .entry)) (now (out .entry)) (now (out .exit)) w ⌝ }
 {
     put_record(out, r);
-    let first = write_block(s, i + 1, to, pads[i], pads, &mut out[12..]);
+    let first = write_block(file, i + 1, to, pads[i], pads, &mut out[12..]);
     let middle = 12 + first.bytes;
     put_bare(&mut out[middle..], kinds::ELSE, 0, 0);
     let start = middle + 12;
     let second = write_block(
-        s,
+        file,
         first.next + 1,
         to,
         pads[TASK_RECORDS + i],
@@ -86,35 +86,35 @@ fn write_branch(
 
 // The IF or the loop at i, with the record r.
 fn write_inner(
-    s: &[u8],
+    file: &[u8],
     i: usize,
     to: usize,
     r: Record,
     pads: &[u32; PADS],
     out: &mut [u8],
 ) -> Written
-    requires { ⌜ (StatementFits (now s) i to 0 (now pads) (now out)) × (recordOf r ≡ recordAt (now s) i) × (opensBlock (kindAt (now s) i) ≡ true) ⌝ }
-    ensures { λ w. ⌜ StatementWritten (now (s .entry)) i to 0 (now (pads .entry)) (now (out .entry)) (now (out .exit)) w ⌝ }
+    requires { ⌜ (StatementFits (now file) i to 0 (now pads) (now out)) × (recordOf r ≡ recordAt (now file) i) × (opensBlock (kindAt (now file) i) ≡ true) ⌝ }
+    ensures { λ w. ⌜ StatementWritten (now (file .entry)) i to 0 (now (pads .entry)) (now (out .entry)) (now (out .exit)) w ⌝ }
 {
     if r.kind == kinds::IF {
-        return write_branch(s, i, to, r, pads, out);
+        return write_branch(file, i, to, r, pads, out);
     }
-    write_loop(s, i, to, r, pads, out)
+    write_loop(file, i, to, r, pads, out)
 }
 
 // The statement at i, after `waited` ticks of SKIP.
 fn write_statement(
-    s: &[u8],
+    file: &[u8],
     i: usize,
     to: usize,
     waited: u32,
     pads: &[u32; PADS],
     out: &mut [u8],
 ) -> Written
-    requires { ⌜ StatementFits (now s) i to waited (now pads) (now out) ⌝ }
-    ensures { λ w. ⌜ StatementWritten (now (s .entry)) i to waited (now (pads .entry)) (now (out .entry)) (now (out .exit)) w ⌝ }
+    requires { ⌜ StatementFits (now file) i to waited (now pads) (now out) ⌝ }
+    ensures { λ w. ⌜ StatementWritten (now (file .entry)) i to waited (now (pads .entry)) (now (out .entry)) (now (out .exit)) w ⌝ }
 {
-    let r = record_at(s, i);
+    let r = record_at(file, i);
     if r.kind == kinds::SKIP {
         let wait = waited + r.count;
         return Written {
@@ -125,7 +125,7 @@ fn write_statement(
     }
     let at = put_skip(out, waited);
     if opens(r.kind) {
-        let w = write_inner(s, i, to, r, pads, &mut out[at..]);
+        let w = write_inner(file, i, to, r, pads, &mut out[at..]);
         return Written {
             next: w.next,
             bytes: at + w.bytes,
@@ -142,24 +142,24 @@ fn write_statement(
 
 // The block at `from`, up to the record that closes it, with a SKIP of `pad` ticks at its end.
 pub fn write_block(
-    s: &[u8],
+    file: &[u8],
     from: usize,
     to: usize,
     pad: u32,
     pads: &[u32; PADS],
     out: &mut [u8],
 ) -> Written
-    requires { ⌜ BlockFits (now s) from to pad (now pads) (now out) ⌝ }
-    ensures { λ w. ⌜ BlockWritten (now (s .entry)) from to pad (now (pads .entry)) (now (out .entry)) (now (out .exit)) w ⌝ }
+    requires { ⌜ BlockFits (now file) from to pad (now pads) (now out) ⌝ }
+    ensures { λ w. ⌜ BlockWritten (now (file .entry)) from to pad (now (pads .entry)) (now (out .entry)) (now (out .exit)) w ⌝ }
 {
     let mut at: usize = 0;
     let mut wait: u32 = 0;
     let mut next = from;
     while next < to {
-        if closes(kind_at(s, next)) {
+        if closes(kind_at(file, next)) {
             break;
         }
-        let w = write_statement(s, next, to, wait, pads, &mut out[at..]);
+        let w = write_statement(file, next, to, wait, pads, &mut out[at..]);
         at += w.bytes;
         wait = w.wait;
         next = w.next;

@@ -9,7 +9,7 @@ use Rattle.layout.specs.declared.measure.Passage.{Passage}
 use Rattle.layout.specs.Lent.{loaded, placeIn, passage, Stored, Placed}
 
 -- a state
-pub stored : (c : List ℕ) (s : State) → length c ≡ 6 → Stored s c (set (set (set (set (set c 0 (s .tick)) 1 (s .left)) 2 (s .windows)) 3 (s .wait)) 4 (s .records))
+pub stored : (c : List ℕ) (s : State) → length c ≡ 6 → Stored s c (set (set (set (set (set c 0 (s .tick)) 1 (s .«ticks_left»)) 2 (s .«windows_left»)) 3 (s .wait)) 4 (s .records))
 stored [] s h = absurd (omega arith)
 stored (a ∷ []) s h = absurd (omega arith)
 stored (a ∷ b ∷ []) s h = absurd (omega arith)

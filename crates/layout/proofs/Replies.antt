@@ -70,7 +70,7 @@ layable {σ} I h = record {
 
 -- the ticks that were counted are above P: so is the total, and row 8 refuses
 module _ {file : List ℕ} {σ : Settings} (L : Layable σ) {r : State} (F : FilePassed file σ r) where
-  late : σ .period < r .tick + r .left + σ .beat → σ .period < total σ (fileTree file)
+  late : σ .period < r .tick + r .«ticks_left» + σ .beat → σ .period < total σ (fileTree file)
   late h = go (ltb (σ .period) t) refl
     where
       t : ℕ
@@ -80,7 +80,7 @@ module _ {file : List ℕ} {σ : Settings} (L : Layable σ) {r : State} (F : Fil
       go true e = omega (arith, opened-total σ (fileTree file), ltb-true (σ .period) t e)
       go false e = omega (arith, total-is L (fileTree file) (F .after (ltb-false (σ .period) t e)))
 
-  pub over-period : (old : List ℕ) → σ .period < r .tick + r .left + σ .beat → LaysOutSound file σ old old (LaidOut.Refused Refusal.OverPeriod)
+  pub over-period : (old : List ℕ) → σ .period < r .tick + r .«ticks_left» + σ .beat → LaysOutSound file σ old old (LaidOut.Refused Refusal.OverPeriod)
   over-period old h =
       turned file σ old Refusal.OverPeriod
       (sym (rw (wide-window L, lt-ltb (σ .period) (total σ (fileTree file)) (late h), or-true (ltb (σ .period) (time σ (fileTree file))))))
@@ -90,8 +90,8 @@ pub record InTime (file : List ℕ) (σ : Settings) (r : State) (m : ℕ) : Type
   pub sound : SoundFile Equalised file
   pub settings : Layable σ
   pub passed : FilePassed file σ r
-  pub short : r .tick + r .left + σ .beat ≤ σ .period
-  pub skips : m ≡ skipRecords (r .wait + r .left)
+  pub short : r .tick + r .«ticks_left» + σ .beat ≤ σ .period
+  pub skips : m ≡ skipRecords (r .wait + r .«ticks_left»)
 
 module _ {file : List ℕ} {σ : Settings} {r : State} {m : ℕ} (T : InTime file σ r m) where
   abbrev tree : Block
@@ -110,7 +110,7 @@ module _ {file : List ℕ} {σ : Settings} {r : State} {m : ℕ} (T : InTime fil
       go true e = let l = T .passed .late (ltb-true (σ .period) t e) in absurd (omega (arith, T .short))
       go false e = T .passed .after (ltb-false (σ .period) t e)
 
-  totals : total σ tree ≡ r .tick + r .left + σ .beat
+  totals : total σ tree ≡ r .tick + r .«ticks_left» + σ .beat
   totals = total-is (T .settings) tree ended
 
   -- row 9 decides
@@ -125,7 +125,7 @@ module _ {file : List ℕ} {σ : Settings} {r : State} {m : ℕ} (T : InTime fil
   n = r .records + m + 1
 
   pub few-counted : n ≤ 5464
-  few-counted = omega (arith, ended .shows .few, T .skips, one-skip (r .wait + r .left))
+  few-counted = omega (arith, ended .shows .few, T .skips, one-skip (r .wait + r .«ticks_left»))
 
   counts : n ≤ 5461 → size result ≡ n
   counts l = omega (arith, size-is (T .settings) tree ended, ended .records, T .skips)
@@ -156,10 +156,10 @@ module _ {file : List ℕ} {σ : Settings} {r : State} {m : ℕ} (T : InTime fil
       holds = M .noted e (omega (arith, ended .tick, T .short)) (omega (arith, few-ifs σ tree, counted, room-left (length old) n x .few));
     }
 
-    replies : finished (12 * n ∷ (r .tick + r .left + σ .beat) ∷ []) ≡ layOutRows σ tree (length old)
+    replies : finished (12 * n ∷ (r .tick + r .«ticks_left» + σ .beat) ∷ []) ≡ layOutRows σ tree (length old)
     replies = ap₂ (λ (k t : ℕ). finished (12 * k ∷ t ∷ [])) (sym counted) (sym totals) ∙ sym (timed (length old) ∙ rw (same-room (length old), x))
 
-    pub written : (new : List ℕ) → new ≡ over (blockBytes result) old → LaysOutSound file σ old new (LaidOut.Written (12 * n) (r .tick + r .left + σ .beat))
+    pub written : (new : List ℕ) → new ≡ over (blockBytes result) old → LaysOutSound file σ old new (LaidOut.Written (12 * n) (r .tick + r .«ticks_left» + σ .beat))
     unfolding blockBytes
     written new y = record { reply = replies; leaves = y ∙ ap (λ (v : Verdict). kept v (over (bytes (linearise result)) old) old) replies }
 

@@ -63,11 +63,11 @@ module _ {σ : Settings} (L : Layable σ) where
   start-alike = alike-trans (alike-skip (commands σ 0)) (alike-eq (commands-0 σ (L .fits)))
 
   -- what goes on to the next multiple of H lays no more than the commands
-  pub after-opening : {s o : State} → s ≡ started → After σ (skip (s .left) (commands σ (s .tick + s .left))) s o → After σ opening started o
-  after-opening {s} {o} e A = after-alike start-alike (subst (λ (x : State). After σ (skip (x .left) (commands σ (x .tick + x .left))) x o) e A)
+  pub after-opening : {s o : State} → s ≡ started → After σ (skip (s .«ticks_left») (commands σ (s .tick + s .«ticks_left»))) s o → After σ opening started o
+  after-opening {s} {o} e A = after-alike start-alike (subst (λ (x : State). After σ (skip (x .«ticks_left») (commands σ (x .tick + x .«ticks_left»))) x o) e A)
 
-  opening-bytes : {s : State} → s ≡ started → bytesOf s (skip (s .left) (commands σ (s .tick + s .left))) ≡ blockBytes opening
-  opening-bytes e = ap (λ (x : State). bytesOf x (skip (x .left) (commands σ (x .tick + x .left)))) e ∙ ap blockBytes (start-alike .settles 0)
+  opening-bytes : {s : State} → s ≡ started → bytesOf s (skip (s .«ticks_left») (commands σ (s .tick + s .«ticks_left»))) ≡ blockBytes opening
+  opening-bytes e = ap (λ (x : State). bytesOf x (skip (x .«ticks_left») (commands σ (x .tick + x .«ticks_left»)))) e ∙ ap blockBytes (start-alike .settles 0)
 
 -- BEHIND THEM
 
@@ -168,16 +168,16 @@ module _ (σ : Settings) (b : Block) where
 
 module _ {σ : Settings} (L : Layable σ) where
   -- the ticks left tell them
-  bound-alike : {s : State} → Shows σ s → Alike σ (toBound σ (s .tick)) (skip (s .left) nil)
-  bound-alike {s} S = go (eqb (s .left) 0) refl
+  bound-alike : {s : State} → Shows σ s → Alike σ (toBound σ (s .tick)) (skip (s .«ticks_left») nil)
+  bound-alike {s} S = go (eqb (s .«ticks_left») 0) refl
     where
-      go : (o : Bool) → eqb (s .left) 0 ≡ o → Alike σ (toBound σ (s .tick)) (skip (s .left) nil)
+      go : (o : Bool) → eqb (s .«ticks_left») 0 ≡ o → Alike σ (toBound σ (s .tick)) (skip (s .«ticks_left») nil)
       go true e =
-          let z = eqb-true (s .left) 0 e in
+          let z = eqb-true (s .«ticks_left») 0 e in
           let m : s .tick % σ .window ≡ 0 = ap (λ (x : ℕ). x % σ .window) (omega arith) ∙ S .bound in
           rw (eq-eqb (s .tick % σ .window) 0 m, z) (alike-sym (alike-skip nil))
       go false e =
-          let l = left-is L S (omega (arith, eqb-false (s .left) 0 e)) in
+          let l = left-is L S (omega (arith, eqb-false (s .«ticks_left») 0 e)) in
           rw (ne-eqb (s .tick % σ .window) 0 (λ z. omega (arith, S .below)), l) (alike-eq refl)
 
   -- what the state behind the last step tells of the whole
@@ -185,39 +185,39 @@ module _ {σ : Settings} (L : Layable σ) where
     abbrev c : Block
     c = opened σ (unroll b)
 
-    bound-here : Alike σ (toBound σ (time σ c)) (skip (r .left) nil)
-    bound-here = subst (λ (t : ℕ). Alike σ (toBound σ t) (skip (r .left) nil)) (omega (arith, A .tick)) (bound-alike (A .shows))
+    bound-here : Alike σ (toBound σ (time σ c)) (skip (r .«ticks_left») nil)
+    bound-here = subst (λ (t : ℕ). Alike σ (toBound σ t) (skip (r .«ticks_left») nil)) (omega (arith, A .tick)) (bound-alike (A .shows))
 
-    body-ends : time σ (body σ (unroll b)) ≡ r .tick + r .left
+    body-ends : time σ (body σ (unroll b)) ≡ r .tick + r .«ticks_left»
     body-ends = omega (arith, time-⧺ σ c (toBound σ (time σ c)), bound-here .lasts, A .tick)
 
-    pub total-is : total σ b ≡ r .tick + r .left + σ .beat
+    pub total-is : total σ b ≡ r .tick + r .«ticks_left» + σ .beat
     unfolding total
     total-is = omega (arith, body-ends)
 
-    ending-is : ending σ b ≡ waiting (r .wait + r .left) (lastBeat σ (r .tick + r .left))
+    ending-is : ending σ b ≡ waiting (r .wait + r .«ticks_left») (lastBeat σ (r .tick + r .«ticks_left»))
     ending-is =
         let n = waits 0 c in
         let t = time σ (body σ (unroll b)) in
         merge-⧺ n (toBound σ (time σ c)) (lastBeat σ t)
         ∙ ap₂ (λ (d : Block) (m : ℕ). d ⧺ merge m (lastBeat σ t)) (bound-here .settles n) (bound-here .leaves n)
-        ∙ ap₂ (λ (m u : ℕ). waiting (m + r .left) (lastBeat σ u)) (sym (A .wait)) body-ends
+        ∙ ap₂ (λ (m u : ℕ). waiting (m + r .«ticks_left») (lastBeat σ u)) (sym (A .wait)) body-ends
 
-    pub size-is : size (layout σ b) ≡ size (settled 0 c) + skipRecords (r .wait + r .left) + 1
+    pub size-is : size (layout σ b) ≡ size (settled 0 c) + skipRecords (r .wait + r .«ticks_left») + 1
     size-is =
         omega (
           arith,
           ap size (layout-ending σ b),
           size-⧺ (settled 0 c) (ending σ b),
           ap size ending-is,
-          size-waiting (r .wait + r .left) (lastBeat σ (r .tick + r .left)),
+          size-waiting (r .wait + r .«ticks_left») (lastBeat σ (r .tick + r .«ticks_left»)),
         )
 
     ending-bytes : blockBytes (ending σ b) ≡ tailBytes σ r
     ending-bytes =
         ap blockBytes ending-is
-        ∙ waiting-bytes (r .wait + r .left) (lastBeat σ (r .tick + r .left))
-        ∙ ap (λ (x : List ℕ). skipBytes (r .wait + r .left) ++ x) (act-bytes (beat (lastValue σ (r .tick + r .left))))
+        ∙ waiting-bytes (r .wait + r .«ticks_left») (lastBeat σ (r .tick + r .«ticks_left»))
+        ∙ ap (λ (x : List ℕ). skipBytes (r .wait + r .«ticks_left») ++ x) (act-bytes (beat (lastValue σ (r .tick + r .«ticks_left»))))
 
 -- WRITING IT
 
@@ -246,13 +246,13 @@ module _ {s : List ℕ} {σ : Settings} {table out : List ℕ} (F : FileFits s �
       let e = ending σ (fileTree s) in
       omega (arith, F .few, ap size (layout-ending σ (fileTree s)), size-⧺ (opening ⧺ middle) e)
 
-  pub start-fits : {x : State} → x ≡ started → (Laying σ x) × (length (bytesOf x (skip (x .left) (commands σ (x .tick + x .left)))) ≤ length out)
+  pub start-fits : {x : State} → x ≡ started → (Laying σ x) × (length (bytesOf x (skip (x .«ticks_left») (commands σ (x .tick + x .«ticks_left»)))) ≤ length out)
   start-fits {x} e = (
     subst (Laying σ) (sym e) (laying-start (F .settings)),
     omega (arith, F .room, ap length whole-bytes, length-append (blockBytes opening) behind, ap length (opening-bytes (F .settings) e)),
   )
 
-  pub start-part : {x : State} {new : List ℕ} {at : ℕ} → x ≡ started → Wrote (bytesOf x (skip (x .left) (commands σ (x .tick + x .left)))) out new at
+  pub start-part : {x : State} {new : List ℕ} {at : ℕ} → x ≡ started → Wrote (bytesOf x (skip (x .«ticks_left») (commands σ (x .tick + x .«ticks_left»)))) out new at
       → Part whole behind out new at
   start-part {x} {new} {at} e W =
       let X = subst (λ (bs : List ℕ). Wrote bs out new at) (opening-bytes (F .settings) e) W in
@@ -299,5 +299,5 @@ module _ {s : List ℕ} {σ : Settings} {table out : List ℕ} (F : FileFits s �
           subst (λ (x : List ℕ). Part whole x out (back new at ys) (at + n)) (ending-bytes (F .settings) (fileTree s) ended)
           (part-lent (blockBytes middle) P (lays .wrote ∙ ap (λ (c : Block). over (blockBytes c) (lent new at)) middle-is) (omega (arith, counts, length-block middle)))
 
-      pub tail-laying : (Laying σ (r .state)) × (r .state .tick + r .state .left + σ .beat ≤ σ .period)
+      pub tail-laying : (Laying σ (r .state)) × (r .state .tick + r .state .«ticks_left» + σ .beat ≤ σ .period)
       tail-laying = (record { settings = F .settings; shows = ended .shows; within = omega (arith, in-time, lays .after .tick) }, omega (arith, F .in-time, total-is (F .settings) (fileTree s) ended))

@@ -22,9 +22,9 @@ module _ (t : List ℕ) (L : Layable (settingsIn t)) {n : Settings} (e : n ≡ s
   pub clock-laying : Laying n x
   clock-laying = subst (λ (τ : Settings). Laying τ x) (sym e) (subst (Laying (settingsIn t)) (sym z) (laying-start L))
 
-  module _ {o : State} (A : After n (skip (x .left) (commands n (x .tick + x .left))) x o) where
+  module _ {o : State} (A : After n (skip (x .«ticks_left») (commands n (x .tick + x .«ticks_left»))) x o) where
     opened : After (settingsIn t) opening started o
-    opened = after-opening L z (subst (λ (τ : Settings). After τ (skip (x .left) (commands τ (x .tick + x .left))) x o) e A)
+    opened = after-opening L z (subst (λ (τ : Settings). After τ (skip (x .«ticks_left») (commands τ (x .tick + x .«ticks_left»))) x o) e A)
 
     pub clock-late : {s old new : List ℕ} → settingsIn t .period < o .tick → FileMeasured s (settingsIn t) old new o
     clock-late h = file-late L opened h

@@ -11,7 +11,7 @@ abbrev pub meetingCount : ℕ
 meetingCount = 1821
 
 abbrev pub loaded : List ℕ → State
-loaded c = record { tick = getD c 0 0; left = getD c 1 0; windows = getD c 2 0; wait = getD c 3 0; records = getD c 4 0 }
+loaded c = record { tick = getD c 0 0; «ticks_left» = getD c 1 0; «windows_left» = getD c 2 0; wait = getD c 3 0; records = getD c 4 0 }
 
 abbrev pub placeIn : List ℕ → ℕ
 placeIn c = getD c 5 0

@@ -23,8 +23,8 @@ pub fn load(clock: &[u32; 6]) -> State
 {
     State {
         tick: clock[0],
-        left: clock[1],
-        windows: clock[2],
+        ticks_left: clock[1],
+        windows_left: clock[2],
         wait: clock[3],
         records: wide(clock[4]),
     }
@@ -35,8 +35,8 @@ pub fn store(clock: &mut [u32; 6], s: State)
     ensures { λ _. ⌜ Stored s (now (clock .entry)) (now (clock .exit)) ⌝ }
 {
     clock[0] = s.tick;
-    clock[1] = s.left;
-    clock[2] = s.windows;
+    clock[1] = s.ticks_left;
+    clock[2] = s.windows_left;
     clock[3] = s.wait;
     clock[4] = s.records as u32;
 }

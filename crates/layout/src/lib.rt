@@ -26,39 +26,39 @@ use timing::ticks::ticks_of;
 use write::write_file;
 
 // The longest of the steps that are no commands.
-fn longest_step(n: Settings) -> u32
-    ensures { λ r. ⌜ r ≡ longest n ⌝ }
+fn longest_step(rack: Settings) -> u32
+    ensures { λ r. ⌜ r ≡ longest rack ⌝ }
 {
-    later(later(n.set, n.multiply), later(n.read, n.write))
+    later(later(rack.set, rack.multiply), later(rack.read, rack.write))
 }
 
 // Refusal 7.
-fn short_window(n: Settings) -> bool
-    ensures { λ r. ⌜ r ≡ shortWindow n ⌝ }
+fn short_window(rack: Settings) -> bool
+    ensures { λ r. ⌜ r ≡ shortWindow rack ⌝ }
 {
-    (n.window as u64) < n.beat as u64 + n.save as u64 + longest_step(n) as u64
+    (rack.window as u64) < rack.beat as u64 + rack.save as u64 + longest_step(rack) as u64
 }
 
 // A file that was read: refusals 7, 8 and 9, or the laid file over the front of out.
-fn lay_out_sound(file: &[u8], n: Settings, out: &mut [u8]) -> LaidOut
-    requires { ⌜ (SoundFile Equalised (now file)) × (InRange n) ⌝ }
-    ensures { λ r. ⌜ LaysOutSound (now (file .entry)) n (now (out .entry)) (now (out .exit)) r ⌝ }
+fn lay_out_sound(file: &[u8], rack: Settings, out: &mut [u8]) -> LaidOut
+    requires { ⌜ (SoundFile Equalised (now file)) × (InRange rack) ⌝ }
+    ensures { λ r. ⌜ LaysOutSound (now (file .entry)) rack (now (out .entry)) (now (out .exit)) r ⌝ }
 {
-    if short_window(n) {
+    if short_window(rack) {
         return LaidOut::Refused(Refusal::ShortWindow);
     }
-    let t = ticks_of(n);
+    let t = ticks_of(rack);
     let mut meets: [u32; MEETINGS] = [0; MEETINGS];
     let end = measure_file(file, &t, &mut meets);
-    let total = end.tick as u64 + end.left as u64 + n.beat as u64;
-    if (n.period as u64) < total {
+    let total = end.tick as u64 + end.ticks_left as u64 + rack.beat as u64;
+    if (rack.period as u64) < total {
         return LaidOut::Refused(Refusal::OverPeriod);
     }
-    let records = end.records + skip_records(end.wait as u64 + end.left as u64) + 1;
+    let records = end.records + skip_records(end.wait as u64 + end.ticks_left as u64) + 1;
     if no_room(out.len(), records) {
         return LaidOut::Refused(Refusal::NoRoom);
     }
-    write_file(file, n, &meets, out);
+    write_file(file, rack, &meets, out);
     LaidOut::Written {
         bytes: 12 * records,
         total: total as u32,
@@ -73,6 +73,6 @@ pub fn lay_out(settings: &[u8], equalised: &[u8], out: &mut [u8]) -> LaidOut
     let read = reading::read(settings, Form::Equalised, equalised);
     match read {
         Checked::Refused(x) => LaidOut::Refused(x),
-        Checked::Valid(n) => lay_out_sound(equalised, n, out),
+        Checked::Valid(rack) => lay_out_sound(equalised, rack, out),
     }
 }

@@ -52,25 +52,25 @@ fn met(late: State, count: usize) -> State
 {
     State {
         tick: late.tick,
-        left: late.left,
-        windows: late.windows,
+        ticks_left: late.ticks_left,
+        windows_left: late.windows_left,
         wait: 0,
         records: counted(count, 2 + skip_records(late.wait as u64)),
     }
 }
 
 // Where the sides of an IF meet that end at these states, the second counted after the first: the earlier is filled up to the later.
-fn meet(n: Settings, one: State, two: State) -> State
-    requires { ⌜ Meeting n one two ⌝ }
-    ensures { λ r. ⌜ Meets n one two r ⌝ }
+fn meet(rack: Settings, one: State, two: State) -> State
+    requires { ⌜ Meeting rack one two ⌝ }
+    ensures { λ r. ⌜ Meets rack one two r ⌝ }
 {
     if one.tick < two.tick {
         return met(
             two,
-            fill_count(n, back(one, one.wait, two.records), two.tick),
+            fill_count(rack, back(one, one.wait, two.records), two.tick),
         );
     }
-    met(one, fill_count(n, two, one.tick))
+    met(one, fill_count(rack, two, one.tick))
 }
 
 // The tick where the sides of an IF meet, noted at its place, if the table has that.
@@ -103,33 +103,33 @@ fn measure_step(t: &[u32; 16], r: Record, from: State) -> State
 
 // The side of an IF at i: an empty one is not walked.
 fn measure_side(
-    s: &[u8],
+    file: &[u8],
     i: usize,
     to: usize,
     t: &[u32; 16],
     clock: &mut [u32; 6],
     meets: &mut [u32; MEETINGS],
 ) -> usize
-    requires { ⌜ (BlockLent (now s) i to (now t) (now clock)) × (i < to) ⌝ }
-    ensures { λ r. ⌜ BlockClocked (now (s .entry)) i to (now (t .entry)) (now (clock .entry)) (now (clock .exit)) (now (meets .entry)) (now (meets .exit)) r ⌝ }
+    requires { ⌜ (BlockLent (now file) i to (now t) (now clock)) × (i < to) ⌝ }
+    ensures { λ r. ⌜ BlockClocked (now (file .entry)) i to (now (t .entry)) (now (clock .entry)) (now (clock .exit)) (now (meets .entry)) (now (meets .exit)) r ⌝ }
 {
-    if closes(kind_at(s, i)) {
+    if closes(kind_at(file, i)) {
         return i;
     }
-    measure_block(s, i, to, t, clock, meets)
+    measure_block(file, i, to, t, clock, meets)
 }
 
 // The IF at i. Its second side starts at the tick of its first, and its records are counted after those.
 fn measure_branch(
-    s: &[u8],
+    file: &[u8],
     i: usize,
     to: usize,
     t: &[u32; 16],
     clock: &mut [u32; 6],
     meets: &mut [u32; MEETINGS],
 ) -> usize
-    requires { ⌜ (StatementLent (now s) i to (now t) (now clock)) × (kindAt (now s) i ≡ IF) ⌝ }
-    ensures { λ r. ⌜ StatementClocked (now (s .entry)) i to (now (t .entry)) (now (clock .entry)) (now (clock .exit)) (now (meets .entry)) (now (meets .exit)) r ⌝ }
+    requires { ⌜ (StatementLent (now file) i to (now t) (now clock)) × (kindAt (now file) i ≡ IF) ⌝ }
+    ensures { λ r. ⌜ StatementClocked (now (file .entry)) i to (now (t .entry)) (now (clock .entry)) (now (clock .exit)) (now (meets .entry)) (now (meets .exit)) r ⌝ }
 {
     let test = stepped(settings_in(t), load(clock), 1);
     store(clock, test);
@@ -137,14 +137,14 @@ fn measure_branch(
         return i;
     }
     let k = place(clock);
-    let mid = measure_side(s, i + 1, to, t, clock, meets);
+    let mid = measure_side(file, i + 1, to, t, clock, meets);
     let one = load(clock);
     if t[15] < one.tick {
         return mid;
     }
     let start = back(test, 0, one.records);
     store(clock, start);
-    let end = measure_side(s, mid + 1, to, t, clock, meets);
+    let end = measure_side(file, mid + 1, to, t, clock, meets);
     let two = load(clock);
     if t[15] < two.tick {
         return end;
@@ -157,7 +157,7 @@ fn measure_branch(
 
 // The loop at i, with that count.
 fn measure_rounds(
-    s: &[u8],
+    file: &[u8],
     i: usize,
     to: usize,
     count: u32,
@@ -165,14 +165,14 @@ fn measure_rounds(
     clock: &mut [u32; 6],
     meets: &mut [u32; MEETINGS],
 ) -> usize
-    requires { ⌜ (StatementLent (now s) i to (now t) (now clock)) × (kindAt (now s) i ≡ TIMES) × (count ≡ recordAt (now s) i .count) ⌝ }
-    ensures { λ r. ⌜ StatementClocked (now (s .entry)) i to (now (t .entry)) (now (clock .entry)) (now (clock .exit)) (now (meets .entry)) (now (meets .exit)) r ⌝ }
+    requires { ⌜ (StatementLent (now file) i to (now t) (now clock)) × (kindAt (now file) i ≡ TIMES) × (count ≡ recordAt (now file) i .count) ⌝ }
+    ensures { λ r. ⌜ StatementClocked (now (file .entry)) i to (now (t .entry)) (now (clock .entry)) (now (clock .exit)) (now (meets .entry)) (now (meets .exit)) r ⌝ }
 {
     let body = i + 1;
     let mut next = body;
     let mut round: u32 = 0;
     while round < count {
-        next = measure_block(s, body, to, t, clock, meets);
+        next = measure_block(file, body, to, t, clock, meets);
         if t[15] < clock[0] {
             return next;
         }
@@ -185,51 +185,51 @@ fn measure_rounds(
 
 // The IF or the loop at i.
 fn measure_inner(
-    s: &[u8],
+    file: &[u8],
     i: usize,
     to: usize,
     t: &[u32; 16],
     clock: &mut [u32; 6],
     meets: &mut [u32; MEETINGS],
 ) -> usize
-    requires { ⌜ (StatementLent (now s) i to (now t) (now clock)) × ((eqb (kindAt (now s) i) IF || eqb (kindAt (now s) i) TIMES) ≡ true) ⌝ }
-    ensures { λ r. ⌜ StatementClocked (now (s .entry)) i to (now (t .entry)) (now (clock .entry)) (now (clock .exit)) (now (meets .entry)) (now (meets .exit)) r ⌝ }
+    requires { ⌜ (StatementLent (now file) i to (now t) (now clock)) × ((eqb (kindAt (now file) i) IF || eqb (kindAt (now file) i) TIMES) ≡ true) ⌝ }
+    ensures { λ r. ⌜ StatementClocked (now (file .entry)) i to (now (t .entry)) (now (clock .entry)) (now (clock .exit)) (now (meets .entry)) (now (meets .exit)) r ⌝ }
 {
-    let r = record_at(s, i);
+    let r = record_at(file, i);
     if r.kind == kinds::IF {
-        return measure_branch(s, i, to, t, clock, meets);
+        return measure_branch(file, i, to, t, clock, meets);
     }
-    let idle = idle_rounds(s, i + 1, to, r.count, t[15]);
+    let idle = idle_rounds(file, i + 1, to, r.count, t[15]);
     if idle.only {
         store(clock, measure_idle(t, load(clock), idle.ticks));
         return idle.next + 1;
     }
-    measure_rounds(s, i, to, r.count, t, clock, meets)
+    measure_rounds(file, i, to, r.count, t, clock, meets)
 }
 
 // The block at `from`, up to the record that closes it.
 fn measure_block(
-    s: &[u8],
+    file: &[u8],
     from: usize,
     to: usize,
     t: &[u32; 16],
     clock: &mut [u32; 6],
     meets: &mut [u32; MEETINGS],
 ) -> usize
-    requires { ⌜ BlockLent (now s) from to (now t) (now clock) ⌝ }
-    ensures { λ r. ⌜ BlockClocked (now (s .entry)) from to (now (t .entry)) (now (clock .entry)) (now (clock .exit)) (now (meets .entry)) (now (meets .exit)) r ⌝ }
+    requires { ⌜ BlockLent (now file) from to (now t) (now clock) ⌝ }
+    ensures { λ r. ⌜ BlockClocked (now (file .entry)) from to (now (t .entry)) (now (clock .entry)) (now (clock .exit)) (now (meets .entry)) (now (meets .exit)) r ⌝ }
 {
     let mut state = load(clock);
     let mut next = from;
     while next < to {
-        let r = record_at(s, next);
+        let r = record_at(file, next);
         if closes(r.kind) {
             store(clock, state);
             return next;
         }
         if nests(r.kind) {
             store(clock, state);
-            next = measure_inner(s, next, to, t, clock, meets);
+            next = measure_inner(file, next, to, t, clock, meets);
             state = load(clock);
             if t[15] < state.tick {
                 return next;
@@ -248,9 +248,9 @@ fn measure_block(
 }
 
 // The whole file, from tick 0 up to its last step.
-pub fn measure_file(s: &[u8], t: &[u32; 16], meets: &mut [u32; MEETINGS]) -> State
-    requires { ⌜ (SoundFile Equalised (now s)) × (Layable (settingsIn (now t))) ⌝ }
-    ensures { λ r. ⌜ FileMeasured (now (s .entry)) (settingsIn (now (t .entry))) (now (meets .entry)) (now (meets .exit)) r ⌝ }
+pub fn measure_file(file: &[u8], t: &[u32; 16], meets: &mut [u32; MEETINGS]) -> State
+    requires { ⌜ (SoundFile Equalised (now file)) × (Layable (settingsIn (now t))) ⌝ }
+    ensures { λ r. ⌜ FileMeasured (now (file .entry)) (settingsIn (now (t .entry))) (now (meets .entry)) (now (meets .exit)) r ⌝ }
 {
     let opened = commanded(settings_in(t), start());
     if t[15] < opened.tick {
@@ -258,6 +258,6 @@ pub fn measure_file(s: &[u8], t: &[u32; 16], meets: &mut [u32; MEETINGS]) -> Sta
     }
     let mut clock: [u32; 6] = [0; 6];
     store(&mut clock, opened);
-    measure_block(s, 0, s.len() / 12, t, &mut clock, meets);
+    measure_block(file, 0, file.len() / 12, t, &mut clock, meets);
     load(&clock)
 }

@@ -11,9 +11,9 @@ use model::Settings;
 use placing::clock::State;
 use placing::clock::filled;
 use placing::clock::stepped;
+use placing::pieces::bytes_between;
 use placing::pieces::put_skips;
 use placing::pieces::put_step;
-use placing::pieces::written;
 use reading::blocks::closes;
 use records::Record;
 use records::kinds;
@@ -40,14 +40,14 @@ fn capped(period: u32, ticks: u64) -> u32
 }
 
 // The rounds of a loop whose body starts at i.
-pub fn idle_rounds(s: &[u8], i: usize, to: usize, count: u32, period: u32) -> Idle
-    requires { ⌜ (Ranged (now s) i to) × (period ≤ mostTicks) ⌝ }
-    ensures { λ r. ⌜ AllIdle (now (s .entry)) i to count period r ⌝ }
+pub fn idle_rounds(file: &[u8], i: usize, to: usize, count: u32, period: u32) -> Idle
+    requires { ⌜ (Ranged (now file) i to) × (period ≤ mostTicks) ⌝ }
+    ensures { λ r. ⌜ AllIdle (now (file .entry)) i to count period r ⌝ }
 {
     let mut ticks: u32 = 0;
     let mut next = i;
     while next < to {
-        let r = record_at(s, next);
+        let r = record_at(file, next);
         if r.kind != kinds::SKIP {
             return Idle {
                 only: closes(r.kind),
@@ -66,9 +66,9 @@ pub fn idle_rounds(s: &[u8], i: usize, to: usize, count: u32, period: u32) -> Id
 }
 
 // The statement at i with the record r: a SKIP, or such a loop, and the index of the record after it.
-pub fn idle_at(s: &[u8], i: usize, to: usize, r: Record, period: u32) -> Idle
-    requires { ⌜ (Ranged (now s) i to) × (i < to) × (period ≤ mostTicks) ⌝ }
-    ensures { λ x. ⌜ IdleAt (now (s .entry)) i to (recordOf r) period x ⌝ }
+pub fn idle_at(file: &[u8], i: usize, to: usize, r: Record, period: u32) -> Idle
+    requires { ⌜ (Ranged (now file) i to) × (i < to) × (period ≤ mostTicks) ⌝ }
+    ensures { λ x. ⌜ IdleAt (now (file .entry)) i to (recordOf r) period x ⌝ }
 {
     if r.kind == kinds::SKIP {
         return Idle {
@@ -84,7 +84,7 @@ pub fn idle_at(s: &[u8], i: usize, to: usize, r: Record, period: u32) -> Idle
             next: i,
         };
     }
-    let body = idle_rounds(s, i + 1, to, r.count, period);
+    let body = idle_rounds(file, i + 1, to, r.count, period);
     Idle {
         only: body.only,
         ticks: body.ticks,
@@ -120,14 +120,14 @@ pub fn measure_idle(t: &[u32; 16], from: State, ticks: u32) -> State
 }
 
 // A SKIP or such a loop, with the record r, over the front of a lent buffer.
-pub fn write_idle(n: Settings, from: State, ticks: u32, r: Record, out: &mut [u8]) -> State
-    requires { ⌜ SkipsFit n ticks (recordOf r) from (now out) ⌝ }
-    ensures { λ x. ⌜ SkipsLaid n ticks (recordOf r) from (now (out .entry)) (now (out .exit)) x ⌝ }
+pub fn write_idle(rack: Settings, from: State, ticks: u32, r: Record, out: &mut [u8]) -> State
+    requires { ⌜ SkipsFit rack ticks (recordOf r) from (now out) ⌝ }
+    ensures { λ x. ⌜ SkipsLaid rack ticks (recordOf r) from (now (out .entry)) (now (out .exit)) x ⌝ }
 {
-    let s = put_skips(n, from, ticks, out);
+    let s = put_skips(rack, from, ticks, out);
     if r.kind == kinds::SKIP {
         return s;
     }
-    let at = written(from, s);
-    put_step(n, s, 1, check_of(r), &mut out[at..])
+    let at = bytes_between(from, s);
+    put_step(rack, s, 1, check_of(r), &mut out[at..])
 }

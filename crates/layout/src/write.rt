@@ -16,11 +16,11 @@ use placing::clock::State;
 use placing::clock::back;
 use placing::clock::commanded;
 use placing::clock::start;
+use placing::pieces::bytes_between;
 use placing::pieces::close_side;
 use placing::pieces::put_commands;
 use placing::pieces::put_step;
 use placing::pieces::put_tail;
-use placing::pieces::written;
 use reading::blocks::closes;
 use records::Record;
 use records::kind_at;
@@ -30,10 +30,10 @@ use timing::ticks::step_ticks;
 
 // The side of an IF at i, filled up to the tick `end` and closed by a record of that kind.
 fn write_side(
-    s: &[u8],
+    file: &[u8],
     i: usize,
     to: usize,
-    n: Settings,
+    rack: Settings,
     start: State,
     end: u32,
     kind: u8,
@@ -41,14 +41,14 @@ fn write_side(
     meets: &[u32; MEETINGS],
     out: &mut [u8],
 ) -> Passage
-    requires { ⌜ SideFits (now s) i to n start end (rec kind 0 0 0 0 0) ifs (now meets) (now out) ⌝ }
-    ensures { λ r. ⌜ SideLaid (now (s .entry)) i to n start end (rec kind 0 0 0 0 0) ifs (now (out .entry)) (now (out .exit)) r ⌝ }
+    requires { ⌜ SideFits (now file) i to rack start end (rec kind 0 0 0 0 0) ifs (now meets) (now out) ⌝ }
+    ensures { λ r. ⌜ SideLaid (now (file .entry)) i to rack start end (rec kind 0 0 0 0 0) ifs (now (out .entry)) (now (out .exit)) r ⌝ }
 {
-    let e = write_block(s, i, to, n, start, ifs, meets, out);
+    let e = write_block(file, i, to, rack, start, ifs, meets, out);
     let state = e.state;
-    let at = written(start, state);
+    let at = bytes_between(start, state);
     Passage {
-        state: close_side(n, state, end, kind, &mut out[at..]),
+        state: close_side(rack, state, end, kind, &mut out[at..]),
         next: e.next,
         ifs: e.ifs,
     }
@@ -56,27 +56,27 @@ fn write_side(
 
 // The IF at i, with the record r: where its sides meet was measured.
 fn write_branch(
-    s: &[u8],
+    file: &[u8],
     i: usize,
     to: usize,
     r: Record,
-    n: Settings,
+    rack: Settings,
     from: State,
     ifs: usize,
     meets: &[u32; MEETINGS],
     out: &mut [u8],
 ) -> Passage
-    requires { ⌜ (StatementFits (now s) i to n from ifs (now meets) (now out)) × (recordOf r ≡ recordAt (now s) i) × (kindAt (now s) i ≡ IF) ⌝ }
-    ensures { λ p. ⌜ StatementLaid (now (s .entry)) i to n from ifs (now (out .entry)) (now (out .exit)) p ⌝ }
+    requires { ⌜ (StatementFits (now file) i to rack from ifs (now meets) (now out)) × (recordOf r ≡ recordAt (now file) i) × (kindAt (now file) i ≡ IF) ⌝ }
+    ensures { λ p. ⌜ StatementLaid (now (file .entry)) i to rack from ifs (now (out .entry)) (now (out .exit)) p ⌝ }
 {
-    let test = put_step(n, from, 1, r, out);
-    let at = written(from, test);
+    let test = put_step(rack, from, 1, r, out);
+    let at = bytes_between(from, test);
     let end = meets[ifs];
     let first = write_side(
-        s,
+        file,
         i + 1,
         to,
-        n,
+        rack,
         test,
         end,
         kinds::ELSE,
@@ -85,12 +85,12 @@ fn write_branch(
         &mut out[at..],
     );
     let one = first.state;
-    let mid = written(from, one);
+    let mid = bytes_between(from, one);
     let second = write_side(
-        s,
+        file,
         first.next + 1,
         to,
-        n,
+        rack,
         back(test, 0, one.records),
         end,
         kinds::END,
@@ -108,18 +108,18 @@ fn write_branch(
 
 // The loop at i, with the record r.
 fn write_rounds(
-    s: &[u8],
+    file: &[u8],
     i: usize,
     to: usize,
     r: Record,
-    n: Settings,
+    rack: Settings,
     from: State,
     ifs: usize,
     meets: &[u32; MEETINGS],
     out: &mut [u8],
 ) -> Passage
-    requires { ⌜ (StatementFits (now s) i to n from ifs (now meets) (now out)) × (recordOf r ≡ recordAt (now s) i) × (kindAt (now s) i ≡ TIMES) ⌝ }
-    ensures { λ p. ⌜ StatementLaid (now (s .entry)) i to n from ifs (now (out .entry)) (now (out .exit)) p ⌝ }
+    requires { ⌜ (StatementFits (now file) i to rack from ifs (now meets) (now out)) × (recordOf r ≡ recordAt (now file) i) × (kindAt (now file) i ≡ TIMES) ⌝ }
+    ensures { λ p. ⌜ StatementLaid (now (file .entry)) i to rack from ifs (now (out .entry)) (now (out .exit)) p ⌝ }
 {
     let body = i + 1;
     let last = r.count;
@@ -128,15 +128,15 @@ fn write_rounds(
     let mut k = ifs;
     let mut round: u32 = 0;
     while round < last {
-        let at = written(from, state);
-        let e = write_block(s, body, to, n, state, k, meets, &mut out[at..]);
+        let at = bytes_between(from, state);
+        let e = write_block(file, body, to, rack, state, k, meets, &mut out[at..]);
         state = e.state;
         next = e.next;
         k = e.ifs;
         round += 1;
     }
-    let at = written(from, state);
-    let state = put_step(n, state, 1, check_of(r), &mut out[at..]);
+    let at = bytes_between(from, state);
+    let state = put_step(rack, state, 1, check_of(r), &mut out[at..]);
     Passage {
         state,
         next: next + 1,
@@ -146,63 +146,63 @@ fn write_rounds(
 
 // The statement at i.
 fn write_statement(
-    s: &[u8],
+    file: &[u8],
     i: usize,
     to: usize,
-    n: Settings,
+    rack: Settings,
     from: State,
     ifs: usize,
     meets: &[u32; MEETINGS],
     out: &mut [u8],
 ) -> Passage
-    requires { ⌜ StatementFits (now s) i to n from ifs (now meets) (now out) ⌝ }
-    ensures { λ r. ⌜ StatementLaid (now (s .entry)) i to n from ifs (now (out .entry)) (now (out .exit)) r ⌝ }
+    requires { ⌜ StatementFits (now file) i to rack from ifs (now meets) (now out) ⌝ }
+    ensures { λ r. ⌜ StatementLaid (now (file .entry)) i to rack from ifs (now (out .entry)) (now (out .exit)) r ⌝ }
 {
-    let r = record_at(s, i);
+    let r = record_at(file, i);
     if r.kind == kinds::IF {
-        return write_branch(s, i, to, r, n, from, ifs, meets, out);
+        return write_branch(file, i, to, r, rack, from, ifs, meets, out);
     }
-    let idle = idle_at(s, i, to, r, n.period);
+    let idle = idle_at(file, i, to, r, rack.period);
     if idle.only {
-        let state = write_idle(n, from, idle.ticks, r, out);
+        let state = write_idle(rack, from, idle.ticks, r, out);
         let next = idle.next;
         return Passage { state, next, ifs };
     }
     if r.kind == kinds::TIMES {
-        return write_rounds(s, i, to, r, n, from, ifs, meets, out);
+        return write_rounds(file, i, to, r, rack, from, ifs, meets, out);
     }
-    let state = put_step(n, from, step_ticks(n, r), r, out);
+    let state = put_step(rack, from, step_ticks(rack, r), r, out);
     let next = i + 1;
     Passage { state, next, ifs }
 }
 
 // The block at `from`, up to the record that closes it.
 pub fn write_block(
-    s: &[u8],
+    file: &[u8],
     from: usize,
     to: usize,
-    n: Settings,
+    rack: Settings,
     at: State,
     ifs: usize,
     meets: &[u32; MEETINGS],
     out: &mut [u8],
 ) -> Passage
-    requires { ⌜ BlockFits (now s) from to n at ifs (now meets) (now out) ⌝ }
-    ensures { λ r. ⌜ BlockLaid (now (s .entry)) from to n at ifs (now (out .entry)) (now (out .exit)) r ⌝ }
+    requires { ⌜ BlockFits (now file) from to rack at ifs (now meets) (now out) ⌝ }
+    ensures { λ r. ⌜ BlockLaid (now (file .entry)) from to rack at ifs (now (out .entry)) (now (out .exit)) r ⌝ }
 {
     let mut state = at;
     let mut next = from;
     let mut k = ifs;
     while next < to {
-        if closes(kind_at(s, next)) {
+        if closes(kind_at(file, next)) {
             return Passage {
                 state,
                 next,
                 ifs: k,
             };
         }
-        let done = written(at, state);
-        let e = write_statement(s, next, to, n, state, k, meets, &mut out[done..]);
+        let done = bytes_between(at, state);
+        let e = write_statement(file, next, to, rack, state, k, meets, &mut out[done..]);
         state = e.state;
         next = e.next;
         k = e.ifs;
@@ -215,14 +215,23 @@ pub fn write_block(
 }
 
 // The whole laid file.
-pub fn write_file(s: &[u8], n: Settings, meets: &[u32; MEETINGS], out: &mut [u8])
-    requires { ⌜ FileFits (now s) n (now meets) (now out) ⌝ }
-    ensures { λ _. ⌜ now (out .exit) ≡ over (blockBytes (layout n (fileTree (now (s .entry))))) (now (out .entry)) ⌝ }
+pub fn write_file(file: &[u8], rack: Settings, meets: &[u32; MEETINGS], out: &mut [u8])
+    requires { ⌜ FileFits (now file) rack (now meets) (now out) ⌝ }
+    ensures { λ _. ⌜ now (out .exit) ≡ over (blockBytes (layout rack (fileTree (now (file .entry))))) (now (out .entry)) ⌝ }
 {
-    let at = put_commands(n, start(), out);
-    let opened = commanded(n, start());
-    let e = write_block(s, 0, s.len() / 12, n, opened, 0, meets, &mut out[at..]);
+    let at = put_commands(rack, start(), out);
+    let opened = commanded(rack, start());
+    let e = write_block(
+        file,
+        0,
+        file.len() / 12,
+        rack,
+        opened,
+        0,
+        meets,
+        &mut out[at..],
+    );
     let end = e.state;
-    let tail = at + written(opened, end);
-    put_tail(n, end, &mut out[tail..]);
+    let tail = at + bytes_between(opened, end);
+    put_tail(rack, end, &mut out[tail..]);
 }

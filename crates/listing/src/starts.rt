@@ -17,16 +17,16 @@ pub struct Place {
 }
 
 // The IF at i: both sides start at the next tick, as ELSE does, and END where the later one ends.
-fn start_branch(s: &[u8], i: usize, to: usize, n: Settings, at: u32, out: &mut [u32]) -> Place
-    requires { ⌜ (Statement (now s) i to n at (now out)) × (kindAt (now s) i ≡ IF) ⌝ }
-    ensures { λ r. ⌜ StatementStarted (now (s .entry)) i to n at (now (out .entry)) (now (out .exit)) r ⌝ }
+fn start_branch(file: &[u8], i: usize, to: usize, rack: Settings, at: u32, out: &mut [u32]) -> Place
+    requires { ⌜ (Statement (now file) i to rack at (now out)) × (kindAt (now file) i ≡ IF) ⌝ }
+    ensures { λ r. ⌜ StatementStarted (now (file .entry)) i to rack at (now (out .entry)) (now (out .exit)) r ⌝ }
 {
     let inside = at + 1;
     out[i] = at;
-    let one = start_block(s, i + 1, to, n, inside, out);
+    let one = start_block(file, i + 1, to, rack, inside, out);
     let middle = one.next;
     out[middle] = inside;
-    let two = start_block(s, middle + 1, to, n, inside, out);
+    let two = start_block(file, middle + 1, to, rack, inside, out);
     let last = two.next;
     let end = later(one.tick, two.tick);
     out[last] = end;
@@ -37,33 +37,47 @@ fn start_branch(s: &[u8], i: usize, to: usize, n: Settings, at: u32, out: &mut [
 }
 
 // The statement at i.
-fn start_statement(s: &[u8], i: usize, to: usize, n: Settings, at: u32, out: &mut [u32]) -> Place
-    requires { ⌜ Statement (now s) i to n at (now out) ⌝ }
-    ensures { λ r. ⌜ StatementStarted (now (s .entry)) i to n at (now (out .entry)) (now (out .exit)) r ⌝ }
+fn start_statement(
+    file: &[u8],
+    i: usize,
+    to: usize,
+    rack: Settings,
+    at: u32,
+    out: &mut [u32],
+) -> Place
+    requires { ⌜ Statement (now file) i to rack at (now out) ⌝ }
+    ensures { λ r. ⌜ StatementStarted (now (file .entry)) i to rack at (now (out .entry)) (now (out .exit)) r ⌝ }
 {
-    let r = record_at(s, i);
+    let r = record_at(file, i);
     if r.kind == kinds::IF {
-        return start_branch(s, i, to, n, at, out);
+        return start_branch(file, i, to, rack, at, out);
     }
     out[i] = at;
     Place {
-        tick: at + step_ticks(n, r),
+        tick: at + step_ticks(rack, r),
         next: i + 1,
     }
 }
 
 // The block at `from`, up to the record that closes it.
-pub fn start_block(s: &[u8], from: usize, to: usize, n: Settings, at: u32, out: &mut [u32]) -> Place
-    requires { ⌜ Entered (now s) from to n at (now out) ⌝ }
-    ensures { λ r. ⌜ BlockStarted (now (s .entry)) from to n at (now (out .entry)) (now (out .exit)) r ⌝ }
+pub fn start_block(
+    file: &[u8],
+    from: usize,
+    to: usize,
+    rack: Settings,
+    at: u32,
+    out: &mut [u32],
+) -> Place
+    requires { ⌜ Entered (now file) from to rack at (now out) ⌝ }
+    ensures { λ r. ⌜ BlockStarted (now (file .entry)) from to rack at (now (out .entry)) (now (out .exit)) r ⌝ }
 {
     let mut tick = at;
     let mut next = from;
     while next < to {
-        if closes(kind_at(s, next)) {
+        if closes(kind_at(file, next)) {
             return Place { tick, next };
         }
-        let e = start_statement(s, next, to, n, tick, out);
+        let e = start_statement(file, next, to, rack, tick, out);
         tick = e.tick;
         next = e.next;
     }

@@ -17,8 +17,8 @@ use records::kinds;
 use records::record_at;
 use stepping::progress::Progress;
 use stepping::progress::cut_off;
-use stepping::progress::ended;
 use stepping::progress::going;
+use stepping::progress::halted;
 use stepping::progress::run_last_test;
 use stepping::progress::run_step;
 use stepping::steps::test_holds;
@@ -38,35 +38,35 @@ fn wide(x: u16) -> usize
 }
 
 // The ELSE or END that closes the block behind k.
-fn last(s: &[u8], k: usize, ends: &[u16]) -> usize
-    requires { ⌜ Inner (now s) k (now ends) ⌝ }
-    ensures { λ r. ⌜ (r ≡ closing (now (s .entry)) k) × (r < 65536) ⌝ }
+fn last(file: &[u8], k: usize, ends: &[u16]) -> usize
+    requires { ⌜ Inner (now file) k (now ends) ⌝ }
+    ensures { λ r. ⌜ (r ≡ closing (now (file .entry)) k) × (r < 65536) ⌝ }
 {
     wide(ends[k + 1])
 }
 
 // The record behind it.
-fn behind(s: &[u8], k: usize, ends: &[u16]) -> usize
-    requires { ⌜ Inner (now s) k (now ends) ⌝ }
-    ensures { λ r. ⌜ r ≡ closed (now (s .entry)) k ⌝ }
+fn behind(file: &[u8], k: usize, ends: &[u16]) -> usize
+    requires { ⌜ Inner (now file) k (now ends) ⌝ }
+    ensures { λ r. ⌜ r ≡ closed (now (file .entry)) k ⌝ }
 {
-    last(s, k, ends) + 1
+    last(file, k, ends) + 1
 }
 
 // Where the side starts that the test of the IF at i chooses.
-fn side(s: &[u8], i: usize, ends: &[u16], holds: bool) -> usize
-    requires { ⌜ Inner (now s) i (now ends) ⌝ }
-    ensures { λ r. ⌜ r ≡ chosen (now (s .entry)) i holds ⌝ }
+fn side(file: &[u8], i: usize, ends: &[u16], holds: bool) -> usize
+    requires { ⌜ Inner (now file) i (now ends) ⌝ }
+    ensures { λ r. ⌜ r ≡ chosen (now (file .entry)) i holds ⌝ }
 {
     if holds {
         return i + 1;
     }
-    behind(s, i, ends)
+    behind(file, i, ends)
 }
 
 // The WHILE at i, with the record r.
 fn run_while(
-    s: &[u8],
+    file: &[u8],
     i: usize,
     ends: &[u16],
     r: Record,
@@ -76,11 +76,11 @@ fn run_while(
     tick: u32,
     cells: &mut [u32],
 ) -> Progress
-    requires { ⌜ (Statement (now s) i (now ends) (now inputs) (now cells) limit tick) × (recordOf r ≡ recordAt (now s) i) × (kindAt (now s) i ≡ WHILE) ⌝ }
-    ensures { λ e. ⌜ StatementRan (now (s .entry)) i (settingsIn (now (table .entry))) (now (inputs .entry)) limit tick (now (cells .entry)) (now (cells .exit)) e ⌝ }
+    requires { ⌜ (Statement (now file) i (now ends) (now inputs) (now cells) limit tick) × (recordOf r ≡ recordAt (now file) i) × (kindAt (now file) i ≡ WHILE) ⌝ }
+    ensures { λ e. ⌜ StatementRan (now (file .entry)) i (settingsIn (now (table .entry))) (now (inputs .entry)) limit tick (now (cells .entry)) (now (cells .exit)) e ⌝ }
 {
     let body = i + 1;
-    let to = last(s, i, ends);
+    let to = last(file, i, ends);
     let next = to + 1;
     let mut at = tick;
     let mut round: u32 = 0;
@@ -92,8 +92,8 @@ fn run_while(
         if !test_holds(cells, r) {
             return going(at, next);
         }
-        let e = run_records(s, body, to, ends, table, inputs, limit, at, cells);
-        if ended(e) {
+        let e = run_records(file, body, to, ends, table, inputs, limit, at, cells);
+        if halted(e) {
             return e;
         }
         at = e.tick;
@@ -104,7 +104,7 @@ fn run_while(
 
 // The TIMES at i, with the record r.
 fn run_times(
-    s: &[u8],
+    file: &[u8],
     i: usize,
     ends: &[u16],
     r: Record,
@@ -114,11 +114,11 @@ fn run_times(
     tick: u32,
     cells: &mut [u32],
 ) -> Progress
-    requires { ⌜ (Statement (now s) i (now ends) (now inputs) (now cells) limit tick) × (recordOf r ≡ recordAt (now s) i) × (kindAt (now s) i ≡ TIMES) ⌝ }
-    ensures { λ e. ⌜ StatementRan (now (s .entry)) i (settingsIn (now (table .entry))) (now (inputs .entry)) limit tick (now (cells .entry)) (now (cells .exit)) e ⌝ }
+    requires { ⌜ (Statement (now file) i (now ends) (now inputs) (now cells) limit tick) × (recordOf r ≡ recordAt (now file) i) × (kindAt (now file) i ≡ TIMES) ⌝ }
+    ensures { λ e. ⌜ StatementRan (now (file .entry)) i (settingsIn (now (table .entry))) (now (inputs .entry)) limit tick (now (cells .entry)) (now (cells .exit)) e ⌝ }
 {
     let body = i + 1;
-    let to = last(s, i, ends);
+    let to = last(file, i, ends);
     let next = to + 1;
     // No rounds of an empty body are walked.
     if to == body {
@@ -127,8 +127,8 @@ fn run_times(
     let mut at = tick;
     let mut round: u32 = 0;
     while round < r.count {
-        let e = run_records(s, body, to, ends, table, inputs, limit, at, cells);
-        if ended(e) {
+        let e = run_records(file, body, to, ends, table, inputs, limit, at, cells);
+        if halted(e) {
             return e;
         }
         at = e.tick;
@@ -139,7 +139,7 @@ fn run_times(
 
 // The loop at i.
 fn run_loop(
-    s: &[u8],
+    file: &[u8],
     i: usize,
     ends: &[u16],
     table: &[u32; 16],
@@ -148,14 +148,14 @@ fn run_loop(
     tick: u32,
     cells: &mut [u32],
 ) -> Progress
-    requires { ⌜ (Statement (now s) i (now ends) (now inputs) (now cells) limit tick) × (isLoop (kindAt (now s) i) ≡ true) ⌝ }
-    ensures { λ e. ⌜ StatementRan (now (s .entry)) i (settingsIn (now (table .entry))) (now (inputs .entry)) limit tick (now (cells .entry)) (now (cells .exit)) e ⌝ }
+    requires { ⌜ (Statement (now file) i (now ends) (now inputs) (now cells) limit tick) × (isLoop (kindAt (now file) i) ≡ true) ⌝ }
+    ensures { λ e. ⌜ StatementRan (now (file .entry)) i (settingsIn (now (table .entry))) (now (inputs .entry)) limit tick (now (cells .entry)) (now (cells .exit)) e ⌝ }
 {
-    let r = record_at(s, i);
+    let r = record_at(file, i);
     if r.kind == kinds::WHILE {
-        return run_while(s, i, ends, r, table, inputs, limit, tick, cells);
+        return run_while(file, i, ends, r, table, inputs, limit, tick, cells);
     }
-    run_times(s, i, ends, r, table, inputs, limit, tick, cells)
+    run_times(file, i, ends, r, table, inputs, limit, tick, cells)
 }
 
 // The record r at i, which is of that kind and opens and closes no block.
@@ -202,7 +202,7 @@ fn run_plain(
 
 // The record r at i, which is no loop: an END goes on, an ELSE and an IF are jumps, and any other is a step.
 fn run_one(
-    s: &[u8],
+    file: &[u8],
     i: usize,
     ends: &[u16],
     r: Record,
@@ -212,28 +212,28 @@ fn run_one(
     tick: u32,
     cells: &mut [u32],
 ) -> Progress
-    requires { ⌜ (Reached (now s) i (now ends) (now inputs) (now cells) limit tick) × (recordOf r ≡ recordAt (now s) i) × (isLoop (r .kind) ≡ false) ⌝ }
-    ensures { λ e. ⌜ OneRan (now (s .entry)) i (now (ends .entry)) (settingsIn (now (table .entry))) (now (inputs .entry)) limit tick (now (cells .entry)) (now (cells .exit)) e ⌝ }
+    requires { ⌜ (Reached (now file) i (now ends) (now inputs) (now cells) limit tick) × (recordOf r ≡ recordAt (now file) i) × (isLoop (r .kind) ≡ false) ⌝ }
+    ensures { λ e. ⌜ OneRan (now (file .entry)) i (now (ends .entry)) (settingsIn (now (table .entry))) (now (inputs .entry)) limit tick (now (cells .entry)) (now (cells .exit)) e ⌝ }
 {
     if r.kind == kinds::END {
         return going(tick, i + 1);
     }
     if r.kind == kinds::ELSE {
-        return going(tick, behind(s, i, ends));
+        return going(tick, behind(file, i, ends));
     }
     if r.kind == kinds::IF {
         if limit <= tick {
             return cut_off(tick);
         }
         let holds = test_holds(cells, r);
-        return going(tick + 1, side(s, i, ends, holds));
+        return going(tick + 1, side(file, i, ends, holds));
     }
     run_plain(i, r, table, inputs, limit, tick, cells)
 }
 
 // The records from `from` on, up to a loop, or up to `to`.
 fn run_steps(
-    s: &[u8],
+    file: &[u8],
     from: usize,
     to: usize,
     ends: &[u16],
@@ -243,18 +243,18 @@ fn run_steps(
     tick: u32,
     cells: &mut [u32],
 ) -> Progress
-    requires { ⌜ Begun (now s) from to (now ends) (now inputs) (now cells) limit tick ⌝ }
-    ensures { λ e. ⌜ StepsRan (now (s .entry)) from to (now (ends .entry)) (settingsIn (now (table .entry))) (now (inputs .entry)) limit tick (now (cells .entry)) (now (cells .exit)) e ⌝ }
+    requires { ⌜ Begun (now file) from to (now ends) (now inputs) (now cells) limit tick ⌝ }
+    ensures { λ e. ⌜ StepsRan (now (file .entry)) from to (now (ends .entry)) (settingsIn (now (table .entry))) (now (inputs .entry)) limit tick (now (cells .entry)) (now (cells .exit)) e ⌝ }
 {
     let mut at = tick;
     let mut next = from;
     while next < to {
-        let r = record_at(s, next);
+        let r = record_at(file, next);
         if loops(r.kind) {
             return going(at, next);
         }
-        let e = run_one(s, next, ends, r, table, inputs, limit, at, cells);
-        if ended(e) {
+        let e = run_one(file, next, ends, r, table, inputs, limit, at, cells);
+        if halted(e) {
             return e;
         }
         at = e.tick;
@@ -265,7 +265,7 @@ fn run_steps(
 
 // The records from `from` on, up to `to`: the end of the file, or the END of the loop around them.
 pub fn run_records(
-    s: &[u8],
+    file: &[u8],
     from: usize,
     to: usize,
     ends: &[u16],
@@ -275,14 +275,14 @@ pub fn run_records(
     tick: u32,
     cells: &mut [u32],
 ) -> Progress
-    requires { ⌜ Begun (now s) from to (now ends) (now inputs) (now cells) limit tick ⌝ }
-    ensures { λ e. ⌜ RecordsRan (now (s .entry)) from to (settingsIn (now (table .entry))) (now (inputs .entry)) limit tick (now (cells .entry)) (now (cells .exit)) e ⌝ }
+    requires { ⌜ Begun (now file) from to (now ends) (now inputs) (now cells) limit tick ⌝ }
+    ensures { λ e. ⌜ RecordsRan (now (file .entry)) from to (settingsIn (now (table .entry))) (now (inputs .entry)) limit tick (now (cells .entry)) (now (cells .exit)) e ⌝ }
 {
     let mut at = tick;
     let mut next = from;
     while next < to {
-        let e = run_steps(s, next, to, ends, table, inputs, limit, at, cells);
-        if ended(e) {
+        let e = run_steps(file, next, to, ends, table, inputs, limit, at, cells);
+        if halted(e) {
             return e;
         }
         at = e.tick;
@@ -290,8 +290,8 @@ pub fn run_records(
         if to <= next {
             return going(at, next);
         }
-        let e = run_loop(s, next, ends, table, inputs, limit, at, cells);
-        if ended(e) {
+        let e = run_loop(file, next, ends, table, inputs, limit, at, cells);
+        if halted(e) {
             return e;
         }
         at = e.tick;

@@ -44,20 +44,20 @@ fn clear(levels: &mut [u32], marks: &mut [u8])
 // The whole file, from the lent variables and outputs on.
 fn run_whole(
     file: &[u8],
-    n: Settings,
+    rack: Settings,
     variables: &mut [u32],
     inputs: &[u32],
     levels: &mut [u32],
     marks: &mut [u8],
 ) -> Progress
-    requires { ⌜ ReadyToRun (now file) n (now variables) (now inputs) (now levels) (now marks) ⌝ }
-    ensures { λ e. ⌜ RunWhole (now (file .entry)) n (now (inputs .entry)) (now (variables .entry)) (now (levels .entry)) (now (marks .entry))
+    requires { ⌜ ReadyToRun (now file) rack (now variables) (now inputs) (now levels) (now marks) ⌝ }
+    ensures { λ e. ⌜ RunWhole (now (file .entry)) rack (now (inputs .entry)) (now (variables .entry)) (now (levels .entry)) (now (marks .entry))
         (now (variables .exit)) (now (levels .exit)) (now (marks .exit)) e ⌝ }
 {
     let mut cells: [u32; CELLS] = [0; CELLS];
     load_variables(&mut cells, variables);
     load_outputs(&mut cells, levels, marks);
-    let e = run_from(file, 0, n, inputs, n.period, 0, &mut cells);
+    let e = run_from(file, 0, rack, inputs, rack.period, 0, &mut cells);
     store(&cells, variables, levels, marks);
     e
 }
@@ -85,9 +85,9 @@ pub fn run(
     let r = ready(settings, form, file, bad);
     match r {
         Checked::Refused(x) => Ran::Refused(x),
-        Checked::Valid(n) => {
+        Checked::Valid(rack) => {
             clear(levels, marks);
-            let end = run_whole(file, n, variables, inputs, levels, marks);
+            let end = run_whole(file, rack, variables, inputs, levels, marks);
             Ran::Ended {
                 tick: end.tick,
                 overran: end.overran,
@@ -99,7 +99,7 @@ pub fn run(
 // Up to the stop tick, with a file that was read: refusal 12 where the run ends by then.
 fn run_until_ready(
     file: &[u8],
-    n: Settings,
+    rack: Settings,
     variables: &mut [u32],
     inputs: &[u32],
     levels: &mut [u32],
@@ -107,13 +107,13 @@ fn run_until_ready(
     image: &mut [u8],
     stop: u32,
 ) -> Stopped
-    requires { ⌜ (ReadyToRun (now file) n (now variables) (now inputs) (now levels) (now marks)) × (length (now image) ≡ imageLength) ⌝ }
-    ensures { λ r. ⌜ StopsSound (now (file .entry)) n (now (inputs .entry)) stop (now (variables .entry)) (now (levels .entry)) (now (marks .entry)) (now (image .entry))
+    requires { ⌜ (ReadyToRun (now file) rack (now variables) (now inputs) (now levels) (now marks)) × (length (now image) ≡ imageLength) ⌝ }
+    ensures { λ r. ⌜ StopsSound (now (file .entry)) rack (now (inputs .entry)) stop (now (variables .entry)) (now (levels .entry)) (now (marks .entry)) (now (image .entry))
         (now (variables .exit)) (now (levels .exit)) (now (marks .exit)) (now (image .exit)) r ⌝ }
 {
     let mut cells: [u32; CELLS] = [0; CELLS];
     load_variables(&mut cells, variables);
-    let e = run_from(file, 0, n, inputs, stop, 0, &mut cells);
+    let e = run_from(file, 0, rack, inputs, stop, 0, &mut cells);
     if !e.cut {
         return Stopped::Refused(Refusal::LateStop);
     }
@@ -149,8 +149,8 @@ pub fn run_until(
     let r = ready(settings, form, file, bad);
     match r {
         Checked::Refused(x) => Stopped::Refused(x),
-        Checked::Valid(n) => {
-            run_until_ready(file, n, variables, inputs, levels, marks, image, stop)
+        Checked::Valid(rack) => {
+            run_until_ready(file, rack, variables, inputs, levels, marks, image, stop)
         }
     }
 }
@@ -158,15 +158,15 @@ pub fn run_until(
 // From an image on, with a file that was read: refusal 11 where it cannot be taken up.
 fn resume_ready(
     file: &[u8],
-    n: Settings,
+    rack: Settings,
     variables: &mut [u32],
     inputs: &[u32],
     levels: &mut [u32],
     marks: &mut [u8],
     image: &[u8],
 ) -> Ran
-    requires { ⌜ (ReadyToRun (now file) n (now variables) (now inputs) (now levels) (now marks)) × (length (now image) ≡ imageLength) ⌝ }
-    ensures { λ r. ⌜ Resumes (now (file .entry)) n (now (inputs .entry)) (now (variables .entry)) (now (levels .entry)) (now (marks .entry)) (now (image .entry))
+    requires { ⌜ (ReadyToRun (now file) rack (now variables) (now inputs) (now levels) (now marks)) × (length (now image) ≡ imageLength) ⌝ }
+    ensures { λ r. ⌜ Resumes (now (file .entry)) rack (now (inputs .entry)) (now (variables .entry)) (now (levels .entry)) (now (marks .entry)) (now (image .entry))
         (now (variables .exit)) (now (levels .exit)) (now (marks .exit)) r ⌝ }
 {
     let mut words: [u32; 18] = [0; 18];
@@ -176,14 +176,14 @@ fn resume_ready(
     if !after_save(file, index) {
         return Ran::Refused(Refusal::BadImage);
     }
-    if n.period < tick {
+    if rack.period < tick {
         return Ran::Refused(Refusal::BadImage);
     }
     let mut cells: [u32; CELLS] = [0; CELLS];
     load_variables(&mut cells, &words[2..]);
     load_outputs(&mut cells, levels, marks);
-    let limit = tick + n.period;
-    let last = run_from(file, index, n, inputs, limit, tick, &mut cells);
+    let limit = tick + rack.period;
+    let last = run_from(file, index, rack, inputs, limit, tick, &mut cells);
     store(&cells, variables, levels, marks);
     Ran::Ended {
         tick: last.tick,
@@ -216,7 +216,7 @@ pub fn resume(
     let r = ready(settings, form, file, bad);
     match r {
         Checked::Refused(x) => Ran::Refused(x),
-        Checked::Valid(n) => resume_ready(file, n, variables, inputs, levels, marks, image),
+        Checked::Valid(rack) => resume_ready(file, rack, variables, inputs, levels, marks, image),
     }
 }
 
@@ -243,8 +243,8 @@ pub fn restart(
     let r = ready(settings, form, file, bad);
     match r {
         Checked::Refused(x) => Ran::Refused(x),
-        Checked::Valid(n) => {
-            let e = run_whole(file, n, variables, inputs, levels, marks);
+        Checked::Valid(rack) => {
+            let e = run_whole(file, rack, variables, inputs, levels, marks);
             Ran::Ended {
                 tick: e.tick,
                 overran: e.overran,

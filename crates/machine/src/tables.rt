@@ -20,18 +20,18 @@ fn run_by(
     file: &[u8],
     from: usize,
     ends: &mut [u16],
-    n: Settings,
+    rack: Settings,
     inputs: &[u32],
     limit: u32,
     tick: u32,
     cells: &mut [u32],
 ) -> Progress
     requires { ⌜ (Started (now file) from (now inputs) (now cells) limit tick) × (extent (now file) < length (now ends)) ⌝ }
-    ensures { λ e. ⌜ RecordsRan (now (file .entry)) from (extent (now (file .entry))) n (now (inputs .entry)) limit tick (now (cells .entry)) (now (cells .exit)) e ⌝ }
+    ensures { λ e. ⌜ RecordsRan (now (file .entry)) from (extent (now (file .entry))) rack (now (inputs .entry)) limit tick (now (cells .entry)) (now (cells .exit)) e ⌝ }
 {
     let to = file.len() / 12;
     fill(file, to, ends);
-    let table = ticks_of(n);
+    let table = ticks_of(rack);
     run_records(file, from, to, ends, &table, inputs, limit, tick, cells)
 }
 
@@ -40,19 +40,19 @@ fn run_by(
 pub fn run_from(
     file: &[u8],
     from: usize,
-    n: Settings,
+    rack: Settings,
     inputs: &[u32],
     limit: u32,
     tick: u32,
     cells: &mut [u32],
 ) -> Progress
     requires { ⌜ Started (now file) from (now inputs) (now cells) limit tick ⌝ }
-    ensures { λ e. ⌜ RecordsRan (now (file .entry)) from (extent (now (file .entry))) n (now (inputs .entry)) limit tick (now (cells .entry)) (now (cells .exit)) e ⌝ }
+    ensures { λ e. ⌜ RecordsRan (now (file .entry)) from (extent (now (file .entry))) rack (now (inputs .entry)) limit tick (now (cells .entry)) (now (cells .exit)) e ⌝ }
 {
     if file.len() / 12 <= TASK_RECORDS {
         let mut ends: [u16; TASK_PLACES] = [0; TASK_PLACES];
-        return run_by(file, from, &mut ends, n, inputs, limit, tick, cells);
+        return run_by(file, from, &mut ends, rack, inputs, limit, tick, cells);
     }
     let mut ends: [u16; FILE_PLACES] = [0; FILE_PLACES];
-    run_by(file, from, &mut ends, n, inputs, limit, tick, cells)
+    run_by(file, from, &mut ends, rack, inputs, limit, tick, cells)
 }

@@ -35,7 +35,7 @@ module _ (σ : Settings) where
 
 module _ {σ : Settings} where
   -- nothing stands before the ticks that are left in a window
-  pub before-on : {s : State} → Layable σ → Shows σ s → (i : ℕ) → i < s .left → before σ (s .tick + i) 1 ≡ nil
+  pub before-on : {s : State} → Layable σ → Shows σ s → (i : ℕ) → i < s .«ticks_left» → before σ (s .tick + i) 1 ≡ nil
   before-on {s} L S i l = before-none L (shows-on {r = on s i (s .wait) (s .records)} i S refl (omega arith) refl (omega (arith, S .waited)) (S .few)) 1 (omega arith) (omega arith)
 
   -- a longer SKIP

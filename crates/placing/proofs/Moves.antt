@@ -18,7 +18,7 @@ use Rattle.placing.proofs.Ticking.{commands-due, before-waits, before-n
 
 -- s moved k ticks on, while w ticks of SKIP wait and n records are laid
 abbrev pub on : State → ℕ → ℕ → ℕ → State
-on s k w n = record { tick = s .tick + k; left = s .left - k; windows = s .windows; wait = w; records = n }
+on s k w n = record { tick = s .tick + k; «ticks_left» = s .«ticks_left» - k; «windows_left» = s .«windows_left»; wait = w; records = n }
 
 -- one window and those after it
 one-more : (h v : ℕ) → 1 ≤ v → h + h * (v - 1) ≡ h * v
@@ -26,10 +26,10 @@ one-more h v l = let e : v - 1 + 1 ≡ v = omega arith in omega (arith, ap (λ (
 
 module _ {σ : Settings} where
   -- no more ticks on than are left
-  pub shows-on : {s r : State} (k : ℕ) → Shows σ s → r .tick ≡ s .tick + k → r .left + k ≡ s .left → r .windows ≡ s .windows → r .wait ≤ r .tick
+  pub shows-on : {s r : State} (k : ℕ) → Shows σ s → r .tick ≡ s .tick + k → r .«ticks_left» + k ≡ s .«ticks_left» → r .«windows_left» ≡ s .«windows_left» → r .wait ≤ r .tick
       → r .records ≤ 5462 → Shows σ r
   shows-on {s} {r} k S t l w h f =
-      let e : r .tick + r .left ≡ s .tick + s .left = omega arith in
+      let e : r .tick + r .«ticks_left» ≡ s .tick + s .«ticks_left» = omega arith in
       record {
         below = omega (arith, S .below);
         fewer = omega (arith, S .fewer);
@@ -40,7 +40,7 @@ module _ {σ : Settings} where
       }
 
   -- a SKIP, and a step that waits for nothing
-  pub after-skip : {s : State} (k : ℕ) → Shows σ s → k ≤ s .left → After σ (skip k nil) s (on s k (s .wait + k) (s .records))
+  pub after-skip : {s : State} (k : ℕ) → Shows σ s → k ≤ s .«ticks_left» → After σ (skip k nil) s (on s k (s .wait + k) (s .records))
   after-skip k S l = record {
     shows = shows-on k S refl (omega arith) refl (omega (arith, S .waited)) (S .few);
     tick = omega arith;
@@ -48,7 +48,7 @@ module _ {σ : Settings} where
     records = omega (arith, S .few);
   }
 
-  pub after-act : {s : State} (p : Act) (d k n : ℕ) → ticks σ p ≡ d → Shows σ s → d ≤ s .left → k ≡ skipRecords (s .wait) → n ≡ cap (s .records + (k + 1))
+  pub after-act : {s : State} (p : Act) (d k n : ℕ) → ticks σ p ≡ d → Shows σ s → d ≤ s .«ticks_left» → k ≡ skipRecords (s .wait) → n ≡ cap (s .records + (k + 1))
       → After σ (act p nil) s (on s d 0 n)
   after-act {s} p d k n x S l e f = record {
     shows = shows-on d S refl (omega arith) refl (omega arith) (omega arith);
@@ -60,59 +60,59 @@ module _ {σ : Settings} where
   -- PAST THE COMMANDS
 
   -- q ticks of the next window are over, and the windows from there to the next SAVE are counted from its end
-  shows-past : {s r : State} (q : ℕ) → Shows σ s → 1 ≤ q → r .tick ≡ s .tick + s .left + q → r .left + q ≡ σ .window → r .windows < σ .spacing
-      → (s .tick + s .left + σ .window + σ .window * r .windows) % round σ ≡ 0 → r .wait ≡ 0 → r .records ≤ 5462 → Shows σ r
+  shows-past : {s r : State} (q : ℕ) → Shows σ s → 1 ≤ q → r .tick ≡ s .tick + s .«ticks_left» + q → r .«ticks_left» + q ≡ σ .window → r .«windows_left» < σ .spacing
+      → (s .tick + s .«ticks_left» + σ .window + σ .window * r .«windows_left») % round σ ≡ 0 → r .wait ≡ 0 → r .records ≤ 5462 → Shows σ r
   shows-past {s} {r} q S p t l w e z f =
-      let u : r .tick + r .left ≡ s .tick + s .left + σ .window = omega arith in
+      let u : r .tick + r .«ticks_left» ≡ s .tick + s .«ticks_left» + σ .window = omega arith in
       record {
         below = omega arith;
         fewer = w;
-        bound = ap (λ (x : ℕ). x % σ .window) u ∙ add-mod-right (s .tick + s .left) (σ .window) ∙ S .bound;
-        round = ap (λ (x : ℕ). (x + σ .window * r .windows) % round σ) u ∙ e;
+        bound = ap (λ (x : ℕ). x % σ .window) u ∙ add-mod-right (s .tick + s .«ticks_left») (σ .window) ∙ S .bound;
+        round = ap (λ (x : ℕ). (x + σ .window * r .«windows_left») % round σ) u ∙ e;
         waited = omega arith;
         few = f;
       }
 
   -- a BEAT and a SAVE, or a BEAT alone
-  module _ {s : State} (y : Laying σ s) (k n : ℕ) (e : k ≡ skipRecords (s .wait + s .left)) where
-    pub past-save : s .windows ≡ 0 → n ≡ cap (s .records + (k + 2)) →
+  module _ {s : State} (y : Laying σ s) (k n : ℕ) (e : k ≡ skipRecords (s .wait + s .«ticks_left»)) where
+    pub past-save : s .«windows_left» ≡ 0 → n ≡ cap (s .records + (k + 2)) →
         let r : State = record {
-          tick = s .tick + s .left + σ .beat + σ .save;
-          left = σ .window - σ .beat - σ .save;
-          windows = σ .spacing - 1;
+          tick = s .tick + s .«ticks_left» + σ .beat + σ .save;
+          «ticks_left» = σ .window - σ .beat - σ .save;
+          «windows_left» = σ .spacing - 1;
           wait = 0;
           records = n;
         } in
-        (After σ (skip (s .left) (commands σ (s .tick + s .left))) s r) × (longest σ ≤ r .left)
+        (After σ (skip (s .«ticks_left») (commands σ (s .tick + s .«ticks_left»))) s r) × (longest σ ≤ r .«ticks_left»)
     past-save w f =
-        let t = s .tick + s .left in
+        let t = s .tick + s .«ticks_left» in
         let x = one-more (σ .window) (σ .spacing) (omega arith) in
-        let v : t + σ .window + σ .window * (σ .spacing - 1) ≡ t + σ .window * s .windows + round σ = rw w (omega arith) in
-        let h = ap (λ (x : ℕ). x % round σ) v ∙ add-mod-right (t + σ .window * s .windows) (round σ) ∙ y .shows .round in
-        rw (commands-due (y .settings) (y .shows), eq-eqb (s .windows) 0 w) (
+        let v : t + σ .window + σ .window * (σ .spacing - 1) ≡ t + σ .window * s .«windows_left» + round σ = rw w (omega arith) in
+        let h = ap (λ (x : ℕ). x % round σ) v ∙ add-mod-right (t + σ .window * s .«windows_left») (round σ) ∙ y .shows .round in
+        rw (commands-due (y .settings) (y .shows), eq-eqb (s .«windows_left») 0 w) (
           record {
             shows = shows-past (σ .beat + σ .save) (y .shows) (omega arith) (omega arith) (omega arith) (omega arith) h refl (omega arith);
             tick = omega arith;
             wait = refl;
-            records = omega (arith, size-waiting (s .wait + s .left) (act (beat 1) (act (save 0) nil)));
+            records = omega (arith, size-waiting (s .wait + s .«ticks_left») (act (beat 1) (act (save 0) nil)));
           },
           omega arith,
         )
 
-    pub past-beat : (s .windows ≡ 0 → ⊥) → n ≡ cap (s .records + (k + 1)) →
-        let r : State = record { tick = s .tick + s .left + σ .beat; left = σ .window - σ .beat; windows = s .windows - 1; wait = 0; records = n } in
-        (After σ (skip (s .left) (commands σ (s .tick + s .left))) s r) × (longest σ ≤ r .left)
+    pub past-beat : (s .«windows_left» ≡ 0 → ⊥) → n ≡ cap (s .records + (k + 1)) →
+        let r : State = record { tick = s .tick + s .«ticks_left» + σ .beat; «ticks_left» = σ .window - σ .beat; «windows_left» = s .«windows_left» - 1; wait = 0; records = n } in
+        (After σ (skip (s .«ticks_left») (commands σ (s .tick + s .«ticks_left»))) s r) × (longest σ ≤ r .«ticks_left»)
     past-beat w f =
-        let t = s .tick + s .left in
-        let x = one-more (σ .window) (s .windows) (omega arith) in
-        let v : t + σ .window + σ .window * (s .windows - 1) ≡ t + σ .window * s .windows = omega arith in
+        let t = s .tick + s .«ticks_left» in
+        let x = one-more (σ .window) (s .«windows_left») (omega arith) in
+        let v : t + σ .window + σ .window * (s .«windows_left» - 1) ≡ t + σ .window * s .«windows_left» = omega arith in
         let h = ap (λ (x : ℕ). x % round σ) v ∙ y .shows .round in
-        rw (commands-due (y .settings) (y .shows), ne-eqb (s .windows) 0 w) (
+        rw (commands-due (y .settings) (y .shows), ne-eqb (s .«windows_left») 0 w) (
           record {
             shows = shows-past (σ .beat) (y .shows) (omega arith) (omega arith) (omega arith) (omega arith) h refl (omega arith);
             tick = omega arith;
             wait = refl;
-            records = omega (arith, size-waiting (s .wait + s .left) (act (beat 1) nil));
+            records = omega (arith, size-waiting (s .wait + s .«ticks_left») (act (beat 1) nil));
           },
           omega arith,
         )
@@ -120,11 +120,11 @@ module _ {σ : Settings} where
   -- BEFORE A STEP, AND OVER IT
 
   module _ {s : State} (y : Laying σ s) (d : ℕ) where
-    pub readied-past : {r : State} → s .left < d → d ≤ longest σ → After σ (skip (s .left) (commands σ (s .tick + s .left))) s r → longest σ ≤ r .left
+    pub readied-past : {r : State} → s .«ticks_left» < d → d ≤ longest σ → After σ (skip (s .«ticks_left») (commands σ (s .tick + s .«ticks_left»))) s r → longest σ ≤ r .«ticks_left»
         → Readied σ s d r
     readied-past l h A m = record { after = after-alike (before-waits (y .settings) (y .shows) d l h) A; room = omega arith }
 
-    pub readied-here : 1 ≤ d → d ≤ s .left → Readied σ s d s
+    pub readied-here : 1 ≤ d → d ≤ s .«ticks_left» → Readied σ s d s
     readied-here p l = record { after = rw (before-none (y .settings) (y .shows) d p l) (after-nil (y .shows)); room = l }
 
   pub stepped-on : {s u : State} (d k n : ℕ) → Readied σ s d u → k ≡ skipRecords (u .wait) → n ≡ cap (u .records + (k + 1)) → Stepped σ s d (on u d 0 n)

@@ -33,7 +33,7 @@ saveBytes v = cond (eqb v 0) (recordBytes (actRec (save 0))) []
 
 -- what leads to the next multiple of H, and its commands
 abbrev pub dueBytes : Settings → State → List ℕ
-dueBytes σ s = bytesOf s (skip (s .left) (commands σ (s .tick + s .left)))
+dueBytes σ s = bytesOf s (skip (s .«ticks_left») (commands σ (s .tick + s .«ticks_left»)))
 
 due-save : (w : ℕ) (o : Bool)
     → blockBytes (settled w (act (beat 1) (cond o (act (save 0) nil) nil)))
@@ -43,18 +43,18 @@ due-save w true = waiting-bytes w (act (beat 1) (act (save 0) nil))
 due-save w false = waiting-bytes w (act (beat 1) nil)
 
 module _ {σ : Settings} {s : State} (y : Laying σ s) where
-  due-split : dueBytes σ s ≡ skipBytes (s .wait + s .left) ++ (recordBytes (actRec (beat 1)) ++ saveBytes (s .windows))
+  due-split : dueBytes σ s ≡ skipBytes (s .wait + s .«ticks_left») ++ (recordBytes (actRec (beat 1)) ++ saveBytes (s .«windows_left»))
   due-split =
-      ap (λ (c : Block). blockBytes (settled (s .wait + s .left) c)) (commands-due (y .settings) (y .shows))
-      ∙ due-save (s .wait + s .left) (eqb (s .windows) 0)
+      ap (λ (c : Block). blockBytes (settled (s .wait + s .«ticks_left») c)) (commands-due (y .settings) (y .shows))
+      ∙ due-save (s .wait + s .«ticks_left») (eqb (s .«windows_left») 0)
 
   module _ (old : List ℕ) (room : length (dueBytes σ s) ≤ length old) where
-    pub due-fits : length (skipBytes (s .wait + s .left)) ≤ length old
-    due-fits = omega (arith, ap length due-split, length-append (skipBytes (s .wait + s .left)) (recordBytes (actRec (beat 1)) ++ saveBytes (s .windows)))
+    pub due-fits : length (skipBytes (s .wait + s .«ticks_left»)) ≤ length old
+    due-fits = omega (arith, ap length due-split, length-append (skipBytes (s .wait + s .«ticks_left»)) (recordBytes (actRec (beat 1)) ++ saveBytes (s .«windows_left»)))
 
-    pub due-skipped : {new : List ℕ} {n : ℕ} → Wrote (skipBytes (s .wait + s .left)) old new n
-        → Part (dueBytes σ s) (recordBytes (actRec (beat 1)) ++ saveBytes (s .windows)) old new n
-    due-skipped W = rw due-split (part-first (skipBytes (s .wait + s .left)) (rw due-split at room) (W .laid) (W .count))
+    pub due-skipped : {new : List ℕ} {n : ℕ} → Wrote (skipBytes (s .wait + s .«ticks_left»)) old new n
+        → Part (dueBytes σ s) (recordBytes (actRec (beat 1)) ++ saveBytes (s .«windows_left»)) old new n
+    due-skipped W = rw due-split (part-first (skipBytes (s .wait + s .«ticks_left»)) (rw due-split at room) (W .laid) (W .count))
 
 -- no SAVE is due, or one is
 module _ {w old new : List ℕ} {at : ℕ} (v : ℕ) (P : Part w (saveBytes v) old new at) where
@@ -70,7 +70,7 @@ module _ {w old new : List ℕ} {at : ℕ} (v : ℕ) (P : Part w (saveBytes v) o
 -- WHAT STANDS BEFORE A STEP
 
 module _ {σ : Settings} {s : State} (y : Laying σ s) (d : ℕ) where
-  module _ (l : s .left < d) (h : d ≤ longest σ) where
+  module _ (l : s .«ticks_left» < d) (h : d ≤ longest σ) where
     due-same : dueBytes σ s ≡ bytesOf s (before σ (s .tick) d)
     due-same = ap blockBytes (before-waits (y .settings) (y .shows) d l h .settles (s .wait))
 
@@ -80,7 +80,7 @@ module _ {σ : Settings} {s : State} (y : Laying σ s) (d : ℕ) where
     pub before-written : {old new : List ℕ} {n : ℕ} → Wrote (dueBytes σ s) old new n → Wrote (bytesOf s (before σ (s .tick) d)) old new n
     before-written {old} {new} {n} W = subst (λ (bs : List ℕ). Wrote bs old new n) due-same W
 
-  pub before-nothing : 1 ≤ d → d ≤ s .left → (old : List ℕ) → Wrote (bytesOf s (before σ (s .tick) d)) old old 0
+  pub before-nothing : 1 ≤ d → d ≤ s .«ticks_left» → (old : List ℕ) → Wrote (bytesOf s (before σ (s .tick) d)) old old 0
   unfolding blockBytes linearise bytes
   before-nothing p l old = rw (before-none (y .settings) (y .shows) d p l) (record { laid = refl; count = refl })
 

@@ -37,48 +37,48 @@ module _ (σ : Settings) where
 
 module _ {σ : Settings} (L : Layable σ) {s : State} (S : Shows σ s) where
   -- the commands of the next multiple of H
-  pub commands-due : commands σ (s .tick + s .left) ≡ act (beat 1) (cond (eqb (s .windows) 0) (act (save 0) nil) nil)
-  commands-due = rw (eq-eqb (t % σ .window) 0 (S .bound), go (eqb (s .windows) 0) refl)
+  pub commands-due : commands σ (s .tick + s .«ticks_left») ≡ act (beat 1) (cond (eqb (s .«windows_left») 0) (act (save 0) nil) nil)
+  commands-due = rw (eq-eqb (t % σ .window) 0 (S .bound), go (eqb (s .«windows_left») 0) refl)
     where
       t : ℕ
-      t = s .tick + s .left
+      t = s .tick + s .«ticks_left»
 
-      go : (o : Bool) → eqb (s .windows) 0 ≡ o → eqb (t % round σ) 0 ≡ o
+      go : (o : Bool) → eqb (s .«windows_left») 0 ≡ o → eqb (t % round σ) 0 ≡ o
       go true e =
-          let z : t + σ .window * s .windows ≡ t = rw (eqb-true (s .windows) 0 e) (omega arith) in
+          let z : t + σ .window * s .«windows_left» ≡ t = rw (eqb-true (s .«windows_left») 0 e) (omega arith) in
           eq-eqb (t % round σ) 0 (ap (λ (x : ℕ). x % round σ) (sym z) ∙ S .round)
       go false e =
           ne-eqb (t % round σ) 0
           (λ z.
-          let w : 1 ≤ s .windows = omega (arith, eqb-false (s .windows) 0 e) in
+          let w : 1 ≤ s .«windows_left» = omega (arith, eqb-false (s .«windows_left») 0 e) in
           let l = mul-le-mul-left (σ .window) w in
           let h = mul-le-mul-left (σ .window) (S .fewer) in
-          let m = mod-within (round σ) (round-pos σ (L .fits)) t (σ .window * s .windows) (omega arith) in
+          let m = mod-within (round σ) (round-pos σ (L .fits)) t (σ .window * s .«windows_left») (omega arith) in
           omega (arith, S .round, window-pos σ (L .fits)))
 
   -- before it there are none
-  pub no-commands : 1 ≤ s .left → commands σ (s .tick) ≡ nil
-  no-commands l = rw (ne-eqb (s .tick % σ .window) 0 (λ z. omega (arith, S .bound, window-on σ (L .fits) (s .tick) (s .left) (omega (arith, S .below)))))
+  pub no-commands : 1 ≤ s .«ticks_left» → commands σ (s .tick) ≡ nil
+  no-commands l = rw (ne-eqb (s .tick % σ .window) 0 (λ z. omega (arith, S .bound, window-on σ (L .fits) (s .tick) (s .«ticks_left») (omega (arith, S .below)))))
 
-  pub left-is : 1 ≤ s .left → left σ (s .tick) ≡ s .left
-  left-is l = go (ltb (s .left) k) refl
+  pub left-is : 1 ≤ s .«ticks_left» → left σ (s .tick) ≡ s .«ticks_left»
+  left-is l = go (ltb (s .«ticks_left») k) refl
     where
       k : ℕ
       k = left σ (s .tick)
 
-      go : (o : Bool) → ltb (s .left) k ≡ o → k ≡ s .left
+      go : (o : Bool) → ltb (s .«ticks_left») k ≡ o → k ≡ s .«ticks_left»
       go true e =
-          let m = window-on σ (L .fits) (s .tick) (s .left) (omega (arith, ltb-true (s .left) k e)) in
+          let m = window-on σ (L .fits) (s .tick) (s .«ticks_left») (omega (arith, ltb-true (s .«ticks_left») k e)) in
           omega (arith, S .bound)
       go false e =
           let p = mod-lt (s .tick) (window-pos σ (L .fits)) in
           let z = mod-over (σ .window) (window-pos σ (L .fits)) (s .tick) k (omega arith) in
-          let m = window-on σ (L .fits) (s .tick + k) (s .left - k) (omega (arith, S .below)) in
-          let t : s .tick + k + (s .left - k) ≡ s .tick + s .left = omega (arith, ltb-false (s .left) k e) in
-          omega (arith, ltb-false (s .left) k e, ap (λ (x : ℕ). x % σ .window) t, S .bound)
+          let m = window-on σ (L .fits) (s .tick + k) (s .«ticks_left» - k) (omega (arith, S .below)) in
+          let t : s .tick + k + (s .«ticks_left» - k) ≡ s .tick + s .«ticks_left» = omega (arith, ltb-false (s .«ticks_left») k e) in
+          omega (arith, ltb-false (s .«ticks_left») k e, ap (λ (x : ℕ). x % σ .window) t, S .bound)
 
   -- what stands before a step at a multiple of H, and past its commands
-  before-bound : (d : ℕ) → s .left ≡ 0 → d ≤ longest σ → before σ (s .tick) d ≡ commands σ (s .tick)
+  before-bound : (d : ℕ) → s .«ticks_left» ≡ 0 → d ≤ longest σ → before σ (s .tick) d ≡ commands σ (s .tick)
   unfolding before
   before-bound d e h =
       let c = commands σ (s .tick) in
@@ -87,20 +87,20 @@ module _ {σ : Settings} (L : Layable σ) {s : State} (S : Shows σ s) where
       let m = window-on σ (L .fits) (s .tick) (time σ c) (omega (arith, L .fits .wide, L .fits .positive .set-lasts, commands-short σ (s .tick))) in
       rw (le-ltb (left σ u) d (omega (arith, L .fits .wide, commands-short σ (s .tick)))) (⧺-nil c)
 
-  before-past : (d : ℕ) → 1 ≤ s .left → before σ (s .tick) d ≡ cond (ltb (s .left) d) (skip (s .left) (commands σ (s .tick + s .left))) nil
+  before-past : (d : ℕ) → 1 ≤ s .«ticks_left» → before σ (s .tick) d ≡ cond (ltb (s .«ticks_left») d) (skip (s .«ticks_left») (commands σ (s .tick + s .«ticks_left»))) nil
   unfolding before
   before-past d l = rw (no-commands l, add-zero (s .tick), left-is l)
 
   -- a step that is longer than the ticks left waits
-  pub before-waits : (d : ℕ) → s .left < d → d ≤ longest σ → Alike σ (skip (s .left) (commands σ (s .tick + s .left))) (before σ (s .tick) d)
-  before-waits d l h = go (eqb (s .left) 0) refl
+  pub before-waits : (d : ℕ) → s .«ticks_left» < d → d ≤ longest σ → Alike σ (skip (s .«ticks_left») (commands σ (s .tick + s .«ticks_left»))) (before σ (s .tick) d)
+  before-waits d l h = go (eqb (s .«ticks_left») 0) refl
     where
-      go : (o : Bool) → eqb (s .left) 0 ≡ o → Alike σ (skip (s .left) (commands σ (s .tick + s .left))) (before σ (s .tick) d)
+      go : (o : Bool) → eqb (s .«ticks_left») 0 ≡ o → Alike σ (skip (s .«ticks_left») (commands σ (s .tick + s .«ticks_left»))) (before σ (s .tick) d)
       go true e =
-          let z = eqb-true (s .left) 0 e in
+          let z = eqb-true (s .«ticks_left») 0 e in
           rw (z, add-zero (s .tick)) (alike-trans (alike-skip (commands σ (s .tick))) (alike-eq (sym (before-bound d z h))))
-      go false e = alike-eq (sym (before-past d (omega (arith, eqb-false (s .left) 0 e)) ∙ rw (lt-ltb (s .left) d l)))
+      go false e = alike-eq (sym (before-past d (omega (arith, eqb-false (s .«ticks_left») 0 e)) ∙ rw (lt-ltb (s .«ticks_left») d l)))
 
   -- any other does not
-  pub before-none : (d : ℕ) → 1 ≤ d → d ≤ s .left → before σ (s .tick) d ≡ nil
-  before-none d l h = before-past d (omega arith) ∙ rw (le-ltb (s .left) d h)
+  pub before-none : (d : ℕ) → 1 ≤ d → d ≤ s .«ticks_left» → before σ (s .tick) d ≡ nil
+  before-none d l h = before-past d (omega arith) ∙ rw (le-ltb (s .«ticks_left») d h)

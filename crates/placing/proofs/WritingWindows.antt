@@ -67,11 +67,11 @@ module _ {σ : Settings} {count : ℕ} where
     skips-at e = rw e (writing-at (W .writing))
 
     -- more than are left in the window
-    module _ (h : s .left < k) {r : State} (A : After σ (toNext σ s) s r) (p : longest σ ≤ r .left) where
-      turn : Alike σ (toNext σ s ⧺ idles σ (k - s .left) (r .tick)) (idles σ k (s .tick))
+    module _ (h : s .«ticks_left» < k) {r : State} (A : After σ (toNext σ s) s r) (p : longest σ ≤ r .«ticks_left») where
+      turn : Alike σ (toNext σ s ⧺ idles σ (k - s .«ticks_left») (r .tick)) (idles σ k (s .tick))
       turn = idles-next (W .settings) (W .writing .after .shows) A p k h
 
-      split : Writing σ (idles σ count (from .tick)) (toNext σ s ⧺ idles σ (k - s .left) (r .tick)) from s old new
+      split : Writing σ (idles σ count (from .tick)) (toNext σ s ⧺ idles σ (k - s .«ticks_left») (r .tick)) from s old new
       split = writing-same (W .writing) (alike-sym turn)
 
       pub skips-less : σ .period + 1 - r .tick < σ .period + 1 - s .tick
@@ -80,17 +80,17 @@ module _ {σ : Settings} {count : ℕ} where
 
       module _ {n : ℕ} (e : n ≡ laidBytes from s) where
         pub skips-fit : length (bytesOf s (toNext σ s)) ≤ length (lent new n)
-        skips-fit = next-fits (idles σ (k - s .left) (r .tick)) split e
+        skips-fit = next-fits (idles σ (k - s .«ticks_left») (r .tick)) split e
 
-        pub skips-next : {ys : List ℕ} {m : ℕ} → Wrote (bytesOf s (toNext σ s)) (lent new n) ys m → WritingSkips σ count from r (k - s .left) old (back new n ys)
+        pub skips-next : {ys : List ℕ} {m : ℕ} → Wrote (bytesOf s (toNext σ s)) (lent new n) ys m → WritingSkips σ count from r (k - s .«ticks_left») old (back new n ys)
         skips-next E = record {
           settings = W .settings;
-          soon = omega (arith, W .soon, A .tick, turn .lasts, time-⧺ σ (toNext σ s) (idles σ (k - s .left) (r .tick)));
-          writing = next-laid (idles σ (k - s .left) (r .tick)) split e A E;
+          soon = omega (arith, W .soon, A .tick, turn .lasts, time-⧺ σ (toNext σ s) (idles σ (k - s .«ticks_left») (r .tick)));
+          writing = next-laid (idles σ (k - s .«ticks_left») (r .tick)) split e A E;
         }
 
     -- no more
-    pub skips-laid : k ≤ s .left → {r : State} → Idled s k r → Lays σ (idles σ count (from .tick)) from old new r
+    pub skips-laid : k ≤ s .«ticks_left» → {r : State} → Idled s k r → Lays σ (idles σ count (from .tick)) from old new r
     skips-laid h I = skipped (writing-same (W .writing) (alike-sym (idles-left (W .settings) (W .writing .after .shows) k h))) I
 
 -- FILLING
@@ -109,7 +109,7 @@ module _ {σ : Settings} {e : ℕ} where
     filling-at h = rw h (writing-at (W .writing))
 
     -- more than are left in the window
-    module _ (h : s .left < e - s .tick) {r : State} (A : After σ (toNext σ s) s r) (p : longest σ ≤ r .left) where
+    module _ (h : s .«ticks_left» < e - s .tick) {r : State} (A : After σ (toNext σ s) s r) (p : longest σ ≤ r .«ticks_left») where
       pub filling-less : e - r .tick < e - s .tick
       filling-less = fill-less (W .can) h A p
 
@@ -124,5 +124,5 @@ module _ {σ : Settings} {e : ℕ} where
         filling-next E = record { can = fillable-next (W .can) h A p; writing = next-laid (fill σ (e - r .tick) (r .tick) e) cut z A E }
 
     -- no more
-    pub filling-laid : e - s .tick ≤ s .left → {r : State} → Idled s (e - s .tick) r → Lays σ (fill σ (e - from .tick) (from .tick) e) from old new r
+    pub filling-laid : e - s .tick ≤ s .«ticks_left» → {r : State} → Idled s (e - s .tick) r → Lays σ (fill σ (e - from .tick) (from .tick) e) from old new r
     filling-laid h I = skipped (writing-same (W .writing) (alike-sym (fill-last (W .can) h))) I

@@ -61,4 +61,4 @@ pub record EndLaid (σ : Settings) (s : State) (e : ℕ) (x : Rec) (old new : Li
 
 -- the tail of the file from s on: SKIPs to the next multiple of H, and the last BEAT
 abbrev pub tailBytes : Settings → State → List ℕ
-tailBytes σ s = skipBytes (s .wait + s .left) ++ recordBytes (actRec (beat (lastValue σ (s .tick + s .left))))
+tailBytes σ s = skipBytes (s .wait + s .«ticks_left») ++ recordBytes (actRec (beat (lastValue σ (s .tick + s .«ticks_left»))))

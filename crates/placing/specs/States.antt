@@ -27,10 +27,10 @@ cap n = min n tooMany
 
 -- the ticks left to the next multiple of H, 0 at one before its commands, and the windows left from there to the next one of K × H
 pub record Shows (σ : Settings) (s : State) : Type 0 where
-  pub below : s .left < σ .window
-  pub fewer : s .windows < σ .spacing
-  pub bound : (s .tick + s .left) % σ .window ≡ 0
-  pub round : (s .tick + s .left + σ .window * s .windows) % (σ .spacing * σ .window) ≡ 0
+  pub below : s .«ticks_left» < σ .window
+  pub fewer : s .«windows_left» < σ .spacing
+  pub bound : (s .tick + s .«ticks_left») % σ .window ≡ 0
+  pub round : (s .tick + s .«ticks_left» + σ .window * s .«windows_left») % (σ .spacing * σ .window) ≡ 0
   pub waited : s .wait ≤ s .tick
   pub few : s .records ≤ tooMany
 
@@ -50,7 +50,7 @@ pub record After (σ : Settings) (c : Block) (s r : State) : Type 0 where
 -- d ticks are left in the window
 pub record Readied (σ : Settings) (s : State) (d : ℕ) (r : State) : Type 0 where
   pub after : After σ (before σ (s .tick) d) s r
-  pub room : d ≤ r .left
+  pub room : d ≤ r .«ticks_left»
 
 -- a step of d ticks, and what stands before it
 pub record Stepped (σ : Settings) (s : State) (d : ℕ) (r : State) : Type 0 where
@@ -80,8 +80,8 @@ pub record FillCounted (σ : Settings) (s : State) (e n : ℕ) : Type 0 where
 
 -- the clock of s, while w ticks of SKIP wait, after n records
 abbrev pub backTo : State → ℕ → ℕ → State
-backTo s w n = record { tick = s .tick; left = s .left; windows = s .windows; wait = w; records = n }
+backTo s w n = record { tick = s .tick; «ticks_left» = s .«ticks_left»; «windows_left» = s .«windows_left»; wait = w; records = n }
 
 -- tick 0, before its commands
 abbrev pub started : State
-started = record { tick = 0; left = 0; windows = 0; wait = 0; records = 0 }
+started = record { tick = 0; «ticks_left» = 0; «windows_left» = 0; wait = 0; records = 0 }

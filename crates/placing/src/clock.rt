@@ -15,9 +15,9 @@ pub const TOO_MANY: usize = FILE_RECORDS + 1;
 pub struct State {
     pub tick: u32,
     // The ticks left to the next multiple of the window; 0 at one, before its commands.
-    pub left: u32,
+    pub ticks_left: u32,
     // The windows left from there to the next one with a SAVE.
-    pub windows: u32,
+    pub windows_left: u32,
     // The ticks of SKIP that wait for the next record.
     pub wait: u32,
     // The records laid, or one more than a file can have.
@@ -30,8 +30,8 @@ pub fn start() -> State
 {
     State {
         tick: 0,
-        left: 0,
-        windows: 0,
+        ticks_left: 0,
+        windows_left: 0,
         wait: 0,
         records: 0,
     }
@@ -50,51 +50,51 @@ pub fn counted(records: usize, more: usize) -> usize
 }
 
 // SKIPs up to the next multiple of the window, and its commands.
-pub fn commanded(n: Settings, s: State) -> State
-    requires { ⌜ Laying n s ⌝ }
-    ensures { λ r. ⌜ (After n (skip (s .left) (commands n (s .tick + s .left))) s r) × (longest n ≤ r .left) ⌝ }
+pub fn commanded(rack: Settings, s: State) -> State
+    requires { ⌜ Laying rack s ⌝ }
+    ensures { λ r. ⌜ (After rack (skip (s .«ticks_left») (commands rack (s .tick + s .«ticks_left»))) s r) × (longest rack ≤ r .«ticks_left») ⌝ }
 {
-    let bound = s.tick + s.left;
-    let skips = skip_records((s.wait + s.left) as u64);
-    if s.windows == 0 {
+    let bound = s.tick + s.ticks_left;
+    let skips = skip_records((s.wait + s.ticks_left) as u64);
+    if s.windows_left == 0 {
         return State {
-            tick: bound + n.beat + n.save,
-            left: n.window - n.beat - n.save,
-            windows: n.spacing - 1,
+            tick: bound + rack.beat + rack.save,
+            ticks_left: rack.window - rack.beat - rack.save,
+            windows_left: rack.spacing - 1,
             wait: 0,
             records: counted(s.records, skips + 2),
         };
     }
     State {
-        tick: bound + n.beat,
-        left: n.window - n.beat,
-        windows: s.windows - 1,
+        tick: bound + rack.beat,
+        ticks_left: rack.window - rack.beat,
+        windows_left: s.windows_left - 1,
         wait: 0,
         records: counted(s.records, skips + 1),
     }
 }
 
 // What stands before a step of d ticks: it waits for the next multiple of the window where fewer are left.
-pub fn readied(n: Settings, s: State, d: u32) -> State
-    requires { ⌜ (Laying n s) × (1 ≤ d) × (d ≤ longest n) ⌝ }
-    ensures { λ r. ⌜ Readied n s d r ⌝ }
+pub fn readied(rack: Settings, s: State, d: u32) -> State
+    requires { ⌜ (Laying rack s) × (1 ≤ d) × (d ≤ longest rack) ⌝ }
+    ensures { λ r. ⌜ Readied rack s d r ⌝ }
 {
-    if s.left < d {
-        return commanded(n, s);
+    if s.ticks_left < d {
+        return commanded(rack, s);
     }
     s
 }
 
 // A step of d ticks, and what stands before it.
-pub fn stepped(n: Settings, from: State, d: u32) -> State
-    requires { ⌜ (Laying n from) × (1 ≤ d) × (d ≤ longest n) ⌝ }
-    ensures { λ r. ⌜ Stepped n from d r ⌝ }
+pub fn stepped(rack: Settings, from: State, d: u32) -> State
+    requires { ⌜ (Laying rack from) × (1 ≤ d) × (d ≤ longest rack) ⌝ }
+    ensures { λ r. ⌜ Stepped rack from d r ⌝ }
 {
-    let s = readied(n, from, d);
+    let s = readied(rack, from, d);
     State {
         tick: s.tick + d,
-        left: s.left - d,
-        windows: s.windows,
+        ticks_left: s.ticks_left - d,
+        windows_left: s.windows_left,
         wait: 0,
         records: counted(s.records, skip_records(s.wait as u64) + 1),
     }
@@ -102,43 +102,43 @@ pub fn stepped(n: Settings, from: State, d: u32) -> State
 
 // k single ticks of SKIP, no more than are left.
 pub fn idled(s: State, k: u32) -> State
-    requires { ⌜ (k ≤ s .left) × (s .tick ≤ 2 ^ 30) × (s .wait ≤ 2 ^ 30) × (k ≤ 2 ^ 30) ⌝ }
+    requires { ⌜ (k ≤ s .«ticks_left») × (s .tick ≤ 2 ^ 30) × (s .wait ≤ 2 ^ 30) × (k ≤ 2 ^ 30) ⌝ }
     ensures { λ r. ⌜ Idled s k r ⌝ }
 {
     State {
         tick: s.tick + k,
-        left: s.left - k,
-        windows: s.windows,
+        ticks_left: s.ticks_left - k,
+        windows_left: s.windows_left,
         wait: s.wait + k,
         records: s.records,
     }
 }
 
 // So many single ticks of SKIP, window by window; given up once the tick is above the period.
-pub fn filled(n: Settings, from: State, count: u32) -> State
-    requires { ⌜ Laying n from ⌝ }
-    ensures { λ r. ⌜ Skipped n count from r ⌝ }
+pub fn filled(rack: Settings, from: State, count: u32) -> State
+    requires { ⌜ Laying rack from ⌝ }
+    ensures { λ r. ⌜ Skipped rack count from r ⌝ }
 {
     let mut s = from;
     let mut k = count;
-    while (s.left < k) & (s.tick <= n.period) {
-        k -= s.left;
-        s = commanded(n, s);
+    while (s.ticks_left < k) & (s.tick <= rack.period) {
+        k -= s.ticks_left;
+        s = commanded(rack, s);
     }
-    if n.period < s.tick {
+    if rack.period < s.tick {
         return s;
     }
     idled(s, k)
 }
 
 // The records once single ticks of SKIP fill up to the tick `end`, with the SKIP that waits there; counted only while a file can have as many.
-pub fn fill_count(n: Settings, from: State, end: u32) -> usize
-    requires { ⌜ Fillable n from end ⌝ }
-    ensures { λ r. ⌜ FillCounted n from end r ⌝ }
+pub fn fill_count(rack: Settings, from: State, end: u32) -> usize
+    requires { ⌜ Fillable rack from end ⌝ }
+    ensures { λ r. ⌜ FillCounted rack from end r ⌝ }
 {
     let mut s = from;
-    while (s.left < end - s.tick) & (s.records < TOO_MANY) {
-        s = commanded(n, s);
+    while (s.ticks_left < end - s.tick) & (s.records < TOO_MANY) {
+        s = commanded(rack, s);
     }
     s.records + skip_records((s.wait + (end - s.tick)) as u64)
 }
@@ -149,8 +149,8 @@ pub fn back(clock: State, wait: u32, records: usize) -> State
 {
     State {
         tick: clock.tick,
-        left: clock.left,
-        windows: clock.windows,
+        ticks_left: clock.ticks_left,
+        windows_left: clock.windows_left,
         wait,
         records,
     }

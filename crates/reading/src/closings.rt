@@ -9,14 +9,14 @@ use records::kind_at;
 use records::kinds;
 
 // The closing at i, with those behind it known.
-fn closing_of(s: &[u8], i: usize, to: usize, ends: &[u16]) -> u16
-    requires { ⌜ (Fillable (now s) to (now ends)) × (i ≤ to) × (ClosingsFrom (now s) (i + 1) to (now ends)) ⌝ }
-    ensures { λ r. ⌜ r ≡ closingIn (now (s .entry)) (to - i) i 0 ⌝ }
+fn closing_of(file: &[u8], i: usize, to: usize, ends: &[u16]) -> u16
+    requires { ⌜ (Fillable (now file) to (now ends)) × (i ≤ to) × (ClosingsFrom (now file) (i + 1) to (now ends)) ⌝ }
+    ensures { λ r. ⌜ r ≡ closingIn (now (file .entry)) (to - i) i 0 ⌝ }
 {
     if to <= i {
         return i as u16;
     }
-    let kind = kind_at(s, i);
+    let kind = kind_at(file, i);
     if closes(kind) {
         return i as u16;
     }
@@ -33,14 +33,14 @@ fn closing_of(s: &[u8], i: usize, to: usize, ends: &[u16]) -> u16
 
 // For each record, and for the end, the index of the ELSE or END that closes the block that stands there, or the end: from the last
 // record to the first.
-pub fn fill(s: &[u8], to: usize, ends: &mut [u16])
-    requires { ⌜ Fillable (now s) to (now ends) ⌝ }
-    ensures { λ _. ⌜ Closings (now (s .entry)) to (now (ends .exit)) ⌝ }
+pub fn fill(file: &[u8], to: usize, ends: &mut [u16])
+    requires { ⌜ Fillable (now file) to (now ends) ⌝ }
+    ensures { λ _. ⌜ Closings (now (file .entry)) to (now (ends .exit)) ⌝ }
 {
     let mut i = to + 1;
     while 0 < i {
         i -= 1;
-        let c = closing_of(s, i, to, ends);
+        let c = closing_of(file, i, to, ends);
         ends[i] = c;
     }
 }

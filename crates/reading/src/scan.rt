@@ -71,17 +71,17 @@ fn check_record(form: Form, r: Record, i: usize, around: Blocks) -> Turn
 }
 
 // Rows 2 to 5, over the records of a file.
-fn scan_records(form: Form, s: &[u8]) -> Scanned
-    ensures { λ r. ⌜ ScansRecords form (now (s .entry)) r ⌝ }
+fn scan_records(form: Form, file: &[u8]) -> Scanned
+    ensures { λ r. ⌜ ScansRecords form (now (file .entry)) r ⌝ }
 {
-    let n = s.len() / 12;
+    let n = file.len() / 12;
     let mut around = Blocks {
         depth: 0,
         waiting: 0,
     };
     let mut i = 0;
     while i < n {
-        let t = check_record(form, record_at(s, i), i, around);
+        let t = check_record(form, record_at(file, i), i, around);
         match t {
             Turn::Refused(x) => {
                 return Scanned::Refused(x);
@@ -99,14 +99,14 @@ fn scan_records(form: Form, s: &[u8]) -> Scanned
 }
 
 // Rows 1 to 5.
-pub fn scan_file(form: Form, s: &[u8]) -> Scanned
-    ensures { λ r. ⌜ Scans form (now (s .entry)) r ⌝ }
+pub fn scan_file(form: Form, file: &[u8]) -> Scanned
+    ensures { λ r. ⌜ Scans form (now (file .entry)) r ⌝ }
 {
-    if s.len() % 12 != 0 {
-        return Scanned::Refused(Refusal::BadLength(s.len()));
+    if file.len() % 12 != 0 {
+        return Scanned::Refused(Refusal::BadLength(file.len()));
     }
-    if 12 * max_records(form) < s.len() {
-        return Scanned::Refused(Refusal::BadLength(s.len()));
+    if 12 * max_records(form) < file.len() {
+        return Scanned::Refused(Refusal::BadLength(file.len()));
     }
-    scan_records(form, s)
+    scan_records(form, file)
 }

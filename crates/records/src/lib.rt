@@ -25,26 +25,26 @@ pub struct Record {
 }
 
 // The kind of the record with index i.
-pub fn kind_at(s: &[u8], i: usize) -> u8
-    requires { ⌜ 12 * i + 12 ≤ length (now s) ⌝ }
-    ensures { λ r. ⌜ r ≡ kindAt (now (s .entry)) i ⌝ }
+pub fn kind_at(file: &[u8], i: usize) -> u8
+    requires { ⌜ 12 * i + 12 ≤ length (now file) ⌝ }
+    ensures { λ r. ⌜ r ≡ kindAt (now (file .entry)) i ⌝ }
 {
-    s[12 * i]
+    file[12 * i]
 }
 
 // The record with index i.
-pub fn record_at(s: &[u8], i: usize) -> Record
-    requires { ⌜ 12 * i + 12 ≤ length (now s) ⌝ }
-    ensures { λ r. ⌜ recordOf r ≡ recordAt (now (s .entry)) i ⌝ }
+pub fn record_at(file: &[u8], i: usize) -> Record
+    requires { ⌜ 12 * i + 12 ≤ length (now file) ⌝ }
+    ensures { λ r. ⌜ recordOf r ≡ recordAt (now (file .entry)) i ⌝ }
 {
     let at = 12 * i;
     Record {
-        kind: s[at],
-        op: s[at + 1],
-        target: s[at + 2],
-        left: s[at + 3],
-        value: word_at(s, at + 4),
-        count: word_at(s, at + 8),
+        kind: file[at],
+        op: file[at + 1],
+        target: file[at + 2],
+        left: file[at + 3],
+        value: word_at(file, at + 4),
+        count: word_at(file, at + 8),
     }
 }
 

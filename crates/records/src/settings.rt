@@ -19,49 +19,49 @@ pub enum Decoded {
 }
 
 // The numbers in 12 bytes of settings.
-fn numbers(s: &[u8]) -> Settings
-    requires { ⌜ settingsLength ≤ length (now s) ⌝ }
-    ensures { λ r. ⌜ (r ≡ settingsOf (now (s .entry))) × (r .window ≤ 65535) ⌝ }
+fn numbers(settings: &[u8]) -> Settings
+    requires { ⌜ settingsLength ≤ length (now settings) ⌝ }
+    ensures { λ r. ⌜ (r ≡ settingsOf (now (settings .entry))) × (r .window ≤ 65535) ⌝ }
 {
     Settings {
-        set: wide(s[0]),
-        read: wide(s[1]),
-        write: wide(s[2]),
-        beat: wide(s[3]),
-        save: wide(s[4]),
-        multiply: wide(s[0]),
-        spacing: wide(s[5]),
-        window: wide(s[6]) + 256 * wide(s[7]),
-        period: word_at(s, 8),
+        set: wide(settings[0]),
+        read: wide(settings[1]),
+        write: wide(settings[2]),
+        beat: wide(settings[3]),
+        save: wide(settings[4]),
+        multiply: wide(settings[0]),
+        spacing: wide(settings[5]),
+        window: wide(settings[6]) + 256 * wide(settings[7]),
+        period: word_at(settings, 8),
     }
 }
 
 // Whether a number is outside its range.
-fn out_of_range(n: Settings) -> bool
-    ensures { λ r. ⌜ r ≡ outOfRange n ⌝ }
+fn out_of_range(rack: Settings) -> bool
+    ensures { λ r. ⌜ r ≡ outOfRange rack ⌝ }
 {
-    (n.set == 0)
-        | (n.read == 0)
-        | (n.write == 0)
-        | (n.beat == 0)
-        | (n.save == 0)
-        | (n.multiply == 0)
-        | (n.spacing == 0)
-        | (n.window == 0)
-        | (n.period == 0)
-        | (MOST_TICKS < n.period)
+    (rack.set == 0)
+        | (rack.read == 0)
+        | (rack.write == 0)
+        | (rack.beat == 0)
+        | (rack.save == 0)
+        | (rack.multiply == 0)
+        | (rack.spacing == 0)
+        | (rack.window == 0)
+        | (rack.period == 0)
+        | (MOST_TICKS < rack.period)
 }
 
 // Refusal 6, or the settings.
-pub fn decode(s: &[u8]) -> Decoded
-    ensures { λ r. ⌜ Decodes (now (s .entry)) r ⌝ }
+pub fn decode(settings: &[u8]) -> Decoded
+    ensures { λ r. ⌜ Decodes (now (settings .entry)) r ⌝ }
 {
-    if s.len() != SETTINGS_LENGTH {
+    if settings.len() != SETTINGS_LENGTH {
         return Decoded::Refused(Refusal::BadSettings);
     }
-    let n = numbers(s);
-    if out_of_range(n) {
+    let rack = numbers(settings);
+    if out_of_range(rack) {
         return Decoded::Refused(Refusal::BadSettings);
     }
-    Decoded::Valid(n)
+    Decoded::Valid(rack)
 }

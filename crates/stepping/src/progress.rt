@@ -46,7 +46,7 @@ pub fn cut_off(tick: u32) -> Progress
 }
 
 // Whether it was cut or overran, asked one after the other: where a caller knows both, the compiler then asks neither.
-pub fn ended(e: Progress) -> bool
+pub fn halted(e: Progress) -> bool
     ensures { λ r. ⌜ r ≡ halted e ⌝ }
 {
     if e.cut {

@@ -9,7 +9,7 @@ use crate::ticks::loop_time;
 use crate::ticks::settings_in;
 use crate::ticks::step_ticks;
 use crate::ticks::ticks_of;
-use crate::ticks::up_to;
+use crate::ticks::within;
 use model::Settings;
 use reading::blocks::closes;
 use reading::blocks::opens;
@@ -24,25 +24,25 @@ pub struct Step {
 }
 
 // The statement at i. Where the records form no block any answer will do; a sound file never leads there.
-fn statement_time(s: &[u8], i: usize, to: usize, depth: usize, table: &[u32; 16]) -> Step
-    requires { ⌜ (Ranged (now s) i to) × (i < to) ⌝ }
-    ensures { λ r. ⌜ StatementTimes (now (s .entry)) i to depth (settingsIn (now (table .entry))) r ⌝ }
+fn statement_time(file: &[u8], i: usize, to: usize, depth: usize, table: &[u32; 16]) -> Step
+    requires { ⌜ (Ranged (now file) i to) × (i < to) ⌝ }
+    ensures { λ r. ⌜ StatementTimes (now (file .entry)) i to depth (settingsIn (now (table .entry))) r ⌝ }
 {
     let n = settings_in(table);
     let over = Step {
         time: Time::OverPeriod,
         next: to,
     };
-    let r = record_at(s, i);
+    let r = record_at(file, i);
     if !opens(r.kind) {
-        let time = up_to(n.period, step_ticks(n, r) as u64);
+        let time = within(n.period, step_ticks(n, r) as u64);
         let next = i + 1;
         return Step { time, next };
     }
     if depth == 0 {
         return over;
     }
-    let first = sequence_time(s, i + 1, to, depth - 1, table);
+    let first = sequence_time(file, i + 1, to, depth - 1, table);
     let one = first.time;
     let mid = first.next;
     if to <= mid {
@@ -53,7 +53,7 @@ fn statement_time(s: &[u8], i: usize, to: usize, depth: usize, table: &[u32; 16]
         let next = mid + 1;
         return Step { time, next };
     }
-    let second = sequence_time(s, mid + 1, to, depth - 1, table);
+    let second = sequence_time(file, mid + 1, to, depth - 1, table);
     let two = second.time;
     let end = second.next;
     if to <= end {
@@ -65,9 +65,9 @@ fn statement_time(s: &[u8], i: usize, to: usize, depth: usize, table: &[u32; 16]
 }
 
 // The statements from `from` up to the record that closes their block, or to `to`. The sum is given up once it passes the period; the index is then `to`.
-fn sequence_time(s: &[u8], from: usize, to: usize, depth: usize, table: &[u32; 16]) -> Step
-    requires { ⌜ Ranged (now s) from to ⌝ }
-    ensures { λ r. ⌜ SequenceTimes (now (s .entry)) from to depth (settingsIn (now (table .entry))) r ⌝ }
+fn sequence_time(file: &[u8], from: usize, to: usize, depth: usize, table: &[u32; 16]) -> Step
+    requires { ⌜ Ranged (now file) from to ⌝ }
+    ensures { λ r. ⌜ SequenceTimes (now (file .entry)) from to depth (settingsIn (now (table .entry))) r ⌝ }
 {
     let n = settings_in(table);
     let over = Step {
@@ -77,11 +77,11 @@ fn sequence_time(s: &[u8], from: usize, to: usize, depth: usize, table: &[u32; 1
     let mut sum: u32 = 0;
     let mut next = from;
     while next < to {
-        if closes(kind_at(s, next)) {
+        if closes(kind_at(file, next)) {
             let time = Time::Ticks(sum);
             return Step { time, next };
         }
-        let one = statement_time(s, next, to, depth, table);
+        let one = statement_time(file, next, to, depth, table);
         let time = one.time;
         let Time::Ticks(t) = time else {
             return over;
@@ -97,11 +97,11 @@ fn sequence_time(s: &[u8], from: usize, to: usize, depth: usize, table: &[u32; 1
 }
 
 // The block that fills the records from `from` up to `to`.
-pub fn block_time(s: &[u8], from: usize, to: usize, depth: usize, n: Settings) -> Time
-    requires { ⌜ Ranged (now s) from to ⌝ }
-    ensures { λ r. ⌜ BlockTimes (now (s .entry)) from to depth n r ⌝ }
+pub fn block_time(file: &[u8], from: usize, to: usize, depth: usize, rack: Settings) -> Time
+    requires { ⌜ Ranged (now file) from to ⌝ }
+    ensures { λ r. ⌜ BlockTimes (now (file .entry)) from to depth rack r ⌝ }
 {
-    let table = ticks_of(n);
-    let whole = sequence_time(s, from, to, depth, &table);
+    let table = ticks_of(rack);
+    let whole = sequence_time(file, from, to, depth, &table);
     whole.time
 }

@@ -17,7 +17,7 @@ pub enum Time {
 }
 
 // t ticks, unless they are above the period.
-pub fn up_to(period: u32, t: u64) -> Time
+pub fn within(period: u32, t: u64) -> Time
     ensures { λ r. ⌜ Gives period t r ⌝ }
 {
     if (period as u64) < t {
@@ -27,7 +27,7 @@ pub fn up_to(period: u32, t: u64) -> Time
 }
 
 // By how much x is above y.
-pub fn beyond(x: u32, y: u32) -> u32
+pub fn excess(x: u32, y: u32) -> u32
     ensures { λ r. ⌜ r ≡ x - y ⌝ }
 {
     if x <= y {
@@ -53,59 +53,59 @@ fn multiplies(op: u8) -> bool
     op % BY_VARIABLE == 3
 }
 
-fn set_ticks(n: Settings, op: u8) -> u32
-    ensures { λ r. ⌜ r ≡ setTicks n op ⌝ }
+fn set_ticks(rack: Settings, op: u8) -> u32
+    ensures { λ r. ⌜ r ≡ setTicks rack op ⌝ }
 {
     if multiplies(op) {
-        return n.multiply;
+        return rack.multiply;
     }
-    n.set
+    rack.set
 }
 
 // The ticks of a record of that kind, which opens and closes no block.
-pub fn kind_ticks(kind: u8, n: Settings, r: Record) -> u32
+pub fn kind_ticks(kind: u8, rack: Settings, r: Record) -> u32
     requires { ⌜ r .kind ≡ kind ⌝ }
-    ensures { λ t. ⌜ t ≡ stepTicks n (recordOf r) ⌝ }
+    ensures { λ t. ⌜ t ≡ stepTicks rack (recordOf r) ⌝ }
 {
     match kind {
         kinds::SKIP => r.count,
-        kinds::SET => set_ticks(n, r.op),
-        kinds::READ => n.read,
-        kinds::WRITE => n.write,
-        kinds::BEAT => n.beat,
-        kinds::SAVE => n.save,
+        kinds::SET => set_ticks(rack, r.op),
+        kinds::READ => rack.read,
+        kinds::WRITE => rack.write,
+        kinds::BEAT => rack.beat,
+        kinds::SAVE => rack.save,
         _ => 1,
     }
 }
 
-pub fn step_ticks(n: Settings, r: Record) -> u32
-    ensures { λ t. ⌜ t ≡ stepTicks n (recordOf r) ⌝ }
+pub fn step_ticks(rack: Settings, r: Record) -> u32
+    ensures { λ t. ⌜ t ≡ stepTicks rack (recordOf r) ⌝ }
 {
-    kind_ticks(r.kind, n, r)
+    kind_ticks(r.kind, rack, r)
 }
 
 // The settings as a table of 16 numbers, which is lent where settings by value would be copied at each call. Ticks stand at the number of their
 // kind, those of a SET that multiplies at 0; the last three are spacing, window and period, and the rest are not read.
-pub fn ticks_of(n: Settings) -> [u32; 16]
-    ensures { λ t. ⌜ settingsIn t ≡ n ⌝ }
+pub fn ticks_of(rack: Settings) -> [u32; 16]
+    ensures { λ t. ⌜ settingsIn t ≡ rack ⌝ }
 {
     [
-        n.multiply,
+        rack.multiply,
         0,
-        n.set,
-        n.read,
-        n.write,
+        rack.set,
+        rack.read,
+        rack.write,
         1,
         1,
         1,
         1,
         1,
         1,
-        n.beat,
-        n.save,
-        n.spacing,
-        n.window,
-        n.period,
+        rack.beat,
+        rack.save,
+        rack.spacing,
+        rack.window,
+        rack.period,
     ]
 }
 
@@ -137,9 +137,9 @@ pub fn branch_time(period: u32, a: Time, b: Time) -> Time
         return Time::OverPeriod;
     };
     if x < y {
-        return up_to(period, y as u64 + 1);
+        return within(period, y as u64 + 1);
     }
-    up_to(period, x as u64 + 1)
+    within(period, x as u64 + 1)
 }
 
 // A round of a loop of that kind: WHILE tests before each.
@@ -160,5 +160,5 @@ pub fn loop_time(period: u32, r: Record, body: Time) -> Time
         return Time::OverPeriod;
     };
     let each = round_ticks(r.kind, x);
-    up_to(period, r.count as u64 * each + 1)
+    within(period, r.count as u64 * each + 1)
 }

@@ -34,14 +34,14 @@ claims = (
 )
 
 -- row 7 does not refuse
-wide : (c : lts.Else1 claims reads.Pre reads.Post) → Layable (c .before .before .before .before .args .n)
+wide : (c : lts.Else1 claims reads.Pre reads.Post) → Layable (c .before .before .before .before .args .rack)
 wide c = layable (c .before .before .before .before .pre .1) (sym (c .before .short-window .ensures) ∙ c .if1 .left)
 
 -- nor does row 8
 timed : (c : lts.After-skip-records claims reads.Pre reads.Post) →
     let at-measure-file = c .before .before .before .before .before .before .before .before in
     let start = at-measure-file .before .before .before .before .before .before .before .before in
-    InTime (start .args .file .now) (start .args .n) (at-measure-file .measure-file .result) (c .skip-records .result)
+    InTime (start .args .file .now) (start .args .rack) (at-measure-file .measure-file .result) (c .skip-records .result)
 timed c = record {
   sound = (c .before .before .before .before .before .before .before .before .before .before .before .before .before .before .before .before .pre) .0;
   settings = wide (c .before .before .before .before .before .before .before .before .before .before .before .before);

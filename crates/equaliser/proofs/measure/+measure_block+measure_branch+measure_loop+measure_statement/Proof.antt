@@ -34,7 +34,7 @@ use Rattle.reading.proofs.blocks.opens.Reads as opens-reads
 use Rattle.records.proofs.kind_at.Reads as kind-at-reads
 use Rattle.records.proofs.record_at.Reads as record-at-reads
 use Rattle.records.proofs.skips.skip_records.Reads as skip-records-reads
-use Rattle.timing.proofs.ticks.beyond.Reads as beyond-reads
+use Rattle.timing.proofs.ticks.excess.Reads as excess-reads
 use Rattle.timing.proofs.ticks.branch_time.Reads as branch-time-reads
 use Rattle.timing.proofs.ticks.loop_time.Reads as loop-time-reads
 use Rattle.equaliser.proofs.measure.+measure_block+measure_branch+measure_loop+measure_statement.{statement}
@@ -89,8 +89,8 @@ abbrev measure-branch-claims : ℕ → measure-branch-lts.Claims
 measure-branch-claims t = (
   measure-block-below t,
   measure-block.Post,
-  beyond-reads.Asked,
-  beyond-reads.Learnt,
+  excess-reads.Asked,
+  excess-reads.Learnt,
   keep-reads.Asked,
   keep-reads.Learnt,
   padded-records-reads.Asked,
@@ -131,13 +131,13 @@ measure-statement-claims t = (
 
 -- the next record closes no block
 going : (t : ℕ) (c : measure-block-lts.Else1 (measure-block-claims t) (measure-block-at t) measure-block.Post measure-block-Inv-loop measure-block-μ-loop) →
-    closesBlock (kindAt (c .before .before .before .before .before .before .args .s .now) (c .before .before .before .before .loop .next)) ≡ false
+    closesBlock (kindAt (c .before .before .before .before .before .before .args .file .now) (c .before .before .before .before .loop .next)) ≡ false
 going t c = closing-told (c .before .before .kind-at .ensures) (c .before .closes .ensures) (c .if1 .left)
 
 measure-block-loop-holds : (t : ℕ) → measure-block-lts.Need-loop-holds (measure-block-claims t) (measure-block-at t) measure-block.Post measure-block-Inv-loop measure-block-μ-loop
 measure-block-loop-holds t c =
     let start = c .before in
-    measured-start (start .args .n) (omega arith) (start .pre .1)
+    measured-start (start .args .rack) (omega arith) (start .pre .1)
 
 measure-block-measure-statement-requires : (t : ℕ) → measure-block-lts.Need-measure-statement-requires (measure-block-claims t) (measure-block-at t) measure-block.Post measure-block-Inv-loop measure-block-μ-loop
 measure-block-measure-statement-requires t c κs =
@@ -162,7 +162,7 @@ goes-on : (t : ℕ) (c : measure-block-lts.After-struct-known2 (measure-block-cl
     let at-measure-statement = c .before .before .before .before .before .before in
     let at-loop = at-measure-statement .before .before .before .before .before .before in
     let start = at-loop .before .before in
-    Measured (start .args .s .now) (start .args .from) (start .args .to) (start .args .n) (start .args .pads .now)
+    Measured (start .args .file .now) (start .args .from) (start .args .to) (start .args .rack) (start .args .pads .now)
     (at-measure-statement .measure-statement .last .1 .1 .1 .1 .1 .0) (at-measure-statement .measure-statement .result .next)
     (at-loop .loop .sum + c .before .before .before .before .one .given .0 .0) (at-loop .loop .records + at-measure-statement .measure-statement .result .records)
     (at-measure-statement .measure-statement .result .wait)
@@ -279,7 +279,7 @@ measure-branch-returns-3 t c =
     let start = at-one .before .before .before .before .before in
     branch-size (start .pre .1 .0) (start .pre .1 .1) (at-one .before .before .measure-block .ensures) (at-one .one .given .1)
     (at-beyond .before .before .before .before .measure-block2 .ensures) (at-beyond .before .before .two .given .1)
-    (c .before .before .before .before .before .keep .ensures) (at-beyond .beyond .ensures) (c .before .before .before .before .before .before .before .beyond2 .ensures)
+    (c .before .before .before .before .before .keep .ensures) (at-beyond .excess .ensures) (c .before .before .before .before .before .before .before .excess2 .ensures)
     (c .before .before .before .before .padded-records .ensures .0) (c .before .before .before .padded-records2 .ensures .0) (c .before .before .branch-time .ensures)
     (c .before .skip-records .ensures)
 

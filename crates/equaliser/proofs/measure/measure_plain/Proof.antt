@@ -11,13 +11,13 @@ use Rattle.equaliser.proofs.measure.measure_plain.Reads as reads
 use Rattle.equaliser.proofs.measure.measure_plain.Lts as lts
 use Rattle.records.proofs.skips.skip_records.Reads as skip-records-reads
 use Rattle.timing.proofs.ticks.step_ticks.Reads as step-ticks-reads
-use Rattle.timing.proofs.ticks.up_to.Reads as up-to-reads
+use Rattle.timing.proofs.ticks.within.Reads as within-reads
 
 -- the time that is told is that of the record
-timed : (c : lts.After-up-to (step-ticks-reads.Asked, step-ticks-reads.Learnt, up-to-reads.Asked, up-to-reads.Learnt, skip-records-reads.Asked, skip-records-reads.Learnt) reads.Pre reads.Post) →
+timed : (c : lts.After-within (step-ticks-reads.Asked, step-ticks-reads.Learnt, within-reads.Asked, within-reads.Learnt, skip-records-reads.Asked, skip-records-reads.Learnt) reads.Pre reads.Post) →
     let a = c .before .before .args in
-    Gives (a .n .period) (stepTicks (a .n) (recordOf (a .r))) (c .up-to .result)
-timed c = subst (λ (t : ℕ). Gives (c .before .before .args .n .period) t (c .up-to .result)) (c .before .step-ticks .ensures) (c .up-to .ensures)
+    Gives (a .rack .period) (stepTicks (a .rack) (recordOf (a .r))) (c .within .result)
+timed c = subst (λ (t : ℕ). Gives (c .before .before .args .rack .period) t (c .within .result)) (c .before .step-ticks .ensures) (c .within .ensures)
 
 returns : tie.Need-returns
 returns c = record {

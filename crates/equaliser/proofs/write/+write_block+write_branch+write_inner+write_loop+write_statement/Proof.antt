@@ -124,7 +124,7 @@ write-statement-claims t = (
 
 -- the next record closes no block
 going : (t : ℕ) (c : write-block-lts.Else1 (write-block-claims t) (write-block-at t) write-block.Post write-block-Inv-loop write-block-μ-loop) →
-    closesBlock (kindAt (c .before .before .before .before .before .before .before .args .s .now) (c .before .before .before .before .loop .next)) ≡ false
+    closesBlock (kindAt (c .before .before .before .before .before .before .before .args .file .now) (c .before .before .before .before .loop .next)) ≡ false
 going t c = closing-told (c .before .before .kind-at .ensures) (c .before .closes .ensures) (c .if1 .left)
 
 write-block-sub-write-statement : (t : ℕ) → write-block-lts.Need-sub-write-statement (write-block-claims t) (write-block-at t) write-block.Post write-block-Inv-loop write-block-μ-loop
@@ -145,7 +145,7 @@ write-block-write-statement-requires t c κs =
 
 -- the block after a statement, and why it ends
 turned : (t : ℕ) (c : write-block-lts.After-struct-known (write-block-claims t) (write-block-at t) write-block.Post write-block-Inv-loop write-block-μ-loop)
-    (F : BlockFits (c .before .before .before .before .before .before .before .before .before .before .before .before .args .s .now)
+    (F : BlockFits (c .before .before .before .before .before .before .before .before .before .before .before .before .args .file .now)
     (c .before .before .before .before .before .before .before .before .before .before .before .before .args .from)
     (c .before .before .before .before .before .before .before .before .before .before .before .before .args .to)
     (c .before .before .before .before .before .before .before .before .before .before .before .before .args .pad)
@@ -164,7 +164,7 @@ turned t c F =
 stopped : (t : ℕ) (c : write-block-lts.Left-loop (write-block-claims t) (write-block-at t) write-block.Post write-block-Inv-loop write-block-μ-loop) →
     let at-loop = c .before in
     let start = at-loop .before .before .before in
-    (start .args .to ≤ at-loop .loop .next) ⊎ (closesBlock (kindAt (start .args .s .now) (at-loop .loop .next)) ≡ true)
+    (start .args .to ≤ at-loop .loop .next) ⊎ (closesBlock (kindAt (start .args .file .now) (at-loop .loop .next)) ≡ true)
 stopped t c = ⊎-elim (λ h. inl (h .left)) (λ h. inr (closing-told (h .1 .ensures) (h .2 .ensures) (h .3 .taken))) (c .loop-test .came)
 
 write-block-add-at : (t : ℕ) → write-block-lts.Need-add-at (write-block-claims t) (write-block-at t) write-block.Post write-block-Inv-loop write-block-μ-loop
@@ -212,7 +212,7 @@ write-block-returns t c =
 
 -- what is laid once the record of the IF is written, then its first side, ELSE and its second side
 branch-test : (t : ℕ) (c : write-branch-lts.After-put-record (write-branch-claims t) (write-branch-at t) write-branch.Post)
-    (F : StatementFits (c .before .before .before .before .args .s .now) (c .before .before .before .before .args .i) (c .before .before .before .before .args .to) 0
+    (F : StatementFits (c .before .before .before .before .args .file .now) (c .before .before .before .before .args .i) (c .before .before .before .before .args .to) 0
     (c .before .before .before .before .args .pads .now) (c .before .before .before .before .args .out .now)) →
     let start = c .before .before .before .before in
     TestLaid F (start .pre .1 .1) (start .pre .1 .2) (c .put-record .last .0) 12
@@ -221,7 +221,7 @@ branch-test t c F =
     test-laid F (start .pre .1 .1) (start .pre .1 .2) (c .put-record .ensures)
 
 branch-first : (t : ℕ) (c : write-branch-lts.After-write-block (write-branch-claims t) (write-branch-at t) write-branch.Post)
-    (F : StatementFits (c .before .before .before .before .before .before .before .before .before .args .s .now)
+    (F : StatementFits (c .before .before .before .before .before .before .before .before .before .args .file .now)
     (c .before .before .before .before .before .before .before .before .before .args .i)
     (c .before .before .before .before .before .before .before .before .before .args .to) 0
     (c .before .before .before .before .before .before .before .before .before .args .pads .now)
@@ -234,7 +234,7 @@ branch-first t c F =
     first-laid F (start .pre .1 .1) (start .pre .1 .2) (branch-test t (c .before .before .before .before .before) F) (c .write-block .ensures)
 
 branch-else : (t : ℕ) (c : write-branch-lts.After-put-bare (write-branch-claims t) (write-branch-at t) write-branch.Post)
-    (F : StatementFits (c .before .before .before .before .before .before .before .before .before .before .before .before .before .before .args .s .now)
+    (F : StatementFits (c .before .before .before .before .before .before .before .before .before .before .before .before .before .before .args .file .now)
     (c .before .before .before .before .before .before .before .before .before .before .before .before .before .before .args .i)
     (c .before .before .before .before .before .before .before .before .before .before .before .before .before .before .args .to) 0
     (c .before .before .before .before .before .before .before .before .before .before .before .before .before .before .args .pads .now)
@@ -251,7 +251,7 @@ branch-else t c F =
 
 branch-second : (t : ℕ) (c : write-branch-lts.After-write-block2 (write-branch-claims t) (write-branch-at t) write-branch.Post)
     (F : StatementFits (c .before .before .before .before .before .before .before .before .before .before .before .before .before .before .before .before .before .before
-    .before .before .args .s .now) (c .before .before .before .before .before .before .before .before .before .before .before .before .before .before .before .before
+    .before .before .args .file .now) (c .before .before .before .before .before .before .before .before .before .before .before .before .before .before .before .before
     .before .before .before .before .args .i)
     (c .before .before .before .before .before .before .before .before .before .before .before .before .before .before .before .before .before .before .before .before
     .args .to) 0 (c .before .before .before .before .before .before .before .before .before .before .before .before .before .before .before .before .before .before
@@ -412,7 +412,7 @@ write-inner-write-loop-requires t c κs =
 
 -- what is laid once the head of the loop is written, and once its body is
 loop-head : (t : ℕ) (c : write-loop-lts.After-put-loop-head (write-loop-claims t) (write-loop-at t) write-loop.Post)
-    (F : StatementFits (c .before .before .before .before .args .s .now) (c .before .before .before .before .args .i) (c .before .before .before .before .args .to) 0
+    (F : StatementFits (c .before .before .before .before .args .file .now) (c .before .before .before .before .args .i) (c .before .before .before .before .args .to) 0
     (c .before .before .before .before .args .pads .now) (c .before .before .before .before .args .out .now)) →
     let start = c .before .before .before .before in
     HeadLaid F (start .pre .1 .1) (start .pre .1 .2) (start .pre .1 .3) (c .put-loop-head .last .0) 24
@@ -421,7 +421,7 @@ loop-head t c F =
     head-laid F (start .pre .1 .1) (start .pre .1 .2) (start .pre .1 .3) (c .put-loop-head .ensures)
 
 loop-body : (t : ℕ) (c : write-loop-lts.After-write-block (write-loop-claims t) (write-loop-at t) write-loop.Post)
-    (F : StatementFits (c .before .before .before .before .before .before .before .before .args .s .now)
+    (F : StatementFits (c .before .before .before .before .before .before .before .before .args .file .now)
     (c .before .before .before .before .before .before .before .before .args .i) (c .before .before .before .before .before .before .before .before .args .to) 0
     (c .before .before .before .before .before .before .before .before .args .pads .now)
     (c .before .before .before .before .before .before .before .before .args .out .now)) →
@@ -502,7 +502,7 @@ write-loop-returns t c =
 
 -- what is known once the SKIP that waited is laid
 step-begun : (t : ℕ) (c : write-statement-lts.After-put-skip (write-statement-claims t) (write-statement-at t) write-statement.Post)
-    (F : StatementFits (c .before .before .before .before .before .before .before .args .s .now) (c .before .before .before .before .before .before .before .args .i)
+    (F : StatementFits (c .before .before .before .before .before .before .before .args .file .now) (c .before .before .before .before .before .before .before .args .i)
     (c .before .before .before .before .before .before .before .args .to) (c .before .before .before .before .before .before .before .args .waited)
     (c .before .before .before .before .before .before .before .args .pads .now) (c .before .before .before .before .before .before .before .args .out .now)) → Begun F
     (c .before .before .before .before .record-at .ensures) (c .before .before .if1 .left) (c .put-skip .last .0) (c .put-skip .result)

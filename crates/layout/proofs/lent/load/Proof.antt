@@ -8,7 +8,7 @@ use Rattle.layout.proofs.lent.load.Tie as tie
 returns : tie.Need-returns
 returns c =
     let a = c .before .before .before .before .before .before .args .clock .now in
-    ap (λ (x : ℕ). (record { tick = getD a 0 0; left = getD a 1 0; windows = getD a 2 0; wait = getD a 3 0; records = x })) (c .wide .ensures)
+    ap (λ (x : ℕ). (record { tick = getD a 0 0; «ticks_left» = getD a 1 0; «windows_left» = getD a 2 0; wait = getD a 3 0; records = x })) (c .wide .ensures)
 
 pub load-spec : {M : Type 1} → statement M
 load-spec =

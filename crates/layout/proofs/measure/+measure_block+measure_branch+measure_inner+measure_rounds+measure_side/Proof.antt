@@ -181,7 +181,7 @@ measure-side-claims t = (kind-at-reads.Asked, kind-at-reads.Learnt, closes-reads
 -- the next record closes no block
 goes-on : (t : ℕ) (c : measure-block-lts.Else1 (measure-block-claims t) (measure-block-at t) measure-block.Post measure-block-Inv-loop measure-block-μ-loop) →
     let a = c .before .before .before .before .before .before .before .before .args in
-    closesBlock (kindAt (a .s .now) (c .before .before .before .before .loop .next)) ≡ false
+    closesBlock (kindAt (a .file .now) (c .before .before .before .before .loop .next)) ≡ false
 goes-on t c = told closesBlock (ap (λ (y : Rec). y .kind) (c .before .before .record-at .ensures)) (c .before .closes .ensures) (c .if1 .left)
 
 measure-block-returns : (t : ℕ) → measure-block-lts.Need-returns (measure-block-claims t) (measure-block-at t) measure-block.Post measure-block-Inv-loop measure-block-μ-loop
@@ -498,7 +498,7 @@ measure-inner-add-idle-rounds t c = omega (arith, c .before .before .before .bef
 -- the loop, where it is no IF
 loop-there : (t : ℕ) (c : measure-inner-lts.Else1 (measure-inner-claims t) (measure-inner-at t) measure-inner.Post) →
     let a = c .before .before .before .before .args in
-    Loop (a .s .now) (a .i) (a .to) (settingsIn (a .t .now)) (loaded (a .clock .now)) (c .before .before .record-at .result .count)
+    Loop (a .file .now) (a .i) (a .to) (settingsIn (a .t .now)) (loaded (a .clock .now)) (c .before .before .record-at .result .count)
 loop-there t c =
     let p = c .before .before .before .before .pre .1 in
     let e = c .before .before .record-at .ensures in

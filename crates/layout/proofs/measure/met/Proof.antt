@@ -12,9 +12,9 @@ use Rattle.layout.proofs.measure.met.Tie as tie
 
 -- the count of the records
 met-is : (l : State) (k m n : ℕ) → k ≡ skipRecords (l .wait) → m ≡ cap (n + (2 + k))
-    → _≡_ {A = State} (record { tick = l .tick; left = l .left; windows = l .windows; wait = 0; records = m }) (metAt l n)
+    → _≡_ {A = State} (record { tick = l .tick; «ticks_left» = l .«ticks_left»; «windows_left» = l .«windows_left»; wait = 0; records = m }) (metAt l n)
 met-is l k m n e f =
-    ap (λ (x : ℕ). record { tick = l .tick; left = l .left; windows = l .windows; wait = 0; records = x }) (f ∙ ap (λ (x : ℕ). cap (n + (2 + x))) e)
+    ap (λ (x : ℕ). record { tick = l .tick; «ticks_left» = l .«ticks_left»; «windows_left» = l .«windows_left»; wait = 0; records = x }) (f ∙ ap (λ (x : ℕ). cap (n + (2 + x))) e)
 
 cast-skip-records : tie.Need-cast-skip-records
 cast-skip-records c = search needs

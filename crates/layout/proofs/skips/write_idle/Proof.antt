@@ -8,19 +8,19 @@ use Rattle.layout.proofs.skips.write_idle.Tie as tie
 returns : tie.Need-returns
 returns c = record { skips = λ h. c .before .before .before .before .put-skips .ensures; check = λ h. absurd (h (c .if1 .taken)) }
 
-written-requires : tie.Need-written-requires
+written-requires : tie.Need-bytes-between-requires
 written-requires c κs = writing-upto (check-left (c .before .before .before .before .before .before .before .pre .check (c .if1 .left)) (c .before .before .before .before .put-skips .ensures))
 
 sub-put-step : tie.Need-sub-put-step
 sub-put-step c =
     let at-put-skips = c .before .before .before .before .before .before in
-    rw (c .before .written .ensures) (writing-at
+    rw (c .before .bytes-between .ensures) (writing-at
     (check-left (at-put-skips .before .before .before .pre .check (c .before .before .if1 .left)) (at-put-skips .put-skips .ensures)))
 
 part-put-step-start : tie.Need-part-put-step-start
 part-put-step-start c =
     let at-put-skips = c .before .before .before .before .before .before in
-    rw (c .before .written .ensures) (writing-at
+    rw (c .before .bytes-between .ensures) (writing-at
     (check-left (at-put-skips .before .before .before .pre .check (c .before .before .if1 .left)) (at-put-skips .put-skips .ensures)))
 
 put-step-requires : tie.Need-put-step-requires
@@ -28,7 +28,7 @@ put-step-requires c κs =
     let F = c .before .before .before .before .before .before .before .before .before .before .pre .check (c .before .before .before .if1 .left) in
     let L = c .before .before .before .before .before .before .before .put-skips .ensures in
     let y = skips-laying F L in
-    (y, omega arith, omega (arith, y .settings .fits .positive .set-lasts), idle-check-fits F L (c .before .check-of .ensures) (c .before .before .written .ensures))
+    (y, omega arith, omega (arith, y .settings .fits .positive .set-lasts), idle-check-fits F L (c .before .check-of .ensures) (c .before .before .bytes-between .ensures))
 
 returns-2 : tie.Need-returns-2
 returns-2 c =
@@ -37,7 +37,7 @@ returns-2 c =
       skips = λ h. absurd (no h);
       check = λ h. idle-laid (c .before .before .before .before .before .before .before .before .before .before .before .before .before .pre .check no)
           (c .before .before .before .before .before .before .before .before .before .before .put-skips .ensures) (c .before .before .before .before .check-of .ensures)
-          (c .before .before .before .before .before .written .ensures) (c .before .before .put-step .ensures);
+          (c .before .before .before .before .before .bytes-between .ensures) (c .before .before .put-step .ensures);
     }
 
 pub write-idle-spec : {M : Type 1} → statement M

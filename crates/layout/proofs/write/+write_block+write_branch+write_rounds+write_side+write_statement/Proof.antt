@@ -42,7 +42,7 @@ use Rattle.layout.proofs.skips.write_idle.Reads as write-idle-reads
 use Rattle.placing.proofs.clock.back.Reads as back-reads
 use Rattle.placing.proofs.pieces.close_side.Reads as close-side-reads
 use Rattle.placing.proofs.pieces.put_step.Reads as put-step-reads
-use Rattle.placing.proofs.pieces.written.Reads as written-reads
+use Rattle.placing.proofs.pieces.bytes_between.Reads as bytes-between-reads
 use Rattle.reading.proofs.blocks.closes.Reads as closes-reads
 use Rattle.records.proofs.kind_at.Reads as kind-at-reads
 use Rattle.records.proofs.record_at.Reads as record-at-reads
@@ -102,16 +102,16 @@ abbrev write-block-μ-loop : write-block-lts.MeasureT-loop
 write-block-μ-loop s from to n at ifs meets out₀ state₀ next₀ k₀ out state next k = to - next
 
 abbrev write-block-claims : ℕ → write-block-lts.Claims
-write-block-claims t = (kind-at-reads.Asked, kind-at-reads.Learnt, closes-reads.Asked, closes-reads.Learnt, written-reads.Asked, written-reads.Learnt, write-statement-below t, write-statement.Post)
+write-block-claims t = (kind-at-reads.Asked, kind-at-reads.Learnt, closes-reads.Asked, closes-reads.Learnt, bytes-between-reads.Asked, bytes-between-reads.Learnt, write-statement-below t, write-statement.Post)
 
 abbrev write-branch-claims : ℕ → write-branch-lts.Claims
-write-branch-claims t = (put-step-reads.Asked, put-step-reads.Learnt, written-reads.Asked, written-reads.Learnt, write-side-below t, write-side.Post, back-reads.Asked, back-reads.Learnt)
+write-branch-claims t = (put-step-reads.Asked, put-step-reads.Learnt, bytes-between-reads.Asked, bytes-between-reads.Learnt, write-side-below t, write-side.Post, back-reads.Asked, back-reads.Learnt)
 
 abbrev write-rounds-claims : ℕ → write-rounds-lts.Claims
-write-rounds-claims t = (written-reads.Asked, written-reads.Learnt, write-block-below t, write-block.Post, check-of-reads.Asked, check-of-reads.Learnt, put-step-reads.Asked, put-step-reads.Learnt)
+write-rounds-claims t = (bytes-between-reads.Asked, bytes-between-reads.Learnt, write-block-below t, write-block.Post, check-of-reads.Asked, check-of-reads.Learnt, put-step-reads.Asked, put-step-reads.Learnt)
 
 abbrev write-side-claims : ℕ → write-side-lts.Claims
-write-side-claims t = (write-block-below t, write-block.Post, written-reads.Asked, written-reads.Learnt, close-side-reads.Asked, close-side-reads.Learnt)
+write-side-claims t = (write-block-below t, write-block.Post, bytes-between-reads.Asked, bytes-between-reads.Learnt, close-side-reads.Asked, close-side-reads.Learnt)
 
 abbrev write-statement-claims : ℕ → write-statement-lts.Claims
 write-statement-claims t = (
@@ -134,7 +134,7 @@ write-statement-claims t = (
 -- the next record closes no block
 goes-on : (t : ℕ) (c : write-block-lts.Else1 (write-block-claims t) (write-block-at t) write-block.Post write-block-Inv-loop write-block-μ-loop) →
     let a = c .before .before .before .before .before .before .before .args in
-    closesBlock (kindAt (a .s .now) (c .before .before .before .before .loop .next)) ≡ false
+    closesBlock (kindAt (a .file .now) (c .before .before .before .before .loop .next)) ≡ false
 goes-on t c = told closesBlock (c .before .before .kind-at .ensures) (c .before .closes .ensures) (c .if1 .left)
 
 write-block-returns : (t : ℕ) → write-block-lts.Need-returns (write-block-claims t) (write-block-at t) write-block.Post write-block-Inv-loop write-block-μ-loop
@@ -146,7 +146,7 @@ write-block-write-statement-requires t c κs =
       omega (arith, (at-loop .loop) .inv .passing .walk .on),
       statement-fits ((at-loop .loop) .inv) ((c .before .before .before .before .before .loop-test) .taken)
           (goes-on t (c .before .before))
-          ((c .before .written) .ensures),
+          ((c .before .bytes-between) .ensures),
     )
 
 write-block-loop-less : (t : ℕ) → write-block-lts.Need-loop-less (write-block-claims t) (write-block-at t) write-block.Post write-block-Inv-loop write-block-μ-loop
@@ -156,7 +156,7 @@ write-block-loop-less t c =
       arith,
       block-on ((at-if1 .before .before .before .before .loop) .inv) ((at-if1 .before .before .before .loop-test) .taken)
           (goes-on t at-if1)
-          ((c .before .before .before .before .before .written) .ensures) ((c .before .before .before .write-statement) .ensures),
+          ((c .before .before .before .before .before .bytes-between) .ensures) ((c .before .before .before .write-statement) .ensures),
     )
 
 write-block-loop-again : (t : ℕ) → write-block-lts.Need-loop-again (write-block-claims t) (write-block-at t) write-block.Post write-block-Inv-loop write-block-μ-loop
@@ -164,14 +164,14 @@ write-block-loop-again t c =
     let at-if1 = c .before .before .before .before .before .before in
     block-next ((at-if1 .before .before .before .before .loop) .inv) ((at-if1 .before .before .before .loop-test) .taken)
     (goes-on t at-if1)
-    ((c .before .before .before .before .before .written) .ensures) ((c .before .before .before .write-statement) .ensures)
+    ((c .before .before .before .before .before .bytes-between) .ensures) ((c .before .before .before .write-statement) .ensures)
 
 write-branch-put-step-requires : (t : ℕ) → write-branch-lts.Need-put-step-requires (write-branch-claims t) (write-branch-at t) write-branch.Post
 write-branch-put-step-requires t c κs =
     let start = c .before .before .before in
     ((start .pre) .1 .0 .statement .ready .laying, omega arith, omega arith, test-fits ((start .pre) .1 .0) ((start .pre) .1 .2) ((start .pre) .1 .1))
 
-write-branch-written-requires : (t : ℕ) → write-branch-lts.Need-written-requires (write-branch-claims t) (write-branch-at t) write-branch.Post
+write-branch-written-requires : (t : ℕ) → write-branch-lts.Need-bytes-between-requires (write-branch-claims t) (write-branch-at t) write-branch.Post
 write-branch-written-requires t c κs =
     let start = c .before .before .before .before .before .before in
     test-upto ((start .pre) .1 .0) ((start .pre) .1 .2) ((start .pre) .1 .1) ((c .before .before .put-step) .ensures)
@@ -197,27 +197,27 @@ write-branch-add-write-side-2 t c =
 write-branch-sub-write-side : (t : ℕ) → write-branch-lts.Need-sub-write-side (write-branch-claims t) (write-branch-at t) write-branch.Post
 write-branch-sub-write-side t c =
     let start = c .before .before .before .before .before .before .before .before in
-    test-at ((start .pre) .1 .0) ((start .pre) .1 .2) ((start .pre) .1 .1) ((c .before .before .before .before .put-step) .ensures) refl ((c .before .written) .ensures)
+    test-at ((start .pre) .1 .0) ((start .pre) .1 .2) ((start .pre) .1 .1) ((c .before .before .before .before .put-step) .ensures) refl ((c .before .bytes-between) .ensures)
 
 write-branch-part-write-side-start : (t : ℕ) → write-branch-lts.Need-part-write-side-start (write-branch-claims t) (write-branch-at t) write-branch.Post
 write-branch-part-write-side-start t c =
     let start = c .before .before .before .before .before .before .before .before in
-    test-at ((start .pre) .1 .0) ((start .pre) .1 .2) ((start .pre) .1 .1) ((c .before .before .before .before .put-step) .ensures) refl ((c .before .written) .ensures)
+    test-at ((start .pre) .1 .0) ((start .pre) .1 .2) ((start .pre) .1 .1) ((c .before .before .before .before .put-step) .ensures) refl ((c .before .bytes-between) .ensures)
 
 write-branch-write-side-requires : (t : ℕ) → write-branch-lts.Need-write-side-requires (write-branch-claims t) (write-branch-at t) write-branch.Post
 write-branch-write-side-requires t c κs =
     let start = c .before .before .before .before .before .before .before .before .before in (
       omega (arith, (start .pre) .1 .0 .statement .here .early),
       one-fits ((start .pre) .1 .0) ((start .pre) .1 .2) ((start .pre) .1 .1)
-          ((c .before .before .before .before .before .put-step) .ensures) refl ((c .before .before .written) .ensures),
+          ((c .before .before .before .before .before .put-step) .ensures) refl ((c .before .before .bytes-between) .ensures),
     )
 
-write-branch-written-requires-2 : (t : ℕ) → write-branch-lts.Need-written-requires-2 (write-branch-claims t) (write-branch-at t) write-branch.Post
+write-branch-written-requires-2 : (t : ℕ) → write-branch-lts.Need-bytes-between-requires-2 (write-branch-claims t) (write-branch-at t) write-branch.Post
 write-branch-written-requires-2 t c κs =
     let at-written = c .before .before .before .before .before .before in
     let start = at-written .before .before .before .before .before .before .before in
     one-upto ((start .pre) .1 .0) ((start .pre) .1 .2) ((start .pre) .1 .1) ((at-written .before .before .before .put-step) .ensures) refl
-    ((at-written .written) .ensures) ((c .before .before .before .write-side) .ensures)
+    ((at-written .bytes-between) .ensures) ((c .before .before .before .write-side) .ensures)
 
 write-branch-add-write-side-3 : (t : ℕ) → write-branch-lts.Need-add-write-side-3 (write-branch-claims t) (write-branch-at t) write-branch.Post
 write-branch-add-write-side-3 t c =
@@ -227,7 +227,7 @@ write-branch-add-write-side-3 t c =
     omega (
       arith,
       one-ends ((start .pre) .1 .0) ((start .pre) .1 .2) ((start .pre) .1 .1) ((at-put-step .put-step) .ensures) refl
-          ((at-write-side .before .before .before .written) .ensures) ((at-write-side .write-side) .ensures),
+          ((at-write-side .before .before .before .bytes-between) .ensures) ((at-write-side .write-side) .ensures),
       if-at ((start .pre) .1 .0 .statement .here) ((start .pre) .1 .2) .ends,
       (start .pre) .1 .0 .statement .here .file .inside,
       (start .good) .0 .0,
@@ -239,7 +239,7 @@ write-branch-sub-write-side-2 t c =
     let at-put-step = at-write-side .before .before .before .before .before .before in
     let start = at-put-step .before .before .before .before in
     one-at ((start .pre) .1 .0) ((start .pre) .1 .2) ((start .pre) .1 .1) ((at-put-step .put-step) .ensures) refl
-    ((at-write-side .before .before .before .written) .ensures) ((at-write-side .write-side) .ensures) ((c .before .before .written2) .ensures)
+    ((at-write-side .before .before .before .bytes-between) .ensures) ((at-write-side .write-side) .ensures) ((c .before .before .bytes-between2) .ensures)
 
 write-branch-part-write-side-start-2 : (t : ℕ) → write-branch-lts.Need-part-write-side-start-2 (write-branch-claims t) (write-branch-at t) write-branch.Post
 write-branch-part-write-side-start-2 t c =
@@ -247,7 +247,7 @@ write-branch-part-write-side-start-2 t c =
     let at-put-step = at-write-side .before .before .before .before .before .before in
     let start = at-put-step .before .before .before .before in
     one-at ((start .pre) .1 .0) ((start .pre) .1 .2) ((start .pre) .1 .1) ((at-put-step .put-step) .ensures) refl
-    ((at-write-side .before .before .before .written) .ensures) ((at-write-side .write-side) .ensures) ((c .before .before .written2) .ensures)
+    ((at-write-side .before .before .before .bytes-between) .ensures) ((at-write-side .write-side) .ensures) ((c .before .before .bytes-between2) .ensures)
 
 write-branch-write-side-requires-2 : (t : ℕ) → write-branch-lts.Need-write-side-requires-2 (write-branch-claims t) (write-branch-at t) write-branch.Post
 write-branch-write-side-requires-2 t c κs =
@@ -257,14 +257,14 @@ write-branch-write-side-requires-2 t c κs =
     let start = at-put-step .before .before .before .before in (
       omega (
         arith,
-        one-ends ((start .pre) .1 .0) ((start .pre) .1 .2) ((start .pre) .1 .1) ((at-put-step .put-step) .ensures) refl ((at-written .written) .ensures)
+        one-ends ((start .pre) .1 .0) ((start .pre) .1 .2) ((start .pre) .1 .1) ((at-put-step .put-step) .ensures) refl ((at-written .bytes-between) .ensures)
             ((at-write-side .write-side) .ensures),
         (start .pre) .0,
         (start .pre) .1 .0 .statement .here .early,
       ),
       two-fits ((start .pre) .1 .0) ((start .pre) .1 .2)
-          ((start .pre) .1 .1) ((at-put-step .put-step) .ensures) refl ((at-written .written) .ensures) ((at-write-side .write-side) .ensures)
-          ((c .before .before .before .written2) .ensures) ((c .before .back) .ensures),
+          ((start .pre) .1 .1) ((at-put-step .put-step) .ensures) refl ((at-written .bytes-between) .ensures) ((at-write-side .write-side) .ensures)
+          ((c .before .before .before .bytes-between2) .ensures) ((c .before .back) .ensures),
     )
 
 write-branch-add-t24 : (t : ℕ) → write-branch-lts.Need-add-t24 (write-branch-claims t) (write-branch-at t) write-branch.Post
@@ -274,8 +274,8 @@ write-branch-add-t24 t c =
     let start = at-written .before .before .before .before .before .before .before in
     omega (
       arith,
-      two-ends ((start .pre) .1 .0) ((start .pre) .1 .2) ((start .pre) .1 .1) ((at-written .before .before .before .put-step) .ensures) refl ((at-written .written) .ensures)
-          ((at-written2 .before .before .before .before .write-side) .ensures) ((at-written2 .written2) .ensures)
+      two-ends ((start .pre) .1 .0) ((start .pre) .1 .2) ((start .pre) .1 .1) ((at-written .before .before .before .put-step) .ensures) refl ((at-written .bytes-between) .ensures)
+          ((at-written2 .before .before .before .before .write-side) .ensures) ((at-written2 .bytes-between2) .ensures)
           ((c .before .before .before .before .before .before .back) .ensures) ((c .before .before .before .before .write-side2) .ensures),
       if-at ((start .pre) .1 .0 .statement .here) ((start .pre) .1 .2) .ends,
       (start .pre) .1 .0 .statement .here .file .inside,
@@ -288,8 +288,8 @@ write-branch-same-length t c =
     let at-written = at-written2 .before .before .before .before .before .before .before in
     let start = at-written .before .before .before .before .before .before .before in
     (c .before .before .before .out3) .given .1 ∙ one-long ((start .pre) .1 .0) ((start .pre) .1 .2) ((start .pre) .1 .1)
-    ((at-written .before .before .before .put-step) .ensures) refl ((at-written .written) .ensures) ((at-written2 .before .before .before .before .write-side) .ensures)
-    ((at-written2 .written2) .ensures)
+    ((at-written .before .before .before .put-step) .ensures) refl ((at-written .bytes-between) .ensures) ((at-written2 .before .before .before .before .write-side) .ensures)
+    ((at-written2 .bytes-between2) .ensures)
 
 write-branch-returns : (t : ℕ) → write-branch-lts.Need-returns (write-branch-claims t) (write-branch-at t) write-branch.Post
 write-branch-returns t c =
@@ -298,7 +298,7 @@ write-branch-returns t c =
     let at-put-step = at-write-side .before .before .before .before .before .before in
     let start = at-put-step .before .before .before .before in
     branch-laid ((start .pre) .1 .0) ((start .pre) .1 .2) ((start .pre) .1 .1) ((at-put-step .put-step) .ensures) refl
-    ((at-write-side .before .before .before .written) .ensures) ((at-write-side .write-side) .ensures) ((at-back .before .before .written2) .ensures)
+    ((at-write-side .before .before .before .bytes-between) .ensures) ((at-write-side .write-side) .ensures) ((at-back .before .before .bytes-between2) .ensures)
     ((at-back .back) .ensures) ((c .before .before .before .before .write-side2) .ensures)
 
 abbrev write-rounds-Inv-loop : write-rounds-lts.InvT-loop
@@ -320,7 +320,7 @@ write-rounds-write-block-requires t c κs =
     let at-loop = c .before .before .before in
     let start = at-loop .before .before .before in (
       omega (arith, (start .pre) .0, (start .pre) .1 .0 .statement .here .early),
-      body-fits ((at-loop .loop) .inv .loop-fits) ((at-loop .loop) .inv .turn) ((c .before .before .loop-test) .taken) ((c .before .written) .ensures),
+      body-fits ((at-loop .loop) .inv .loop-fits) ((at-loop .loop) .inv .turn) ((c .before .before .loop-test) .taken) ((c .before .bytes-between) .ensures),
     )
 
 write-rounds-add-round : (t : ℕ) → write-rounds-lts.Need-add-round (write-rounds-claims t) (write-rounds-at t) write-rounds.Post write-rounds-Inv-loop write-rounds-μ-loop
@@ -332,7 +332,7 @@ write-rounds-loop-again t c =
     record {
       loop-fits = l .loop-fits;
       turn = rounds-next (l .loop-fits) (l .turn) ((c .before .before .before .before .before .before .loop-test) .taken)
-          ((c .before .before .before .before .before .written) .ensures) ((c .before .before .before .write-block) .ensures);
+          ((c .before .before .before .before .before .bytes-between) .ensures) ((c .before .before .before .write-block) .ensures);
     }
 
 write-rounds-put-step-requires : (t : ℕ) → write-rounds-lts.Need-put-step-requires (write-rounds-claims t) (write-rounds-at t) write-rounds.Post write-rounds-Inv-loop write-rounds-μ-loop
@@ -341,7 +341,7 @@ write-rounds-put-step-requires t c κs = (
   omega arith,
   omega (arith, (c .before .before .before .before .before .before .before .pre) .1 .0 .statement .ready .laying .settings .fits .positive .set-lasts),
   check-fits ((c .before .before .before .before .loop) .inv .loop-fits) ((c .before .before .before .before .loop) .inv .turn) ((c .before .before .before .loop-test) .left)
-      (c .before .check-of .ensures ∙ ap checkRec (c .before .before .before .before .before .before .before .pre .1 .1)) ((c .before .before .written2) .ensures),
+      (c .before .check-of .ensures ∙ ap checkRec (c .before .before .before .before .before .before .before .pre .1 .1)) ((c .before .before .bytes-between2) .ensures),
 )
 
 write-rounds-add-t27 : (t : ℕ) → write-rounds-lts.Need-add-t27 (write-rounds-claims t) (write-rounds-at t) write-rounds.Post write-rounds-Inv-loop write-rounds-μ-loop
@@ -364,36 +364,36 @@ write-rounds-returns t c =
     let at-loop = at-loop-test .before in
     rounds-laid ((at-loop .loop) .inv .loop-fits) ((at-loop .loop) .inv .turn) ((at-loop-test .loop-test) .left)
     (c .before .before .before .before .check-of .ensures ∙ ap checkRec (at-loop .before .before .before .pre .1 .1))
-    ((c .before .before .before .before .before .written2) .ensures) ((c .before .before .put-step) .ensures)
+    ((c .before .before .before .before .before .bytes-between2) .ensures) ((c .before .before .put-step) .ensures)
 
-write-side-written-requires : (t : ℕ) → write-side-lts.Need-written-requires (write-side-claims t) (write-side-at t) write-side.Post
+write-side-written-requires : (t : ℕ) → write-side-lts.Need-bytes-between-requires (write-side-claims t) (write-side-at t) write-side.Post
 write-side-written-requires t c κs = side-upto ((c .before .before .before .before .before .before .before .pre) .1) ((c .before .before .before .write-block) .ensures)
 
 write-side-sub-close-side : (t : ℕ) → write-side-lts.Need-sub-close-side (write-side-claims t) (write-side-at t) write-side.Post
 write-side-sub-close-side t c =
     let start = c .before .before .before .before .before .before .before .before in
-    side-at ((start .pre) .1) ((c .before .before .before .before .write-block) .ensures) ((c .written) .ensures)
+    side-at ((start .pre) .1) ((c .before .before .before .before .write-block) .ensures) ((c .bytes-between) .ensures)
 
 write-side-part-close-side-start : (t : ℕ) → write-side-lts.Need-part-close-side-start (write-side-claims t) (write-side-at t) write-side.Post
 write-side-part-close-side-start t c =
     let start = c .before .before .before .before .before .before .before .before in
-    side-at ((start .pre) .1) ((c .before .before .before .before .write-block) .ensures) ((c .written) .ensures)
+    side-at ((start .pre) .1) ((c .before .before .before .before .write-block) .ensures) ((c .bytes-between) .ensures)
 
 write-side-close-side-requires : (t : ℕ) → write-side-lts.Need-close-side-requires (write-side-claims t) (write-side-at t) write-side.Post
 write-side-close-side-requires t c κs =
     let start = c .before .before .before .before .before .before .before .before .before in
-    end-fits ((start .pre) .1) ((c .before .before .before .before .before .write-block) .ensures) ((c .before .written) .ensures)
+    end-fits ((start .pre) .1) ((c .before .before .before .before .before .write-block) .ensures) ((c .before .bytes-between) .ensures)
 
 write-side-same-length : (t : ℕ) → write-side-lts.Need-same-length (write-side-claims t) (write-side-at t) write-side.Post
 write-side-same-length t c =
     let at-write-block = c .before .before .before .before .before .before .before .before in
     (c .before .out2) .given .1 ∙ side-long ((at-write-block .before .before .before .before .pre) .1) ((at-write-block .write-block) .ensures)
-    ((c .before .before .before .before .written) .ensures)
+    ((c .before .before .before .before .bytes-between) .ensures)
 
 write-side-returns : (t : ℕ) → write-side-lts.Need-returns (write-side-claims t) (write-side-at t) write-side.Post
 write-side-returns t c =
     let at-write-block = c .before .before .before .before .before .before .before .before in
-    side-laid ((at-write-block .before .before .before .before .pre) .1) ((at-write-block .write-block) .ensures) ((c .before .before .before .before .written) .ensures)
+    side-laid ((at-write-block .before .before .before .before .pre) .1) ((at-write-block .write-block) .ensures) ((c .before .before .before .before .bytes-between) .ensures)
     ((c .before .before .close-side) .ensures)
 
 write-statement-record-at-requires : (t : ℕ) → write-statement-lts.Need-record-at-requires (write-statement-claims t) (write-statement-at t) write-statement.Post
@@ -468,8 +468,8 @@ pub +write-block+write-branch+write-rounds+write-side+write-statement-spec : {M 
     (λ c. block-start ((c .before .before .pre) .1)) (λ c κs. omega (arith, (c .before .loop) .inv .passing .walk .rest .inside))
     (search needs) (λ c. part-length ((c .before .before .before .before .loop) .inv .writing .part)) (write-block-returns t)
     (λ c κs. writing-upto ((c .before .before .before .before .loop) .inv .writing))
-    (λ c. rw (c .written .ensures) (writing-at ((c .before .before .before .before .before .loop) .inv .writing)))
-    (λ c. rw (c .written .ensures) (writing-at ((c .before .before .before .before .before .loop) .inv .writing))) (search needs)
+    (λ c. rw (c .bytes-between .ensures) (writing-at ((c .before .before .before .before .before .loop) .inv .writing)))
+    (λ c. rw (c .bytes-between .ensures) (writing-at ((c .before .before .before .before .before .loop) .inv .writing))) (search needs)
     (write-block-write-statement-requires t) (write-block-loop-less t) (write-block-loop-again t)
     (λ c. part-length ((c .before .loop) .inv .writing .part)) (λ c. block-ended ((c .before .loop) .inv) ((c .loop-test) .left)))
     (λ t. write-branch-lts.spec (write-branch-claims t) (write-branch-at t) write-branch.Post (write-branch-put-step-requires t)
@@ -480,12 +480,12 @@ pub +write-block+write-branch+write-rounds+write-side+write-statement-spec : {M 
     (write-branch-add-t24 t) (write-branch-same-length t) (write-branch-returns t))
     (λ t. write-rounds-lts.spec (write-rounds-claims t) (write-rounds-at t) write-rounds.Post write-rounds-Inv-loop write-rounds-μ-loop
     (write-rounds-add-body t) (write-rounds-loop-holds t) (λ c κs. writing-upto ((c .before .loop) .inv .turn .writing))
-    (λ c. rw (c .written .ensures) (writing-at ((c .before .before .loop) .inv .turn .writing)))
-    (λ c. rw (c .written .ensures) (writing-at ((c .before .before .loop) .inv .turn .writing))) (search needs)
+    (λ c. rw (c .bytes-between .ensures) (writing-at ((c .before .before .loop) .inv .turn .writing)))
+    (λ c. rw (c .bytes-between .ensures) (writing-at ((c .before .before .loop) .inv .turn .writing))) (search needs)
     (write-rounds-write-block-requires t) (write-rounds-add-round t) (omega arith) (write-rounds-loop-again t)
     (λ c κs. writing-upto ((c .before .loop) .inv .turn .writing)) (search needs)
-    (λ c. rw (c .before .written2 .ensures) (writing-at ((c .before .before .before .loop) .inv .turn .writing)))
-    (λ c. rw (c .before .written2 .ensures) (writing-at ((c .before .before .before .loop) .inv .turn .writing))) (search needs)
+    (λ c. rw (c .before .bytes-between2 .ensures) (writing-at ((c .before .before .before .loop) .inv .turn .writing)))
+    (λ c. rw (c .before .bytes-between2 .ensures) (writing-at ((c .before .before .before .loop) .inv .turn .writing))) (search needs)
     (write-rounds-put-step-requires t) (write-rounds-add-t27 t) (write-rounds-same-length t) (write-rounds-returns t))
     (λ t. write-side-lts.spec (write-side-claims t) (write-side-at t) write-side.Post
     (λ c κs. (omega arith, side-fits ((c .before .before .before .pre) .1))) (write-side-written-requires t) (write-side-sub-close-side t)

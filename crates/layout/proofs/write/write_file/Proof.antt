@@ -18,7 +18,7 @@ use Rattle.placing.proofs.clock.commanded.Reads as commanded-reads
 use Rattle.placing.proofs.clock.start.Reads as start-reads
 use Rattle.placing.proofs.pieces.put_commands.Reads as put-commands-reads
 use Rattle.placing.proofs.pieces.put_tail.Reads as put-tail-reads
-use Rattle.placing.proofs.pieces.written.Reads as written-reads
+use Rattle.placing.proofs.pieces.bytes_between.Reads as bytes-between-reads
 use Rattle.layout.proofs.write.write_block.Reads as write-block-reads
 
 abbrev claims : lts.Claims
@@ -31,8 +31,8 @@ claims = (
   commanded-reads.Learnt,
   write-block-reads.Asked,
   write-block-reads.Learnt,
-  written-reads.Asked,
-  written-reads.Learnt,
+  bytes-between-reads.Asked,
+  bytes-between-reads.Learnt,
   put-tail-reads.Asked,
   put-tail-reads.Learnt,
 )
@@ -40,25 +40,25 @@ claims = (
 -- the commands of tick 0 are laid
 begun : (c : lts.After-put-commands claims reads.Pre reads.Post) →
     let a = c .before .before .before .before .before .args in
-    Part (blockBytes (layout (a .n) (fileTree (a .s .now)))) (behind (c .before .before .before .before .before .pre)) (a .out .now) (c .put-commands .last .1 .1 .0) (c .put-commands .result)
+    Part (blockBytes (layout (a .rack) (fileTree (a .file .now)))) (behind (c .before .before .before .before .before .pre)) (a .out .now) (c .put-commands .last .1 .1 .0) (c .put-commands .result)
 begun c = start-part (c .before .before .before .before .before .pre) (c .before .before .start .ensures) (c .put-commands .ensures)
 
 -- and their state
 opened : (c : lts.After-commanded claims reads.Pre reads.Post) →
-    After (c .before .before .before .before .before .before .before .before .before .args .n) opening started (c .commanded .result)
+    After (c .before .before .before .before .before .before .before .before .before .args .rack) opening started (c .commanded .result)
 opened c = after-opening (c .before .before .before .before .before .before .before .before .before .pre .settings) (c .before .start2 .ensures) (c .commanded .ensures .0)
 
 -- the block is laid
-blocked : (c : lts.After-written claims reads.Pre reads.Post) →
+blocked : (c : lts.After-bytes-between claims reads.Pre reads.Post) →
     let b = c .before .before .before .before in
     let k = b .before .before .before .before .before .before in
     let a = k .before .before .before .before .before .args in
-    Part (blockBytes (layout (a .n) (fileTree (a .s .now)))) (tailBytes (a .n) (b .write-block .result .state)) (a .out .now)
-    (back (k .put-commands .last .1 .1 .0) (k .put-commands .result) (b .write-block .last .1 .1 .1 .1 .1 .1 .1 .0)) (k .put-commands .result + c .written .result)
+    Part (blockBytes (layout (a .rack) (fileTree (a .file .now)))) (tailBytes (a .rack) (b .write-block .result .state)) (a .out .now)
+    (back (k .put-commands .last .1 .1 .0) (k .put-commands .result) (b .write-block .last .1 .1 .1 .1 .1 .1 .1 .0)) (k .put-commands .result + c .bytes-between .result)
 blocked c =
     let b = c .before .before .before .before in
     let k = b .before .before .before .before .before .before in
-    tail-part (k .before .before .before .before .before .pre) (opened (b .before .before)) (begun k) (b .write-block .ensures) (c .written .ensures)
+    tail-part (k .before .before .before .before .before .pre) (opened (b .before .before)) (begun k) (b .write-block .ensures) (c .bytes-between .ensures)
 
 commanded-requires : tie.Need-commanded-requires
 commanded-requires c κs = subst (Laying _) (sym (c .start2 .ensures)) (laying-start (c .before .before .before .before .before .before .before .before .pre .settings))
@@ -69,7 +69,7 @@ write-block-requires c κs =
     let k = o .before .before .before .before in
     block-fits (k .before .before .before .before .before .pre) (opened o) (begun k)
 
-written-requires : tie.Need-written-requires
+written-requires : tie.Need-bytes-between-requires
 written-requires c κs =
     let b = c .before .before .before in
     let k = b .before .before .before .before .before .before in

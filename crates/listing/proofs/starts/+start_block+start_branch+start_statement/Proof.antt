@@ -89,7 +89,7 @@ start-block-same-length t c =
 -- the next record closes no block
 goes-on : (t : ℕ) (c : start-block-lts.Else1 (start-block-claims t) (start-block-at t) start-block.Post start-block-Inv-loop start-block-μ-loop) →
     let a = c .before .before .before .before .before .before .before .args in
-    closesBlock (kindAt (a .s .now) (c .before .before .before .before .loop .next)) ≡ false
+    closesBlock (kindAt (a .file .now) (c .before .before .before .before .loop .next)) ≡ false
 goes-on t c = told closesBlock (c .before .before .kind-at .ensures) (c .before .closes .ensures) (c .if1 .left)
 
 start-block-returns : (t : ℕ) → start-block-lts.Need-returns (start-block-claims t) (start-block-at t) start-block.Post start-block-Inv-loop start-block-μ-loop

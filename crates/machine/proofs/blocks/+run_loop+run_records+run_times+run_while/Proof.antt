@@ -31,7 +31,7 @@ use Rattle.machine.proofs.blocks.last.Reads as last-reads
 use Rattle.machine.proofs.blocks.run_steps.Reads as run-steps-reads
 use Rattle.records.proofs.record_at.Reads as record-at-reads
 use Rattle.stepping.proofs.progress.cut_off.Reads as cut-off-reads
-use Rattle.stepping.proofs.progress.ended.Reads as ended-reads
+use Rattle.stepping.proofs.progress.halted.Reads as halted-reads
 use Rattle.stepping.proofs.progress.going.Reads as going-reads
 use Rattle.stepping.proofs.progress.run_last_test.Reads as run-last-test-reads
 use Rattle.stepping.proofs.steps.test_holds.Reads as test-holds-reads
@@ -81,8 +81,8 @@ abbrev run-records-claims : ℕ → run-records-lts.Claims
 run-records-claims t = (
   run-steps-reads.Asked,
   run-steps-reads.Learnt,
-  ended-reads.Asked,
-  ended-reads.Learnt,
+  halted-reads.Asked,
+  halted-reads.Learnt,
   going-reads.Asked,
   going-reads.Learnt,
   run-loop-below t,
@@ -97,8 +97,8 @@ run-times-claims t = (
   run-last-test-reads.Learnt,
   run-records-below t,
   run-records.Post,
-  ended-reads.Asked,
-  ended-reads.Learnt,
+  halted-reads.Asked,
+  halted-reads.Learnt,
 )
 
 abbrev run-while-claims : ℕ → run-while-lts.Claims
@@ -113,8 +113,8 @@ run-while-claims t = (
   going-reads.Learnt,
   run-records-below t,
   run-records.Post,
-  ended-reads.Asked,
-  ended-reads.Learnt,
+  halted-reads.Asked,
+  halted-reads.Learnt,
   run-last-test-reads.Asked,
   run-last-test-reads.Learnt,
 )
@@ -149,12 +149,12 @@ run-records-loop-holds t c =
 run-records-returns : (t : ℕ) → run-records-lts.Need-returns (run-records-claims t) (run-records-at t) run-records.Post run-records-Inv-loop run-records-μ-loop
 run-records-returns t c =
     let w = c .before .before .before .before in
-    running-ran (w .before .before .before .loop .inv) (w .run-steps .ensures .moved .halts (sym (c .before .ended .ensures) ∙ c .if1 .taken))
+    running-ran (w .before .before .before .loop .inv) (w .run-steps .ensures .moved .halts (sym (c .before .halted .ensures) ∙ c .if1 .taken))
 
 run-records-returns-2 : (t : ℕ) → run-records-lts.Need-returns-2 (run-records-claims t) (run-records-at t) run-records.Post run-records-Inv-loop run-records-μ-loop
 run-records-returns-2 t c =
     let w = c .before .before .before .before .before .before in
-    let on = sym (c .before .before .before .ended .ensures) ∙ c .before .before .if1 .left in
+    let on = sym (c .before .before .before .halted .ensures) ∙ c .before .before .if1 .left in
     let moved = w .run-steps .ensures .moved .goes on in
     running-ended (running-then (w .before .before .before .loop .inv) moved) (c .before .if2 .taken) (c .going .ensures)
 
@@ -162,9 +162,9 @@ run-records-run-loop-requires : (t : ℕ) → run-records-lts.Need-run-loop-requ
 run-records-run-loop-requires t c κs =
     let w = c .before .before .before .before .before .before in
     let v = w .before .before .before .before .before .before .before .before in
-    let on = sym (c .before .before .before .ended .ensures) ∙ c .before .before .if1 .left in
+    let on = sym (c .before .before .before .halted .ensures) ∙ c .before .before .if1 .left in
     let moved = w .run-steps .ensures .moved .goes on in
-    let goes = loop-goes-on (kindAt (v .args .s .now) (w .run-steps .result .next)) (w .run-steps .ensures .stops on (c .before .if2 .left)) in (
+    let goes = loop-goes-on (kindAt (v .args .file .now) (w .run-steps .result .next)) (w .run-steps .ensures .stops on (c .before .if2 .left)) in (
       omega (arith, v .pre .0, w .before .before .before .loop .inv .on, moved .on, running-inside (moved .rest), c .before .if2 .left, moved .rest .given .few),
       (statement-next (running-then (w .before .before .before .loop .inv) moved) (c .before .if2 .left) goes, w .run-steps .ensures .stops on (c .before .if2 .left)),
     )
@@ -175,11 +175,11 @@ run-records-returns-3 t c =
     let v = w .before .before .before .before in
     let u = v .before .before .before .before .before .before in
     let q = u .before .before .before .before .before in
-    let on = sym (v .ended .ensures) ∙ w .before .before .before .if1 .left in
+    let on = sym (v .halted .ensures) ∙ w .before .before .before .if1 .left in
     let moved = v .before .before .before .run-steps .ensures .moved .goes on in
-    let goes = loop-goes-on (kindAt (q .args .s .now) (v .before .before .before .run-steps .result .next)) (v .before .before .before .run-steps .ensures .stops on (w .before .before .if2 .left)) in
+    let goes = loop-goes-on (kindAt (q .args .file .now) (v .before .before .before .run-steps .result .next)) (v .before .before .before .run-steps .ensures .stops on (w .before .before .if2 .left)) in
     let past = past-ran (running-start (moved .rest)) (w .before .before .if2 .left) goes (w .run-loop .ensures) (search needs) in
-    running-ran (running-then (u .loop .inv) moved) (past .moved .halts (sym (c .before .ended2 .ensures) ∙ c .if3 .taken))
+    running-ran (running-then (u .loop .inv) moved) (past .moved .halts (sym (c .before .halted2 .ensures) ∙ c .if3 .taken))
 
 run-records-loop-less : (t : ℕ) → run-records-lts.Need-loop-less (run-records-claims t) (run-records-at t) run-records.Post run-records-Inv-loop run-records-μ-loop
 run-records-loop-less t c =
@@ -187,11 +187,11 @@ run-records-loop-less t c =
     let v = w .before .before .before .before in
     let u = v .before .before .before .before .before in
     let q = u .before .before .before .before .before .before in
-    let on = sym (v .ended .ensures) ∙ w .before .before .before .if1 .left in
+    let on = sym (v .halted .ensures) ∙ w .before .before .before .if1 .left in
     let moved = v .before .before .before .run-steps .ensures .moved .goes on in
-    let goes = loop-goes-on (kindAt (q .args .s .now) (v .before .before .before .run-steps .result .next)) (v .before .before .before .run-steps .ensures .stops on (w .before .before .if2 .left)) in
+    let goes = loop-goes-on (kindAt (q .args .file .now) (v .before .before .before .run-steps .result .next)) (v .before .before .before .run-steps .ensures .stops on (w .before .before .if2 .left)) in
     let past = past-ran (running-start (moved .rest)) (w .before .before .if2 .left) goes (w .run-loop .ensures) (search needs) in
-    omega (arith, past .on (sym (c .before .ended2 .ensures) ∙ c .if3 .left), moved .on, u .loop-test .taken)
+    omega (arith, past .on (sym (c .before .halted2 .ensures) ∙ c .if3 .left), moved .on, u .loop-test .taken)
 
 run-records-loop-again : (t : ℕ) → run-records-lts.Need-loop-again (run-records-claims t) (run-records-at t) run-records.Post run-records-Inv-loop run-records-μ-loop
 run-records-loop-again t c =
@@ -199,11 +199,11 @@ run-records-loop-again t c =
     let v = w .before .before .before .before in
     let u = v .before .before .before .before .before .before in
     let q = u .before .before .before .before .before in
-    let on = sym (v .ended .ensures) ∙ w .before .before .before .if1 .left in
+    let on = sym (v .halted .ensures) ∙ w .before .before .before .if1 .left in
     let moved = v .before .before .before .run-steps .ensures .moved .goes on in
-    let goes = loop-goes-on (kindAt (q .args .s .now) (v .before .before .before .run-steps .result .next)) (v .before .before .before .run-steps .ensures .stops on (w .before .before .if2 .left)) in
+    let goes = loop-goes-on (kindAt (q .args .file .now) (v .before .before .before .run-steps .result .next)) (v .before .before .before .run-steps .ensures .stops on (w .before .before .if2 .left)) in
     let past = past-ran (running-start (moved .rest)) (w .before .before .if2 .left) goes (w .run-loop .ensures) (search needs) in
-    running-then (running-then (u .loop .inv) moved) (past .moved .goes (sym (c .before .ended2 .ensures) ∙ c .if3 .left))
+    running-then (running-then (u .loop .inv) moved) (past .moved .goes (sym (c .before .halted2 .ensures) ∙ c .if3 .left))
 
 abbrev run-times-Inv-loop : run-times-lts.InvT-loop
 run-times-Inv-loop s i ends r table inputs limit tick cells₀ body to next at₀ round₀ cells at round =
@@ -249,14 +249,14 @@ run-times-returns-2 t c =
     let w = c .before .before .before .before in
     let v = w .before .before .before .before in
     let inv = v .loop .inv in
-    loop-halted inv (w .before .before .if2 .taken) (inv .early) (turning-turned inv) (w .run-records .ensures) (sym (c .before .ended .ensures) ∙ c .if3 .taken)
+    loop-halted inv (w .before .before .if2 .taken) (inv .early) (turning-turned inv) (w .run-records .ensures) (sym (c .before .halted .ensures) ∙ c .if3 .taken)
 
 run-times-loop-again : (t : ℕ) → run-times-lts.Need-loop-again (run-times-claims t) (run-times-at t) run-times.Post run-times-Inv-loop run-times-μ-loop
 run-times-loop-again t c =
     let w = c .before .before .before .before in
     let v = w .before .before .before .before in
     let inv = v .loop .inv in
-    loop-next inv (w .before .before .if2 .taken) (inv .early) (turning-turned inv) (w .run-records .ensures) (sym (c .before .ended .ensures) ∙ c .if3 .left) (search needs)
+    loop-next inv (w .before .before .if2 .taken) (inv .early) (turning-turned inv) (w .run-records .ensures) (sym (c .before .halted .ensures) ∙ c .if3 .left) (search needs)
 
 run-times-run-last-test-requires-2 : (t : ℕ) → run-times-lts.Need-run-last-test-requires-2 (run-times-claims t) (run-times-at t) run-times.Post run-times-Inv-loop run-times-μ-loop
 run-times-run-last-test-requires-2 t c κs =
@@ -321,7 +321,7 @@ run-while-returns-3 t c =
     let v = w .before .before .before .before .before in
     let inv = v .before .before .before .loop .inv in
     let turned = spinning-turned inv (v .before .if1 .taken) (v .if2 .left) (w .before .before .before .test-holds .ensures) (w .before .before .if3 .left) in
-    loop-halted inv (v .before .if1 .taken) (omega (arith, v .if2 .left)) turned (w .run-records .ensures) (sym (c .before .ended .ensures) ∙ c .if4 .taken)
+    loop-halted inv (v .before .if1 .taken) (omega (arith, v .if2 .left)) turned (w .run-records .ensures) (sym (c .before .halted .ensures) ∙ c .if4 .taken)
 
 run-while-loop-again : (t : ℕ) → run-while-lts.Need-loop-again (run-while-claims t) (run-while-at t) run-while.Post run-while-Inv-loop run-while-μ-loop
 run-while-loop-again t c =
@@ -329,7 +329,7 @@ run-while-loop-again t c =
     let v = w .before .before .before .before .before in
     let inv = v .before .before .before .loop .inv in
     let turned = spinning-turned inv (v .before .if1 .taken) (v .if2 .left) (w .before .before .before .test-holds .ensures) (w .before .before .if3 .left) in
-    loop-next inv (v .before .if1 .taken) (omega (arith, v .if2 .left)) turned (w .run-records .ensures) (sym (c .before .ended .ensures) ∙ c .if4 .left) (search needs)
+    loop-next inv (v .before .if1 .taken) (omega (arith, v .if2 .left)) turned (w .run-records .ensures) (sym (c .before .halted .ensures) ∙ c .if4 .left) (search needs)
 
 run-while-run-last-test-requires : (t : ℕ) → run-while-lts.Need-run-last-test-requires (run-while-claims t) (run-while-at t) run-while.Post run-while-Inv-loop run-while-μ-loop
 run-while-run-last-test-requires t c κs =

@@ -14,13 +14,13 @@ returns : tie.Need-returns
 returns c =
     let w = c .before .before .before .before .before .before .before in
     let is = kind-there (w .pre .1) (c .before .if1 .taken) in
-    record { past = λ to B l. closed-past B l (ap closesBlock is) (past-end (w .args .s .now) (w .args .i) (sym is) (λ e. omega arith)) (c .going .ensures) }
+    record { past = λ to B l. closed-past B l (ap closesBlock is) (past-end (w .args .file .now) (w .args .i) (sym is) (λ e. omega arith)) (c .going .ensures) }
 
 returns-2 : tie.Need-returns-2
 returns-2 c =
     let w = c .before .before .before .before .before .before .before .before .before .before in
     let is = kind-there (w .pre .1) (c .before .before .if2 .taken) in
-    record { past = λ to B l. closed-past B l (ap closesBlock is) (past-else (w .args .s .now) (w .args .i) _ (sym is) refl (c .before .behind .ensures)) (c .going2 .ensures) }
+    record { past = λ to B l. closed-past B l (ap closesBlock is) (past-else (w .args .file .now) (w .args .i) _ (sym is) refl (c .before .behind .ensures)) (c .going2 .ensures) }
 
 returns-3 : tie.Need-returns-3
 returns-3 c =

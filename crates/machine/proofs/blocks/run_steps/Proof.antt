@@ -40,7 +40,7 @@ returns-2 c =
     let w = c .before .before .before .before in
     let v = w .before .before .before .before .before in
     let one = w .run-one .ensures .past _ (v .before .loop .inv .rest) (v .loop-test .taken) in
-    let halts = sym (c .before .ended .ensures) ∙ c .if2 .taken in
+    let halts = sym (c .before .halted .ensures) ∙ c .if2 .taken in
     steps-halted halts (running-ran (v .before .loop .inv) (one .moved .halts halts))
 
 loop-less : tie.Need-loop-less Inv-loop μ-loop
@@ -48,14 +48,14 @@ loop-less c =
     let w = c .before .before .before .before in
     let v = w .before .before .before .before .before in
     let one = w .run-one .ensures .past _ (v .before .loop .inv .rest) (v .loop-test .taken) in
-    omega (arith, one .on (sym (c .before .ended .ensures) ∙ c .if2 .left), v .loop-test .taken)
+    omega (arith, one .on (sym (c .before .halted .ensures) ∙ c .if2 .left), v .loop-test .taken)
 
 loop-again : tie.Need-loop-again Inv-loop μ-loop
 loop-again c =
     let w = c .before .before .before .before in
     let v = w .before .before .before .before .before in
     let one = w .run-one .ensures .past _ (v .before .loop .inv .rest) (v .loop-test .taken) in
-    running-then (v .before .loop .inv) (one .moved .goes (sym (c .before .ended .ensures) ∙ c .if2 .left))
+    running-then (v .before .loop .inv) (one .moved .goes (sym (c .before .halted .ensures) ∙ c .if2 .left))
 
 returns-3 : tie.Need-returns-3 Inv-loop μ-loop
 returns-3 c =

@@ -13,7 +13,7 @@ use Rattle.records.proofs.skips.skip_records.Reads as skip-records-reads
 -- what waits is one record or none
 few : (c : lts.After-skip-records (skip-records-reads.Asked, skip-records-reads.Learnt, counted-reads.Asked, counted-reads.Learnt) reads.Pre reads.Post) →
     c .skip-records .result ≤ 1
-few c = let s = c .before .before .before .args .s in omega (arith, c .skip-records .ensures, one-skip (s .wait + s .left))
+few c = let s = c .before .before .before .args .s in omega (arith, c .skip-records .ensures, one-skip (s .wait + s .«ticks_left»))
 
 returns : tie.Need-returns
 returns c =

@@ -9,7 +9,7 @@ use Rattle.placing.proofs.clock.stepped.Tie as tie
 add-t5 : tie.Need-add-t5
 add-t5 c =
     let s = c .before .before in
-    omega (arith, c .before .readied .ensures .after .tick, before-short (s .args .n) (s .args .from .tick) (s .args .d) (s .pre .0 .settings))
+    omega (arith, c .before .readied .ensures .after .tick, before-short (s .args .rack) (s .args .from .tick) (s .args .d) (s .pre .0 .settings))
 
 counted-requires : tie.Need-counted-requires
 counted-requires c κs = omega (arith, c .skip-records .ensures, one-skip (c .before .before .before .before .readied .result .wait))

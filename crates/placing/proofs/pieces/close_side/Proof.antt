@@ -27,19 +27,19 @@ abbrev filling : Settings → State → ℕ → Block
 filling σ s e = fill σ (e - s .tick) (s .tick) e
 
 -- they are laid, and their bytes counted
-filled : (c : tie.After-written) →
+filled : (c : tie.After-bytes-between) →
     let f = c .before .before .before in
     let a = f .before .before .before .args in
     let x = bare (a .kind) in
-    Part (closingBytes (a .n) (a .s) (a .end) x) (skipBytes (f .put-filling .result .wait) ++ recordBytes x) (a .out .now)
-    (f .put-filling .last .1 .1 .1 .0) (c .written .result)
+    Part (closingBytes (a .rack) (a .s) (a .end) x) (skipBytes (f .put-filling .result .wait) ++ recordBytes x) (a .out .now)
+    (f .put-filling .last .1 .1 .1 .0) (c .bytes-between .result)
 filled c =
     let f = c .before .before .before in
     let s = f .before .before .before in
     let a = s .args in
-    let b = filling (a .n) (a .s) (a .end) in
+    let b = filling (a .rack) (a .s) (a .end) in
     piece-laid (a .s) b (bare (a .kind)) (a .out .now) (s .pre .room)
-    (lays-wrote b (f .put-filling .ensures) (settled-few (a .s .records) (a .s .wait) b (s .pre .few)) (c .written .ensures)) (f .put-filling .ensures .after .wait)
+    (lays-wrote b (f .put-filling .ensures) (settled-few (a .s .records) (a .s .wait) b (s .pre .few)) (c .bytes-between .ensures)) (f .put-filling .ensures .after .wait)
 
 -- and so are the ticks that wait then
 waited : (c : tie.After-put-skip) →
@@ -47,8 +47,8 @@ waited : (c : tie.After-put-skip) →
     let f = w .before .before .before in
     let a = f .before .before .before .args in
     let x = bare (a .kind) in
-    Part (closingBytes (a .n) (a .s) (a .end) x) (recordBytes x) (a .out .now)
-    (back (f .put-filling .last .1 .1 .1 .0) (w .written .result) (c .put-skip .last .0)) (w .written .result + c .put-skip .result)
+    Part (closingBytes (a .rack) (a .s) (a .end) x) (recordBytes x) (a .out .now)
+    (back (f .put-filling .last .1 .1 .1 .0) (w .bytes-between .result) (c .put-skip .last .0)) (w .bytes-between .result + c .put-skip .result)
 waited c =
     let w = c .before .before in
     wrote-next (skipBytes (w .before .before .before .put-filling .result .wait)) (filled w) (c .put-skip .ensures)
@@ -59,8 +59,8 @@ put-filling-requires c κs =
     let a = s .args in (
       s .pre .can,
       record {
-        few = settled-few (a .s .records) (a .s .wait) (filling (a .n) (a .s) (a .end)) (s .pre .few);
-        room = piece-fits (a .s) (filling (a .n) (a .s) (a .end)) (bare (a .kind)) (a .out .now) (s .pre .room);
+        few = settled-few (a .s .records) (a .s .wait) (filling (a .rack) (a .s) (a .end)) (s .pre .few);
+        room = piece-fits (a .s) (filling (a .rack) (a .s) (a .end)) (bare (a .kind)) (a .out .now) (s .pre .room);
       },
     )
 
@@ -71,7 +71,7 @@ put-skip-requires c κs = let w = c .before in part-fits (skipBytes (w .before .
 few : (c : tie.After-struct-known2) → (c .before .before .before .before .before .before .before .before .before .before .before .before .before .before .put-filling) .result .records + c .before .skip-records .result ≤ 5461
 few c =
     let s = c .before .before .before .before .before .before .before .before .before .before .before .before .before .before .before .before .before in
-    closing-few (filling (s .args .n) (s .args .s) (s .args .end))
+    closing-few (filling (s .args .rack) (s .args .s) (s .args .end))
     ((c .before .before .before .before .before .before .before .before .before .before .before .before .before .before .put-filling) .ensures .after) (s .pre .few)
     (c .before .skip-records .ensures)
 
@@ -80,7 +80,7 @@ returns c =
     let s = c .before .before .before .before .before .before .before .before .before .before .before .before .before .before .before .before .before .before in
     record {
       closed = subst (Closed _ _ _) (sym (c .back .ensures))
-          (closing (filling (s .args .n) (s .args .s) (s .args .end))
+          (closing (filling (s .args .rack) (s .args .s) (s .args .end))
           ((c .before .before .before .before .before .before .before .before .before .before .before .before .before .before .before .put-filling) .ensures .after) (s .pre .few)
           ((c .before .before .skip-records) .ensures));
       wrote = part-last (waited (c .before .before .before .before .before .before .before .before .before .before)) ((c .before .before .before .before .before .before .put-bare) .ensures);

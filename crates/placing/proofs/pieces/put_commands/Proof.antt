@@ -15,7 +15,7 @@ use Rattle.placing.proofs.pieces.put_commands.Tie as tie
 -- the SKIP is laid
 skipped : (c : tie.After-put-skip) →
     let a = c .before .before .before .before .args in
-    Part (dueBytes (a .n) (a .s)) (recordBytes (actRec (beat 1)) ++ saveBytes (a .s .windows)) (a .out .now) (c .put-skip .last .0) (c .put-skip .result)
+    Part (dueBytes (a .rack) (a .s)) (recordBytes (actRec (beat 1)) ++ saveBytes (a .s .«windows_left»)) (a .out .now) (c .put-skip .last .0) (c .put-skip .result)
 skipped c =
     let s = c .before .before .before .before in
     due-skipped (s .pre .0) (s .args .out .now) (s .pre .1) (c .put-skip .ensures)
@@ -24,7 +24,7 @@ skipped c =
 beaten : (c : tie.After-put-bare) →
     let k = c .before .before .before .before in
     let a = k .before .before .before .before .args in
-    Part (dueBytes (a .n) (a .s)) (saveBytes (a .s .windows)) (a .out .now)
+    Part (dueBytes (a .rack) (a .s)) (saveBytes (a .s .«windows_left»)) (a .out .now)
     (back (k .put-skip .last .0) (k .put-skip .result) (c .put-bare .last .0)) (k .put-skip .result + 12)
 beaten c = part-lent (recordBytes (actRec (beat 1))) (skipped (c .before .before .before .before)) (c .put-bare .ensures) refl
 
@@ -33,7 +33,7 @@ saving : (c : tie.Else1) →
     let b = c .before .before .before .before in
     let k = b .before .before .before .before in
     let a = k .before .before .before .before .args in
-    Part (dueBytes (a .n) (a .s)) (recordBytes (actRec (save 0))) (a .out .now)
+    Part (dueBytes (a .rack) (a .s)) (recordBytes (actRec (save 0))) (a .out .now)
     (back (k .put-skip .last .0) (k .put-skip .result) (b .put-bare .last .0)) (k .put-skip .result + 12)
 saving c = let b = c .before .before .before .before in save-due _ (beaten b) (c .if1 .left)
 

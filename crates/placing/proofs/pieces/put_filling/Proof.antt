@@ -18,7 +18,7 @@ put-commands-requires c κs =
     let at-loop = c .before .before .before .before .before .before in (
       (at-loop .loop) .inv .can .laying,
       filling-fit ((at-loop .loop) .inv) ((c .before .before .before .if1) .taken) ((c .before .commanded) .ensures .0)
-          ((c .before .commanded) .ensures .1) ((c .before .before .written) .ensures),
+          ((c .before .commanded) .ensures .1) ((c .before .before .bytes-between) .ensures),
     )
 
 loop-less : tie.Need-loop-less Inv-loop μ-loop
@@ -31,7 +31,7 @@ loop-again : tie.Need-loop-again Inv-loop μ-loop
 loop-again c =
     let at-commanded = c .before .before .before .before in
     filling-next ((at-commanded .before .before .before .before .before .loop) .inv) ((at-commanded .before .before .if1) .taken) ((at-commanded .commanded) .ensures .0)
-    ((at-commanded .commanded) .ensures .1) ((at-commanded .before .written) .ensures) ((c .before .before .put-commands) .ensures)
+    ((at-commanded .commanded) .ensures .1) ((at-commanded .before .bytes-between) .ensures) ((c .before .before .put-commands) .ensures)
 
 idled-requires : tie.Need-idled-requires Inv-loop μ-loop
 idled-requires c κs =
@@ -46,7 +46,7 @@ put-filling-spec =
     tie.close (tie.spec Inv-loop μ-loop (λ c. filling-start ((c .before .pre) .0) ((c .before .pre) .1))
     (λ c. (c .before .loop) .inv .can .reaches) (λ c κs. writing-upto ((c .before .before .before .loop) .inv .writing))
     (λ c κs. (c .before .before .before .before .loop) .inv .can .laying)
-    (λ c. filling-at ((c .before .before .before .before .before .loop) .inv) ((c .before .written) .ensures))
-    (λ c. filling-at ((c .before .before .before .before .before .loop) .inv) ((c .before .written) .ensures)) (search needs)
+    (λ c. filling-at ((c .before .before .before .before .before .loop) .inv) ((c .before .bytes-between) .ensures))
+    (λ c. filling-at ((c .before .before .before .before .before .loop) .inv) ((c .before .bytes-between) .ensures)) (search needs)
     put-commands-requires loop-less loop-again (λ c. (c .before .before .before .before .loop) .inv .can .reaches) idled-requires
     (λ c. part-length ((c .before .before .before .before .before .loop) .inv .writing .part)) returns)

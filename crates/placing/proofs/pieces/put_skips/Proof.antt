@@ -18,7 +18,7 @@ put-commands-requires c κs =
     let at-loop = c .before .before .before .before .before in (
       skips-laying ((at-loop .loop) .inv),
       skips-fit ((at-loop .loop) .inv) ((c .before .before .before .if1) .taken) ((c .before .commanded) .ensures .0)
-          ((c .before .commanded) .ensures .1) ((c .before .before .written) .ensures),
+          ((c .before .commanded) .ensures .1) ((c .before .before .bytes-between) .ensures),
     )
 
 loop-less : tie.Need-loop-less Inv-loop μ-loop
@@ -31,7 +31,7 @@ loop-again : tie.Need-loop-again Inv-loop μ-loop
 loop-again c =
     let at-commanded = c .before .before .before .before .before in
     skips-next ((at-commanded .before .before .before .before .loop) .inv) ((at-commanded .before .before .if1) .taken) ((at-commanded .commanded) .ensures .0)
-    ((at-commanded .commanded) .ensures .1) ((at-commanded .before .written) .ensures) ((c .before .before .before .put-commands) .ensures)
+    ((at-commanded .commanded) .ensures .1) ((at-commanded .before .bytes-between) .ensures) ((c .before .before .before .put-commands) .ensures)
 
 idled-requires : tie.Need-idled-requires Inv-loop μ-loop
 idled-requires c κs =
@@ -42,8 +42,8 @@ pub put-skips-spec : {M : Type 1} → statement M
 put-skips-spec =
     tie.close (tie.spec Inv-loop μ-loop (λ c. skips-start ((c .before .pre) .0) ((c .before .pre) .1) ((c .before .pre) .2))
     (λ c κs. writing-upto ((c .before .before .loop) .inv .writing)) (λ c κs. skips-laying ((c .before .before .before .loop) .inv))
-    (λ c. skips-at ((c .before .before .before .before .loop) .inv) ((c .before .written) .ensures))
-    (λ c. skips-at ((c .before .before .before .before .loop) .inv) ((c .before .written) .ensures)) (search needs) put-commands-requires
+    (λ c. skips-at ((c .before .before .before .before .loop) .inv) ((c .before .bytes-between) .ensures))
+    (λ c. skips-at ((c .before .before .before .before .loop) .inv) ((c .before .bytes-between) .ensures)) (search needs) put-commands-requires
     (λ c. omega (arith, (c .before .before .before .before .before .before .before .if1) .taken)) loop-less loop-again idled-requires
     (λ c. part-length ((c .before .before .before .loop) .inv .writing .part))
     (λ c. skips-laid ((c .before .before .before .loop) .inv) ((c .before .if1) .left) (c .idled .ensures)))

@@ -18,19 +18,19 @@ use Rattle.placing.proofs.pieces.put_step.Tie as tie
 readied : (c : tie.After-readied) →
     let b = c .before .before .before in
     let a = b .before .before .before .args in
-    Part (stepBytes (a .n) (a .from) (a .d) (recordOf (a .r))) (skipBytes (c .readied .result .wait) ++ recordBytes (recordOf (a .r))) (a .out .now)
+    Part (stepBytes (a .rack) (a .from) (a .d) (recordOf (a .r))) (skipBytes (c .readied .result .wait) ++ recordBytes (recordOf (a .r))) (a .out .now)
     (b .put-before .last .1 .1 .1 .0) (b .put-before .result)
 readied c =
     let b = c .before .before .before in
     let s = b .before .before .before in
     let a = s .args in
-    piece-laid (a .from) (before (a .n) (a .from .tick) (a .d)) (recordOf (a .r)) (a .out .now) (s .pre .3) (b .put-before .ensures) (c .readied .ensures .after .wait)
+    piece-laid (a .from) (before (a .rack) (a .from .tick) (a .d)) (recordOf (a .r)) (a .out .now) (s .pre .3) (b .put-before .ensures) (c .readied .ensures .after .wait)
 
 -- and the ticks that wait then
 waited : (c : tie.After-put-skip) →
     let b = c .before .before .before .before .before in
     let a = b .before .before .before .args in
-    Part (stepBytes (a .n) (a .from) (a .d) (recordOf (a .r))) (recordBytes (recordOf (a .r))) (a .out .now)
+    Part (stepBytes (a .rack) (a .from) (a .d) (recordOf (a .r))) (recordBytes (recordOf (a .r))) (a .out .now)
     (back (b .put-before .last .1 .1 .1 .0) (b .put-before .result) (c .put-skip .last .0)) (b .put-before .result + c .put-skip .result)
 waited c = let e = c .before .before in wrote-next (skipBytes (e .readied .result .wait)) (readied e) (c .put-skip .ensures)
 
@@ -38,7 +38,7 @@ put-before-requires : tie.Need-put-before-requires
 put-before-requires c κs =
     let s = c .before .before in
     let a = s .args in
-    (s .pre .0, s .pre .1, s .pre .2, piece-fits (a .from) (before (a .n) (a .from .tick) (a .d)) (recordOf (a .r)) (a .out .now) (s .pre .3))
+    (s .pre .0, s .pre .1, s .pre .2, piece-fits (a .from) (before (a .rack) (a .from .tick) (a .d)) (recordOf (a .r)) (a .out .now) (s .pre .3))
 
 returns : tie.Need-returns
 returns c =

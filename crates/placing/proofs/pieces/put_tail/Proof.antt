@@ -24,16 +24,16 @@ claims = (put-skip-reads.Asked, put-skip-reads.Learnt, last-value-reads.Asked, l
 -- the SKIP is laid
 skipped : (c : lts.After-put-skip claims reads.Pre reads.Post) →
     let a = c .before .before .before .before .before .args in
-    Part (tailBytes (a .n) (a .s)) (recordBytes (actRec (beat (lastValue (a .n) (a .s .tick + a .s .left))))) (a .out .now) (c .put-skip .last .0) (c .put-skip .result)
+    Part (tailBytes (a .rack) (a .s)) (recordBytes (actRec (beat (lastValue (a .rack) (a .s .tick + a .s .«ticks_left»))))) (a .out .now) (c .put-skip .last .0) (c .put-skip .result)
 skipped c =
     let s = c .before .before .before .before .before in
-    part-first (skipBytes (s .args .s .wait + s .args .s .left)) (s .pre .2) (c .put-skip .ensures .laid) (c .put-skip .ensures .count)
+    part-first (skipBytes (s .args .s .wait + s .args .s .«ticks_left»)) (s .pre .2) (c .put-skip .ensures .laid) (c .put-skip .ensures .count)
 
 put-skip-requires : tie.Need-put-skip-requires
 put-skip-requires c κs =
     let s = c .before .before .before .before in
     let a = s .args in
-    omega (arith, s .pre .2, length-append (skipBytes (a .s .wait + a .s .left)) (recordBytes (actRec (beat (lastValue (a .n) (a .s .tick + a .s .left))))))
+    omega (arith, s .pre .2, length-append (skipBytes (a .s .wait + a .s .«ticks_left»)) (recordBytes (actRec (beat (lastValue (a .rack) (a .s .tick + a .s .«ticks_left»))))))
 
 returns : tie.Need-returns
 returns c = beat-laid (skipped (c .before .before .before .before .before .before .before)) (c .before .before .before .last-value .ensures) (c .before .before .put-bare .ensures)

@@ -9,7 +9,7 @@ use Rattle.reading.proofs.closings.closing_of.Statement.{statement}
 use Rattle.reading.proofs.closings.closing_of.Tie as tie
 
 -- from the test that the record opens a block on
-opener : (a : tie.Else3) → let g = a .before .before .before .before .before .before .before .before .before .args in Opener (g .s .now) (g .i) (g .to) (g .ends .now)
+opener : (a : tie.Else3) → let g = a .before .before .before .before .before .before .before .before .before .args in Opener (g .file .now) (g .i) (g .to) (g .ends .now)
 opener a =
     let w = a .before .before .before in
     let v = w .before .before in

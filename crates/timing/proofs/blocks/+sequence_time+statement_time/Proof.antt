@@ -30,7 +30,7 @@ use Rattle.timing.proofs.ticks.branch_time.Reads as branch-time-reads
 use Rattle.timing.proofs.ticks.loop_time.Reads as loop-time-reads
 use Rattle.timing.proofs.ticks.settings_in.Reads as settings-in-reads
 use Rattle.timing.proofs.ticks.step_ticks.Reads as step-ticks-reads
-use Rattle.timing.proofs.ticks.up_to.Reads as up-to-reads
+use Rattle.timing.proofs.ticks.within.Reads as within-reads
 use Rattle.timing.proofs.blocks.+sequence_time+statement_time.{statement}
 use Rattle.timing.proofs.blocks.+sequence_time+statement_time.Tie.{close}
 
@@ -71,8 +71,8 @@ statement-time-claims t = (
   opens-reads.Learnt,
   step-ticks-reads.Asked,
   step-ticks-reads.Learnt,
-  up-to-reads.Asked,
-  up-to-reads.Learnt,
+  within-reads.Asked,
+  within-reads.Learnt,
   sequence-time-below t,
   sequence-time.Post,
   loop-time-reads.Asked,
@@ -87,7 +87,7 @@ period e = ap (λ (σ : Settings). σ .period) e
 -- the next record closes no block
 goes-on : (t : ℕ) (c : sequence-time-lts.Else1 (sequence-time-claims t) (sequence-time-at t) sequence-time.Post sequence-time-Inv-loop sequence-time-μ-loop) →
     let a = c .before .before .before .before .before .before .before .args in
-    closesBlock (kindAt (a .s .now) (c .before .before .before .before .loop .next)) ≡ false
+    closesBlock (kindAt (a .file .now) (c .before .before .before .before .loop .next)) ≡ false
 goes-on t c = told closesBlock (c .before .before .kind-at .ensures) (c .before .closes .ensures) (c .if1 .left)
 
 sequence-time-returns : (t : ℕ) → sequence-time-lts.Need-returns (sequence-time-claims t) (sequence-time-at t) sequence-time.Post sequence-time-Inv-loop sequence-time-μ-loop
@@ -122,7 +122,7 @@ sequence-time-loop-again t c =
 -- the record opens a block
 open-there : (t : ℕ) (c : statement-time-lts.Else1 (statement-time-claims t) (statement-time-at t) statement-time.Post) →
     let a = c .before .before .before .before .before .args in
-    Opens (a .s .now) (a .i) (a .to) (c .before .before .record-at .result)
+    Opens (a .file .now) (a .i) (a .to) (c .before .before .record-at .result)
 open-there t c =
     record {
       early = c .before .before .before .before .before .pre .1 .1;
@@ -135,7 +135,7 @@ statement-time-returns t c =
     let k = c .before .before in
     let e = k .before .before .before .settings-in .ensures in
     plain-times _ _ (k .before .before .before .before .before .pre .1 .1) (k .before .before .record-at .ensures) (sym (k .before .opens .ensures) ∙ not-true _ (k .if1 .taken))
-    (c .before .step-ticks .ensures ∙ ap (λ (σ : Settings). stepTicks σ (recordOf (k .before .before .record-at .result))) e) (within (period e) (c .up-to .ensures))
+    (c .before .step-ticks .ensures ∙ ap (λ (σ : Settings). stepTicks σ (recordOf (k .before .before .record-at .result))) e) (within (period e) (c .within .ensures))
 
 statement-time-returns-4 : (t : ℕ) → statement-time-lts.Need-returns-4 (statement-time-claims t) (statement-time-at t) statement-time.Post
 statement-time-returns-4 t c =

@@ -13,13 +13,13 @@ returns-3 : tie.Need-returns-3
 returns-3 c = λ t u g h.
     let a = c .before .before .before .before .before .before in
     let b = c .before .before .before in
-    branch-both _ t u _ _ _ _ (subst (Gives _ t) (a .a .given .1) g) (subst (Gives _ u) (b .b .given .1) h) (omega arith) (c .up-to .ensures)
+    branch-both _ t u _ _ _ _ (subst (Gives _ t) (a .a .given .1) g) (subst (Gives _ u) (b .b .given .1) h) (omega arith) (c .within .ensures)
 
 returns-4 : tie.Need-returns-4
 returns-4 c = λ t u g h.
     let a = c .before .before .before .before .before .before in
     let b = c .before .before .before in
-    branch-both _ t u _ _ _ _ (subst (Gives _ t) (a .a .given .1) g) (subst (Gives _ u) (b .b .given .1) h) (omega arith) (c .up-to2 .ensures)
+    branch-both _ t u _ _ _ _ (subst (Gives _ t) (a .a .given .1) g) (subst (Gives _ u) (b .b .given .1) h) (omega arith) (c .within2 .ensures)
 
 pub branch-time-spec : {M : Type 1} → statement M
 branch-time-spec =

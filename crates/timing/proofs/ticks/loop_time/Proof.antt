@@ -15,16 +15,16 @@ returns c = λ o t g.
     let r = c .before .before .args .r in
     loop-over _ (r .kind) (r .count) t o (subst (Gives _ t) (c .enum-told .given .1) g)
 
-mul-up-to : tie.Need-mul-up-to
+mul-up-to : tie.Need-mul-within
 mul-up-to c = omega (arith, c .struct-known .given, mul-le-mul-left (c .before .before .before .before .before .args .r .count) (c .before .round-ticks .ensures .1))
 
-add-up-to : tie.Need-add-up-to
+add-up-to : tie.Need-add-within
 add-up-to c = omega (arith, c .struct-known .given, mul-le-mul-left (c .before .before .before .before .before .args .r .count) (c .before .round-ticks .ensures .1))
 
 returns-2 : tie.Need-returns-2
 returns-2 c = λ o t g.
     let r = c .before .before .before .before .before .before .args .r in
-    loop-all _ (r .kind) (r .count) t _ _ _ (subst (Gives _ t) (c .before .before .before .before .body .given .1) g) (c .before .before .round-ticks .ensures .0) (c .up-to .ensures)
+    loop-all _ (r .kind) (r .count) t _ _ _ (subst (Gives _ t) (c .before .before .before .before .body .given .1) g) (c .before .before .round-ticks .ensures .0) (c .within .ensures)
 
 pub loop-time-spec : {M : Type 1} → statement M
 loop-time-spec =
