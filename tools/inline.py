@@ -1,10 +1,10 @@
 #!/usr/bin/env python3
-# inline.py FILE..: in a Proof.antt, puts each need that one short line answers into the list of needs, where it was named before.
-# A need stays named where its answer takes several lines, is used twice, or would make a line longer than WIDTH.
+# inline.py FILE..: in a Proof.antt, puts each need that a short answer meets into the list of needs, where it was named before.
+# A need stays named where its answer is used twice or is longer than WIDTH. Run fill.py afterwards.
 import re
 import sys
 
-WIDTH = 120
+WIDTH = 150
 
 
 def chunks(text):
@@ -30,10 +30,12 @@ def is_signature(piece):
 
 
 def body(piece, name):
-    """The parameters and the answer of a clause that is one line."""
-    rest = [line for line in piece[1:] if line.strip()]
-    found = re.match(re.escape(name) + r"((?: [^\s=]+)+) = (.+)$", piece[0])
-    if rest or not found:
+    """The parameters and the answer of a clause, which may stand on several lines."""
+    lines = [line.strip() for line in piece if line.strip()]
+    if any(line.startswith(("where", "--", "unfolding")) or line.endswith(("(", "{", "where")) for line in lines):
+        return None
+    found = re.match(re.escape(name) + r"((?: [^\s=]+)+) = (.+)$", " ".join(lines))
+    if not found:
         return None
     return found.group(1).split(), found.group(2)
 
@@ -56,7 +58,7 @@ def run(path):
             continue
         words, answer = clause
         cycle = "(t : ℕ) →" in " ".join(pieces[i])
-        use = re.compile(r"(?m)^( +)" + (r"\(%s t\)" if cycle else r"%s") % re.escape(name) + r"(?=\)*$)")
+        use = re.compile((r"\(%s t\)" if cycle else r"(?<![\w\-·])%s(?![\w\-·])") % re.escape(name))
         rest = "\n".join("\n".join(p) for p in pieces[:i] + pieces[i + 2:])
         others = len(re.findall(r"(?<![\w\-·])" + re.escape(name) + r"(?![\w\-·])", rest))
         if cycle:
@@ -70,7 +72,7 @@ def run(path):
             continue
         del pieces[i:i + 2]
         whole = "\n".join("\n".join(p) for p in pieces)
-        pieces = chunks(use.sub(lambda m: m.group(1) + put, whole))
+        pieces = chunks(use.sub(lambda m: put, whole))
     new = "\n".join("\n".join(p) for p in pieces)
     if new != text:
         open(path, "w").write(new)

@@ -2,7 +2,7 @@
 use Prim.Native.Nat.{ℕ, _+_, _*_, _≤_, _<_}
 use native.Mathlib.Omega.{arith}
 use mathlib.Core.Path.{_≡_, refl, ap, ap₂, sym, subst, _∙_}
-use mathlib.Core.Bool.{Bool, true, false, _||_}
+use mathlib.Core.Bool.{Bool, true, false, _||_, or-true}
 use mathlib.Core.List.{List, [], _∷_}
 use lib.ListN.{length}
 use lib.Dec.{ltb}
@@ -37,10 +37,6 @@ use Rattle.reading.proofs.Standing.{stands-file}
 use Rattle.layout.proofs.Whole.{few-ifs, opened-total, total-is, size-is}
 
 -- ROWS
-
-or-true : (a : Bool) → (a || true) ≡ true
-or-true true = refl
-or-true false = refl
 
 -- a result of more records than a file can have finds no room anywhere
 above-all : (room n : ℕ) → 5461 < n → noRoom room n ≡ true

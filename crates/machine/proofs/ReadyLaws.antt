@@ -16,20 +16,17 @@ use Rattle.model.specs.Answers.{Verdict, refusal}
 use Rattle.model.specs.Replies.{reading, above, fileTime, readyRows}
 use Rattle.model.proofs.Sound.{sound-file}
 use Rattle.theory.proofs.Accepted.{in-range}
-use Rattle.records.specs.declared.settings.Decoded.{Decoded}
-use Rattle.records.specs.declared.settings.Decoded.the-variants.{Valid, Refused}
+use Rattle.reading.specs.declared.Checked.{Checked}
+use Rattle.reading.specs.declared.Checked.the-variants.{Valid, Refused}
 use Rattle.reading.specs.Answers.{Reads}
 use Rattle.reading.proofs.Filled.{fills-file}
-use Rattle.reading.proofs.Entry.{read-sound, read-settings}
+use Rattle.reading.proofs.Entry.{none, read-sound, read-settings}
 use Rattle.timing.specs.declared.ticks.Time.{Time}
 use Rattle.timing.specs.declared.ticks.Time.the-variants.{Ticks, OverPeriod}
 use Rattle.timing.specs.Times.{Gives}
 use Rattle.timing.specs.Blocks.{BlockTimes}
 use Rattle.timing.proofs.Given.{was-over, was-ticks}
 use Rattle.machine.specs.Calls.{Readies}
-
-none : {A : Type 0} (x : Refusal) (σ : Settings) → Refused x ≡ Valid σ → A
-none x σ e = let z : _≡_ {A = ℕ} 0 1 = cc in absurd (omega arith)
 
 module _ (s : List ℕ) (f : Form) (file : List ℕ) (bad : Bool) where
   abbrev rows : Verdict → Verdict
@@ -46,7 +43,7 @@ module _ (s : List ℕ) (f : Form) (file : List ℕ) (bad : Bool) where
   }
 
   -- rows 6 and 1 to 5
-  pub not-read : {r : Decoded} (x : Refusal) → r ≡ Refused x → Reads s f file r → Readies s f file bad r
+  pub not-read : {r : Checked} (x : Refusal) → r ≡ Refused x → Reads s f file r → Readies s f file bad r
   not-read x q R = subst (Readies s f file bad) (sym q) (refused x (λ next. subst (Reads s f file) q R .reply (rows next)))
 
   module _ (σ : Settings) (R : Reads s f file (Valid σ)) where

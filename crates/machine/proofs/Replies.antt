@@ -20,11 +20,11 @@ use Rattle.model.specs.Replies.{reading, Loan, badLengths, readyRows, ready, en
 use Rattle.model.specs.Replies.{stopRows, takenUp, takenBuffers, resumeReply, resumeBuffers, restartReply, restartBuffers}
 use Rattle.theory.proofs.Accepted.{neither}
 use Rattle.theory.proofs.Left.{rest-0}
-use Rattle.records.specs.declared.settings.Decoded.{Decoded}
-use Rattle.records.specs.declared.settings.Decoded.the-variants.{Valid, Refused}
-use Rattle.records.specs.Decoded.{decoded}
+use Rattle.reading.specs.declared.Checked.{Checked}
+use Rattle.reading.specs.declared.Checked.the-variants.{Valid, Refused}
+use Rattle.reading.specs.Answers.{checked}
 use Rattle.stepping.specs.declared.progress.Progress.{Progress}
-use Rattle.machine.specs.Calls.{Readies, Checked, steps, RunWhole, StopsSound, againRows, Resumes}
+use Rattle.machine.specs.Calls.{Readies, ReadyToRun, steps, RunWhole, StopsSound, againRows, Resumes}
 use Rattle.machine.proofs.Whole.{equal-of}
 
 -- a call is handed these over
@@ -39,7 +39,7 @@ module _ (s : List ℕ) (f : Form) (file v ins l m : List ℕ) where
   -- WHAT WAS READ
 
   module _ (cause : Bool) {bad : Bool} (h : Bad cause bad) where
-    replied : {r : Decoded} → Readies s f file bad r → (next : Verdict) → decoded r next ≡ ready c cause next
+    replied : {r : Checked} → Readies s f file bad r → (next : Verdict) → checked r next ≡ ready c cause next
     unfolding ready
     replied R next = R .reply next ∙ ap (λ (b : Bool). reading s f file (readyRows (settingsOf s) (fileTree file) b next)) h
 
@@ -47,7 +47,7 @@ module _ (s : List ℕ) (f : Form) (file v ins l m : List ℕ) where
       none-bad : (badLengths (length v) (length ins) (length l) (length m) ≡ false) × (cause ≡ false)
       none-bad = neither (badLengths (length v) (length ins) (length l) (length m)) cause (sym h ∙ R .good σ refl)
 
-      pub is-ready : Checked file σ v ins l m
+      pub is-ready : ReadyToRun file σ v ins l m
       is-ready = record { form = f; sound = R .sound σ refl; in-time = R .in-time σ refl; short = R .short σ refl; lengths = none-bad .0 }
 
       no-cause : cause ≡ false

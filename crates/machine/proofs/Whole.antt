@@ -31,7 +31,7 @@ use Rattle.stepping.specs.Machines.{Held, held, Machine, machine, does, runs}
 use Rattle.stepping.specs.Steps.{going, reached}
 use Rattle.machine.specs.Contracts.{at-end, Chain, along, Started, RecordsRan}
 use Rattle.stepping.specs.Buffers.{withVariables, withOutputs, Stored, StoredImage}
-use Rattle.machine.specs.Calls.{Checked, steps, RunWhole, StopsSound, againRows, Resumes}
+use Rattle.machine.specs.Calls.{ReadyToRun, steps, RunWhole, StopsSound, againRows, Resumes}
 use Rattle.machine.proofs.Files.{file-sound, file-size}
 use Rattle.machine.proofs.Doing.{heldAfter, does-upto}
 use Rattle.machine.proofs.Marks.{marks-bytes}
@@ -83,7 +83,7 @@ cleared-cells v = refl
 
 -- THE WHOLE FILE
 
-module _ {file : List ℕ} {σ : Settings} {v ins l m : List ℕ} (R : Checked file σ v ins l m) where
+module _ {file : List ℕ} {σ : Settings} {v ins l m : List ℕ} (R : ReadyToRun file σ v ins l m) where
   pub lent : Lengths (length v) (length ins) (length l) (length m)
   lent = good-lengths (length v) (length ins) (length l) (length m) (R .lengths)
 
@@ -185,7 +185,7 @@ module _ {file : List ℕ} {σ : Settings} {v ins l m : List ℕ} (R : Checked f
 -- RUN CLEARS THE OUTPUTS FIRST
 
 module _ {file : List ℕ} {σ : Settings} {v ins l₀ m₀ : List ℕ} where
-  pub cleared-ready : {l m : List ℕ} → Checked file σ v ins l m → l₀ ≡ replicate 8 0 → m₀ ≡ replicate 8 0 → Checked file σ v ins l₀ m₀
+  pub cleared-ready : {l m : List ℕ} → ReadyToRun file σ v ins l m → l₀ ≡ replicate 8 0 → m₀ ≡ replicate 8 0 → ReadyToRun file σ v ins l₀ m₀
   cleared-ready R e k = record {
     form = R .form;
     sound = R .sound;
@@ -201,7 +201,7 @@ module _ {file : List ℕ} {σ : Settings} {v ins l₀ m₀ : List ℕ} where
 
 -- FROM AN IMAGE ON
 
-module _ {file : List ℕ} {σ : Settings} {v ins l m : List ℕ} (R : Checked file σ v ins l m) (M : Image) where
+module _ {file : List ℕ} {σ : Settings} {v ins l m : List ℕ} (R : ReadyToRun file σ v ins l m) (M : Image) where
   abbrev leaving : Image → Buffers
   leaving x = kept (againRows file σ ins x) (leave (takeUp σ ins (fileTree file) x) (buffersOf (x .variables) l m)) (buffersOf v l m)
 
@@ -312,7 +312,7 @@ image-is w image e = rw e
 pub index-small : (w image : List ℕ) → w ≡ wordsFrom image 0 18 → Bytes image → getD w 0 0 < 4294967296
 index-small w image e h = rw e (omega (arith, h 0, h 1, h 2, h 3))
 
-module _ {file : List ℕ} {σ : Settings} {v ins l m : List ℕ} (R : Checked file σ v ins l m) (w : List ℕ) where
+module _ {file : List ℕ} {σ : Settings} {v ins l m : List ℕ} (R : ReadyToRun file σ v ins l m) (w : List ℕ) where
   module _ {o : Bool} (s : o ≡ afterSave file (getD w 0 0)) where
     pub words-stray : {image : List ℕ} → w ≡ wordsFrom image 0 18 → not o ≡ true → Resumes file σ ins v l m image v l m (Ran.Refused Refusal.BadImage)
     words-stray {image} e n = resume-stray R (imageFrom w) (image-is w image e) (rw (sym s ∙ not-true o n))

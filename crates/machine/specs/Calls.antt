@@ -16,15 +16,15 @@ use Rattle.model.specs.Runs.{Step, duration, overran, leave, cleared, run}
 use Rattle.model.specs.Stopping.{upto, Image, imageOf, takeUp}
 use Rattle.model.specs.Answers.{Verdict, stopped, ran, kept}
 use Rattle.model.specs.Replies.{reading, badLengths, readyRows, buffersOf, savedAt, stopRows, imageOver, resumeRows}
-use Rattle.records.specs.declared.settings.Decoded.{Decoded}
-use Rattle.records.specs.declared.settings.Decoded.the-variants.{Valid}
-use Rattle.records.specs.Decoded.{decoded}
+use Rattle.reading.specs.declared.Checked.{Checked}
+use Rattle.reading.specs.declared.Checked.the-variants.{Valid}
+use Rattle.reading.specs.Answers.{checked}
 use Rattle.reading.specs.Ranges.{SoundFile}
 use Rattle.stepping.specs.declared.progress.Progress.{Progress}
 
 -- rows 6, 1 to 5, 8 and 10, and the settings where none refuses
-pub record Readies (s : List ℕ) (f : Form) (file : List ℕ) (bad : Bool) (r : Decoded) : Type 0 where
-  pub reply : (next : Verdict) → decoded r next ≡ reading s f file (readyRows (settingsOf s) (fileTree file) bad next)
+pub record Readies (s : List ℕ) (f : Form) (file : List ℕ) (bad : Bool) (r : Checked) : Type 0 where
+  pub reply : (next : Verdict) → checked r next ≡ reading s f file (readyRows (settingsOf s) (fileTree file) bad next)
   pub settings : (σ : Settings) → r ≡ Valid σ → σ ≡ settingsOf s
   pub sound : (σ : Settings) → r ≡ Valid σ → SoundFile f file
   pub in-time : (σ : Settings) → r ≡ Valid σ → time σ (fileTree file) ≤ σ .period
@@ -32,7 +32,7 @@ pub record Readies (s : List ℕ) (f : Form) (file : List ℕ) (bad : Bool) (r :
   pub good : (σ : Settings) → r ≡ Valid σ → bad ≡ false
 
 -- a file and settings that were read, and buffers of the table's lengths
-pub record Checked (file : List ℕ) (σ : Settings) (v ins l m : List ℕ) : Type 0 where
+pub record ReadyToRun (file : List ℕ) (σ : Settings) (v ins l m : List ℕ) : Type 0 where
   pub form : Form
   pub sound : SoundFile form file
   pub in-time : time σ (fileTree file) ≤ σ .period

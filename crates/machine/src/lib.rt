@@ -8,7 +8,7 @@ ghost use lib.ListN.{length, replicate};
 ghost use Rattle.model.specs.Limits.{imageLength, portCount};
 ghost use Rattle.model.specs.Answers.{ran, stopped};
 ghost use Rattle.model.specs.Replies.{runReply, runBuffers, stopReply, stopBuffers, stopImage, resumeReply, resumeBuffers, restartReply, restartBuffers, buffersOf, loan};
-ghost use Rattle.machine.specs.Calls.{Checked, RunWhole, StopsSound, Resumes};
+ghost use Rattle.machine.specs.Calls.{ReadyToRun, RunWhole, StopsSound, Resumes};
 use model::Form;
 use model::Ran;
 use model::Refusal;
@@ -16,9 +16,9 @@ use model::Settings;
 use model::Stopped;
 use model::limits::IMAGE_LENGTH;
 use model::limits::PORTS;
+use reading::Checked;
 use ready::bad_buffers;
 use ready::ready;
-use records::settings::Decoded;
 use records::words::copy;
 use stepping::buffers::load_outputs;
 use stepping::buffers::load_variables;
@@ -50,7 +50,7 @@ fn run_whole(
     levels: &mut [u32],
     marks: &mut [u8],
 ) -> Progress
-    requires { ⌜ Checked (now file) n (now variables) (now inputs) (now levels) (now marks) ⌝ }
+    requires { ⌜ ReadyToRun (now file) n (now variables) (now inputs) (now levels) (now marks) ⌝ }
     ensures { λ e. ⌜ RunWhole (now (file .entry)) n (now (inputs .entry)) (now (variables .entry)) (now (levels .entry)) (now (marks .entry))
         (now (variables .exit)) (now (levels .exit)) (now (marks .exit)) e ⌝ }
 {
@@ -84,8 +84,8 @@ pub fn run(
     );
     let r = ready(settings, form, file, bad);
     match r {
-        Decoded::Refused(x) => Ran::Refused(x),
-        Decoded::Valid(n) => {
+        Checked::Refused(x) => Ran::Refused(x),
+        Checked::Valid(n) => {
             clear(levels, marks);
             let end = run_whole(file, n, variables, inputs, levels, marks);
             Ran::Ended {
@@ -107,7 +107,7 @@ fn run_until_ready(
     image: &mut [u8],
     stop: u32,
 ) -> Stopped
-    requires { ⌜ (Checked (now file) n (now variables) (now inputs) (now levels) (now marks)) × (length (now image) ≡ imageLength) ⌝ }
+    requires { ⌜ (ReadyToRun (now file) n (now variables) (now inputs) (now levels) (now marks)) × (length (now image) ≡ imageLength) ⌝ }
     ensures { λ r. ⌜ StopsSound (now (file .entry)) n (now (inputs .entry)) stop (now (variables .entry)) (now (levels .entry)) (now (marks .entry)) (now (image .entry))
         (now (variables .exit)) (now (levels .exit)) (now (marks .exit)) (now (image .exit)) r ⌝ }
 {
@@ -148,8 +148,8 @@ pub fn run_until(
     );
     let r = ready(settings, form, file, bad);
     match r {
-        Decoded::Refused(x) => Stopped::Refused(x),
-        Decoded::Valid(n) => {
+        Checked::Refused(x) => Stopped::Refused(x),
+        Checked::Valid(n) => {
             run_until_ready(file, n, variables, inputs, levels, marks, image, stop)
         }
     }
@@ -165,7 +165,7 @@ fn resume_ready(
     marks: &mut [u8],
     image: &[u8],
 ) -> Ran
-    requires { ⌜ (Checked (now file) n (now variables) (now inputs) (now levels) (now marks)) × (length (now image) ≡ imageLength) ⌝ }
+    requires { ⌜ (ReadyToRun (now file) n (now variables) (now inputs) (now levels) (now marks)) × (length (now image) ≡ imageLength) ⌝ }
     ensures { λ r. ⌜ Resumes (now (file .entry)) n (now (inputs .entry)) (now (variables .entry)) (now (levels .entry)) (now (marks .entry)) (now (image .entry))
         (now (variables .exit)) (now (levels .exit)) (now (marks .exit)) r ⌝ }
 {
@@ -215,8 +215,8 @@ pub fn resume(
     );
     let r = ready(settings, form, file, bad);
     match r {
-        Decoded::Refused(x) => Ran::Refused(x),
-        Decoded::Valid(n) => resume_ready(file, n, variables, inputs, levels, marks, image),
+        Checked::Refused(x) => Ran::Refused(x),
+        Checked::Valid(n) => resume_ready(file, n, variables, inputs, levels, marks, image),
     }
 }
 
@@ -242,8 +242,8 @@ pub fn restart(
     );
     let r = ready(settings, form, file, bad);
     match r {
-        Decoded::Refused(x) => Ran::Refused(x),
-        Decoded::Valid(n) => {
+        Checked::Refused(x) => Ran::Refused(x),
+        Checked::Valid(n) => {
             let e = run_whole(file, n, variables, inputs, levels, marks);
             Ran::Ended {
                 tick: e.tick,

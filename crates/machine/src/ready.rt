@@ -8,7 +8,7 @@ use model::Refusal;
 use model::limits::FILE_DEPTH;
 use model::limits::PORTS;
 use model::limits::VARIABLES;
-use records::settings::Decoded;
+use reading::Checked;
 use timing::blocks::block_time;
 use timing::ticks::Time;
 
@@ -26,19 +26,19 @@ pub fn bad_buffers(
 }
 
 // The settings, or the first refusal of the rows. bad is row 10's cause.
-pub fn ready(settings: &[u8], form: Form, file: &[u8], bad: bool) -> Decoded
+pub fn ready(settings: &[u8], form: Form, file: &[u8], bad: bool) -> Checked
     ensures { λ r. ⌜ Readies (now (settings .entry)) form (now (file .entry)) bad r ⌝ }
 {
     let read = reading::read(settings, form, file);
-    let Decoded::Valid(n) = read else {
+    let Checked::Valid(n) = read else {
         return read;
     };
     let time = block_time(file, 0, file.len() / 12, FILE_DEPTH, n);
     let Time::Ticks(_) = time else {
-        return Decoded::Refused(Refusal::OverPeriod);
+        return Checked::Refused(Refusal::OverPeriod);
     };
     if bad {
-        return Decoded::Refused(Refusal::BadBuffers);
+        return Checked::Refused(Refusal::BadBuffers);
     }
-    Decoded::Valid(n)
+    Checked::Valid(n)
 }

@@ -10,7 +10,7 @@ use Rattle.model.specs.Records.{wordAt, wordBytes}
 use Rattle.model.specs.Stopping.{Image, words, wordsFrom, imageBytes, imageOf}
 use Rattle.model.proofs.Bytes.{word-back}
 
-length-words : (ns : List ℕ) → length (words ns) ≡ 4 * length ns
+pub length-words : (ns : List ℕ) → length (words ns) ≡ 4 * length ns
 length-words [] = refl
 length-words (n ∷ ns) = omega (arith, length-words ns)
 

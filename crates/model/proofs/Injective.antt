@@ -52,7 +52,7 @@ turned-back done turned Refusal.BadBuffers = refl
 turned-back done turned Refusal.BadImage = refl
 turned-back done turned Refusal.LateStop = refl
 
-bit-back : (b : Bool) → eqb (bit b) 1 ≡ b
+pub bit-back : (b : Bool) → eqb (bit b) 1 ≡ b
 bit-back true = refl
 bit-back false = refl
 

@@ -20,7 +20,8 @@ use Rattle.reading.specs.declared.scan.Scanned.the-variants.{Sound}
 use Rattle.reading.specs.Scanning.{scanned, Scans}
 use Rattle.reading.specs.Answers.{Reads}
 
-none : {A : Type 0} (x : Refusal) (σ : Settings) → Refused x ≡ Valid σ → A
+-- what is refused was not read
+pub none : {A : Type 0} (x : Refusal) (σ : Settings) → Refused x ≡ Valid σ → A
 none x σ e = let z : _≡_ {A = ℕ} 0 1 = cc in absurd (omega arith)
 
 module _ (s : List ℕ) (f : Form) (file : List ℕ) where

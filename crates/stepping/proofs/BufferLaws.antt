@@ -9,6 +9,7 @@ use lib.ListN.{length, getD, take, drop, set, length-append, drop-of-length-le}
 use lib.Seq.{drop-cons, take-at, drop-at, drop-drop, length-take-le}
 use Rattle.model.specs.Records.{wordAt, wordBytes, over}
 use Rattle.model.specs.Stopping.{words, wordsFrom}
+use Rattle.model.proofs.Images.{length-words}
 use Rattle.records.proofs.Over.{Part, part-start, part-put, part-lent, part-end, part-length, lent, back}
 use Rattle.stepping.specs.Machines.{held, imageIn}
 use Rattle.stepping.specs.Buffers.{withVariables, withOutputs}
@@ -49,10 +50,6 @@ loaded-end {s} {old} {new} {i} p h =
     whole (length-from s 0 (length old)) (subst (λ (m : ℕ). Part (wordsFrom s 0 (length old)) (wordsFrom s (4 * i) m) old new i) n (p .part))
 
 -- NUMBERS WRITTEN
-
-length-words : (ns : List ℕ) → length (words ns) ≡ 4 * length ns
-length-words [] = refl
-length-words (n ∷ ns) = omega (arith, length-words ns)
 
 -- the bytes of the first i numbers are written
 pub record Written (from old new : List ℕ) (i : ℕ) : Type 0 where

@@ -4,7 +4,6 @@ use native.Mathlib.Omega.{arith}
 use mathlib.Core.Path.{_≡_, refl, ap, ap₂, sym, _∙_, subst}
 use mathlib.Core.Bool.{Bool, true, false, cond}
 use mathlib.Core.List.{List, _∷_, _++_}
-use lib.Dec.{eqb}
 use lib.ListN.{length, replicate}
 use Rattle.model.specs.declared.Form.the-variants.{Laid}
 use Rattle.model.specs.Settings.{settingsOf}
@@ -16,6 +15,7 @@ use Rattle.model.specs.Replies.{savedAt, Loan, badBuffers, ended, isSaved, imag
 use Rattle.model.specs.Placement.{Fits, Placed, StepsPlaced}
 use Rattle.model.specs.Chain.{Outputs, lend, hasImage, takingUp, takenUpBuffers, takenUpSteps, imageTick, End, endOf, takenUpEnd}
 use Rattle.model.proofs.Images.{image-length, image-back}
+use Rattle.model.proofs.Injective.{bit-back}
 use Rattle.theory.proofs.Within.{run-within}
 use Rattle.theory.proofs.Placing.{placed-loop-free, placed-run}
 use Rattle.theory.proofs.Twice.{savedTick, few-twice}
@@ -42,10 +42,6 @@ pub record EndsAs (c : Loan) (image spare : List ℕ) (stop : ℕ) (es : List St
 start-tick : (v : List ℕ) (y : Saved) → orStart v y .tick ≡ savedTick y
 start-tick v none = refl
 start-tick v (saved m) = refl
-
-bit-back : (x : Bool) → eqb (bit x) 1 ≡ x
-bit-back true = refl
-bit-back false = refl
 
 module _ (s : List ℕ) (b : Block) (r : Runnable s Laid (fileOf b) b) (fits : Fits (settingsOf s)) (placed : Placed (settingsOf s) b 0)
     (ins v : List ℕ) (o : Outputs) (l : LentLengths ins v o)
