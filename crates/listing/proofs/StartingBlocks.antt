@@ -9,6 +9,7 @@ use lib.Seq.{sets, length-sets}
 use Rattle.model.specs.declared.Form.the-variants.{Laid}
 use Rattle.model.specs.declared.Settings.{Settings}
 use Rattle.model.specs.Records.{Rec, kindAt, recordAt, IF}
+use Rattle.model.specs.Limits.{mostTicks}
 use Rattle.model.specs.Trees.{Block, nil, skip, act, branch, while, times, size}
 use Rattle.model.specs.Times.{time}
 use Rattle.model.specs.Listing.{startTicks}
@@ -57,7 +58,7 @@ module _ {s : List ℕ} {i to : ℕ} {σ : Settings} {t : ℕ} {out : List ℕ} 
     takes : d ≡ firstTime σ (block (S .here))
     takes = l ∙ ap (stepTicks σ) h ∙ is-plain .lasts
 
-    pub step-early : t + d ≤ 1000000
+    pub step-early : t + d ≤ mostTicks
     step-early = omega (arith, takes, time-first σ (block (S .here)), S .early)
 
     pub step-started : StatementStarted s i to σ t out (setAt out i t) (place (t + d) (i + 1))

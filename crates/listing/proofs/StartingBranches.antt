@@ -8,6 +8,7 @@ use lib.Seq.{sets, length-sets}
 use Rattle.model.specs.declared.Form.the-variants.{Laid}
 use Rattle.model.specs.declared.Settings.{Settings}
 use Rattle.model.specs.Records.{kindAt, recordAt, IF}
+use Rattle.model.specs.Limits.{mostTicks}
 use Rattle.model.specs.Trees.{Block, branch, size}
 use Rattle.model.specs.Times.{time}
 use Rattle.model.specs.Listing.{startTicks}
@@ -32,7 +33,7 @@ module _ {s : List ℕ} {i to : ℕ} {σ : Settings} {t : ℕ} {out : List ℕ} 
   sides = if-at (S .here) k
 
   -- both sides end in time
-  pub sides-early : t + 1 + max (time σ one) (time σ two) ≤ 1000000
+  pub sides-early : t + 1 + max (time σ one) (time σ two) ≤ mostTicks
   sides-early = omega (arith, ap (time σ) (sides .is), S .early)
 
   pub one-entered : Entered s (i + 1) to σ (t + 1) (setAt out i t)

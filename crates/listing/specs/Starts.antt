@@ -6,6 +6,7 @@ use lib.ListN.{length}
 use lib.Seq.{sets}
 use Rattle.model.specs.declared.Form.the-variants.{Laid}
 use Rattle.model.specs.declared.Settings.{Settings}
+use Rattle.model.specs.Limits.{mostTicks}
 use Rattle.model.specs.Trees.{Block, nil, skip, act, branch, while, times, size}
 use Rattle.model.specs.Times.{time}
 use Rattle.model.specs.Listing.{startTicks}
@@ -33,13 +34,13 @@ pub record Stored (ts : List ℕ) (d m i t : ℕ) (old new : List ℕ) (r : Plac
 pub record Entered (s : List ℕ) (i to : ℕ) (σ : Settings) (t : ℕ) (out : List ℕ) : Type 0 where
   pub file : InFile Laid s i to
   pub room : to ≤ length out
-  pub early : t + time σ (file .block) ≤ 1000000
+  pub early : t + time σ (file .block) ≤ mostTicks
 
 -- its first statement does
 pub record Statement (s : List ℕ) (i to : ℕ) (σ : Settings) (t : ℕ) (out : List ℕ) : Type 0 where
   pub here : StatementAt Laid s i to
   pub room : to ≤ length out
-  pub early : t + time σ (here .file .block) ≤ 1000000
+  pub early : t + time σ (here .file .block) ≤ mostTicks
 
 pub record BlockStarted (s : List ℕ) (i to : ℕ) (σ : Settings) (t : ℕ) (old new : List ℕ) (r : Place) : Type 0 where
   pub right : (b : Block) → Stands Laid s i to b → Stored (startTicks σ b t) (time σ b) (size b) i t old new r

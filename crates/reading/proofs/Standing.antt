@@ -1,24 +1,23 @@
--- The blocks of a file by where they start: there is one at each place, and its first statement shows by its kind.
+-- The blocks of a file by where they start: there is one at each place, and the blocks inside a statement stand behind its record.
 use Prim.Native.Nat.{ℕ, _+_, _-_, _/_, _≤_, _<_}
 use native.Mathlib.Omega.{arith}
-use native.Mathlib.Nat.{lt-of-not-le}
 use mathlib.Core.Path.{_≡_, refl, ap, sym, subst, _∙_}
-use mathlib.Core.Bool.{Bool, true, false, true≢false}
+use mathlib.Core.Bool.{Bool, true, false}
 use mathlib.Core.List.{List}
 use lib.Dec.{ltb}
 use lib.ListN.{length}
 use borrow.Author.Tests.{ltb-true, ltb-false}
 use Rattle.model.specs.declared.Form.{Form}
-use Rattle.model.specs.Records.{Rec, kindAt, recordAt, SKIP, IF, TIMES}
-use Rattle.model.specs.Trees.{Test, Block, nil, skip, act, branch, while, times, size, depth, fileTree}
+use Rattle.model.specs.Records.{Rec, kindAt, recordAt}
+use Rattle.model.specs.Trees.{Test, Block, nil, skip, act, branch, while, times, size, fileTree}
 use Rattle.model.proofs.Stands.{At, LoopAt, stands-once as one-stands}
 use Rattle.model.proofs.Sound.{OfForm, sound-file}
 use Rattle.reading.specs.Closing.{opensBlock, closesBlock, closingIn}
 use Rattle.reading.specs.Walks.{OpenAt}
-use Rattle.reading.specs.Ranges.{SoundFile, Stands, firstSize, firstPart, secondPart, afterFirst, testOf}
+use Rattle.reading.specs.Ranges.{SoundFile, Stands}
 use Rattle.reading.proofs.BlockEnds.{found, ends-block, ran-out}
-use Rattle.reading.proofs.FirstKinds.{act-opens, shut, skip-is, if-is, times-is}
-use Rattle.reading.proofs.Filled.{fills-after, fills-none, first-some}
+use Rattle.reading.proofs.FirstKinds.{kind-is, act-opens, shut}
+use Rattle.reading.proofs.Filled.{fills-none}
 
 -- the tree of a sound file
 pub stands-file : (f : Form) (s : List ℕ) → SoundFile f s → Stands f s 0 (length s / 12) (fileTree s)
@@ -31,8 +30,8 @@ stands-file f s S =
     }
 
 -- a record that closes a block shows by its kind
-pub closes : (s : List ℕ) (i : ℕ) {r : Rec} → recordAt s i ≡ r → closesBlock (r .kind) ≡ true → closesBlock (kindAt s i) ≡ true
-closes s i e h = ap (λ (r : Rec). closesBlock (r .kind)) e ∙ h
+closes : (s : List ℕ) (i : ℕ) {r : Rec} → recordAt s i ≡ r → closesBlock (r .kind) ≡ true → closesBlock (kindAt s i) ≡ true
+closes s i e h = ap closesBlock (kind-is s i e) ∙ h
 
 closes-at : (s : List ℕ) (i j : ℕ) → i ≡ j → closesBlock (kindAt s i) ≡ true → closesBlock (kindAt s j) ≡ true
 closes-at s i j e h = subst (λ (k : ℕ). closesBlock (kindAt s k) ≡ true) e h
@@ -40,9 +39,6 @@ closes-at s i j e h = subst (λ (k : ℕ). closesBlock (kindAt s k) ≡ true) e 
 -- what a test of a record's kind says of the record at an index
 pub told : (p : ℕ → Bool) {k m : ℕ} {o b : Bool} → k ≡ m → o ≡ p k → o ≡ b → p m ≡ b
 told p e f g = ap p (sym e) ∙ sym f ∙ g
-
-pub closing-told : {k m : ℕ} {o b : Bool} → k ≡ m → o ≡ closesBlock k → o ≡ b → closesBlock m ≡ b
-closing-told e f g = told closesBlock e f g
 
 -- a block that is at i, and ends where one is closed or with the records
 pub standing-at : {f : Form} {s : List ℕ} {i to : ℕ} (b : Block) → At s i b → OfForm f b → i + size b ≤ to
@@ -101,58 +97,3 @@ module _ {f : Form} {s : List ℕ} {i to : ℕ} where
   stands-open (times q n a b) B h o =
       let F = B .fills in
       record { first = stands-body a (F .stands .0) (F .stands .1) (F .of-form .1) (omega (arith, B .ends)); ends = omega (arith, B .ends); deeper = omega arith }
-
-  -- what Walking says of a statement, for crates that do not walk with it yet
-  module _ (b : Block) (B : Stands f s i to b) (l : i < to) (k : closesBlock (kindAt s i) ≡ false) where
-    not-empty : size b ≤ 0 → ⊥
-    not-empty h =
-        let e : i + size b ≡ i = omega arith in
-        true≢false (sym (closes-at s (i + size b) i e (B .stops (omega arith))) ∙ k)
-
-    begun : i < i + size b
-    begun = omega (arith, lt-of-not-le not-empty)
-
-    -- a statement has a record, and the block after it stands behind
-    pub stands-some : 1 ≤ firstSize b
-    stands-some = first-some b (B .fills) begun
-
-    pub stands-after : Stands f s (i + firstSize b) to (afterFirst b)
-    stands-after =
-        let F = fills-after f s i (i + size b) (depth b) b begun (B .fills) in
-        standing-at (afterFirst b) (F .stands) (F .of-form) (omega (arith, F .ends))
-        (λ h. closes-at s (i + size b) (i + firstSize b + size (afterFirst b)) (sym (F .ends)) (B .stops (omega (arith, F .ends))))
-
-    -- BY THE KIND OF ITS RECORD
-
-    pub skip-at : kindAt s i ≡ SKIP → b ≡ skip (recordAt s i .count) (afterFirst b)
-    skip-at e = skip-is begun b (B .fills) e
-
-    module _ (e : kindAt s i ≡ IF) where
-      pub if-at : b ≡ branch (testOf (recordAt s i)) (firstPart b) (secondPart b) (afterFirst b)
-      if-at = if-is begun b (B .fills) e
-
-      the-if : Stands f s i to (branch (testOf (recordAt s i)) (firstPart b) (secondPart b) (afterFirst b))
-      the-if = subst (Stands f s i to) if-at B
-
-      pub first-side : Stands f s (i + 1) to (firstPart b)
-      first-side = stands-one (testOf (recordAt s i)) (firstPart b) (secondPart b) (afterFirst b) the-if
-
-      pub second-side : Stands f s (i + 1 + size (firstPart b) + 1) to (secondPart b)
-      second-side =
-          let e : i + 2 + size (firstPart b) ≡ i + 1 + size (firstPart b) + 1 = omega arith in
-          subst (λ (j : ℕ). Stands f s j to (secondPart b)) e (stands-two (testOf (recordAt s i)) (firstPart b) (secondPart b) (afterFirst b) the-if)
-
-      -- both closings are in the file
-      pub sides-end : i + 1 + size (firstPart b) + 1 + size (secondPart b) < to
-      sides-end = omega (arith, the-if .ends)
-
-    pub times-at : kindAt s i ≡ TIMES → b ≡ times (testOf (recordAt s i)) (recordAt s i .count) (firstPart b) (afterFirst b)
-    times-at e = times-is begun b (B .fills) e
-
-    -- a loop's body stands behind its record, and its END is in the file
-    module _ (o : opensBlock (kindAt s i) ≡ true) (x : kindAt s i ≡ IF → ⊥) where
-      pub body-stands : Stands f s (i + 1) to (firstPart b)
-      body-stands = stands-open b B begun o .first
-
-      pub body-ends : i + 1 + size (firstPart b) < to
-      body-ends = stands-open b B begun o .ends

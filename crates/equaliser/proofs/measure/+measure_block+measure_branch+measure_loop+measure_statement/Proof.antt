@@ -8,7 +8,7 @@ use borrow.Author.Tests.{not-true, not-false}
 use Rattle.model.specs.Records.{Rec, kindAt}
 use Rattle.records.proofs.Blocks.{one-skip}
 use Rattle.reading.specs.Closing.{opensBlock, closesBlock}
-use Rattle.reading.proofs.Standing.{closing-told}
+use Rattle.reading.proofs.Standing.{told}
 use Rattle.equaliser.proofs.StatementSizes.{plain-size, first-asks, first-late, first-on, first-early, first-small, first-long, loop-size}
 use Rattle.equaliser.proofs.StatementSizes.{second-asks, second-late, second-early, second-small, second-long, branch-size}
 use Rattle.equaliser.proofs.Measured.{Measured, measured-start, measured-few, measured-all, measured-closed, measured-asks, measured-over, measured-past, measured-on, measured-next}
@@ -132,7 +132,7 @@ measure-statement-claims t = (
 -- the next record closes no block
 going : (t : ℕ) (c : measure-block-lts.Else1 (measure-block-claims t) (measure-block-at t) measure-block.Post measure-block-Inv-loop measure-block-μ-loop) →
     closesBlock (kindAt (c .before .before .before .before .before .before .args .file .now) (c .before .before .before .before .loop .next)) ≡ false
-going t c = closing-told (c .before .before .kind-at .ensures) (c .before .closes .ensures) (c .if1 .left)
+going t c = told closesBlock (c .before .before .kind-at .ensures) (c .before .closes .ensures) (c .if1 .left)
 
 measure-block-loop-holds : (t : ℕ) → measure-block-lts.Need-loop-holds (measure-block-claims t) (measure-block-at t) measure-block.Post measure-block-Inv-loop measure-block-μ-loop
 measure-block-loop-holds t c =
@@ -183,7 +183,7 @@ measure-block-loop-less t c =
     )
 
 measure-block-returns-4 : (t : ℕ) → measure-block-lts.Need-returns-4 (measure-block-claims t) (measure-block-at t) measure-block.Post measure-block-Inv-loop measure-block-μ-loop
-measure-block-returns-4 t c = measured-closed (c .before .before .before .before .loop .inv) (closing-told (c .before .before .kind-at .ensures) (c .before .closes .ensures) (c .if1 .taken))
+measure-block-returns-4 t c = measured-closed (c .before .before .before .before .loop .inv) (told closesBlock (c .before .before .kind-at .ensures) (c .before .closes .ensures) (c .if1 .taken))
 
 measure-branch-measure-block-requires : (t : ℕ) → measure-branch-lts.Need-measure-block-requires (measure-branch-claims t) (measure-branch-at t) measure-branch.Post
 measure-branch-measure-block-requires t c κs =

@@ -9,7 +9,7 @@ use borrow.Author.Needs.{needs}
 use Rattle.model.specs.Records.{Rec, kindAt}
 use Rattle.records.proofs.Over.{back, part-at, part-room, part-length}
 use Rattle.reading.specs.Closing.{opensBlock, closesBlock}
-use Rattle.reading.proofs.Standing.{closing-told}
+use Rattle.reading.proofs.Standing.{told}
 use Rattle.equaliser.specs.Written.{BlockFits, StatementFits}
 use Rattle.equaliser.proofs.WrittenLoops.{HeadLaid, BodyLaid, head-fits, head-laid, body-fits, body-laid, body-early, tail-fits, tail-room, tail-laid}
 use Rattle.equaliser.proofs.WrittenBranches.{TestLaid, FirstLaid, ElseLaid, SecondLaid, test-fits, test-laid, first-fits, first-laid, else-fits, else-laid}
@@ -125,7 +125,7 @@ write-statement-claims t = (
 -- the next record closes no block
 going : (t : ℕ) (c : write-block-lts.Else1 (write-block-claims t) (write-block-at t) write-block.Post write-block-Inv-loop write-block-μ-loop) →
     closesBlock (kindAt (c .before .before .before .before .before .before .before .args .file .now) (c .before .before .before .before .loop .next)) ≡ false
-going t c = closing-told (c .before .before .kind-at .ensures) (c .before .closes .ensures) (c .if1 .left)
+going t c = told closesBlock (c .before .before .kind-at .ensures) (c .before .closes .ensures) (c .if1 .left)
 
 write-block-sub-write-statement : (t : ℕ) → write-block-lts.Need-sub-write-statement (write-block-claims t) (write-block-at t) write-block.Post write-block-Inv-loop write-block-μ-loop
 write-block-sub-write-statement t c = part-at (c .before .before .before .before .loop .inv (c .before .before .before .before .before .before .before .pre .1) .part)
@@ -165,7 +165,7 @@ stopped : (t : ℕ) (c : write-block-lts.Left-loop (write-block-claims t) (write
     let at-loop = c .before in
     let start = at-loop .before .before .before in
     (start .args .to ≤ at-loop .loop .next) ⊎ (closesBlock (kindAt (start .args .file .now) (at-loop .loop .next)) ≡ true)
-stopped t c = ⊎-elim (λ h. inl (h .left)) (λ h. inr (closing-told (h .1 .ensures) (h .2 .ensures) (h .3 .taken))) (c .loop-test .came)
+stopped t c = ⊎-elim (λ h. inl (h .left)) (λ h. inr (told closesBlock (h .1 .ensures) (h .2 .ensures) (h .3 .taken))) (c .loop-test .came)
 
 write-block-add-at : (t : ℕ) → write-block-lts.Need-add-at (write-block-claims t) (write-block-at t) write-block.Post write-block-Inv-loop write-block-μ-loop
 write-block-add-at t c =
