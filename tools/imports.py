@@ -1,8 +1,10 @@
 #!/usr/bin/env python3
-# imports.py FILE..: takes out of a file's `use` lines the names that nothing in it uses.
+# imports.py FILE..: takes out of a file's `use` lines the names that nothing in it uses; in proofs, joins lines that bring few names.
 import re
 import sys
 
+WIDTH = 140
+FEW = 2
 WORD = r"[^\s(){}\[\],;.\"λ]"
 
 
@@ -15,6 +17,41 @@ def uses(name, rest):
         if not re.search(r"(?<!%s)%s(?!%s)" % (WORD, re.escape(part), WORD), rest):
             return False
     return True
+
+
+def grouped(text):
+    """Modules that stand side by side and bring one or two names each are joined: use A.{B.x, C.y}."""
+    lines = text.split("\n")
+    groups, out = {}, []
+    for line in lines:
+        m = re.match(r"use (\S+)\.([^\s.{]+)\.\{([^}]*)\}$", line)
+        names = [n.strip() for n in m.group(3).split(",")] if m else []
+        if not m or len(names) > FEW or "." in m.group(3):
+            out.append(line)
+            continue
+        key = m.group(1)
+        if key not in groups:
+            groups[key] = []
+            out.append(("group", key))
+        groups[key] += [(line, ["%s.%s" % (m.group(2), n) for n in names])]
+    new = []
+    for line in out:
+        if not isinstance(line, tuple):
+            new.append(line)
+            continue
+        key, found = line[1], groups[line[1]]
+        if len(found) == 1:
+            new.append(found[0][0])
+            continue
+        row = ""
+        for _, names in found:
+            add = ", ".join(names)
+            if row and len("use %s.{%s, %s}" % (key, row, add)) > WIDTH:
+                new.append("use %s.{%s}" % (key, row))
+                row = ""
+            row = add if not row else row + ", " + add
+        new.append("use %s.{%s}" % (key, row))
+    return "\n".join(new)
 
 
 def run(path):
@@ -35,6 +72,8 @@ def run(path):
             continue
         out.append(line)
     new = "\n".join(out)
+    if "/proofs/" in path:
+        new = grouped(new)
     if new != text:
         open(path, "w").write(new)
     return text.count("\n") - new.count("\n")

@@ -57,7 +57,7 @@ def run(path):
             i += 1
             continue
         words, answer = clause
-        cycle = "(t : ℕ) →" in " ".join(pieces[i])
+        cycle = re.search(r"\(t : ℕ\)\s+→", " ".join(pieces[i])) is not None
         use = re.compile((r"\(%s t\)" if cycle else r"(?<![\w\-·])%s(?![\w\-·])") % re.escape(name))
         rest = "\n".join("\n".join(p) for p in pieces[:i] + pieces[i + 2:])
         others = len(re.findall(r"(?<![\w\-·])" + re.escape(name) + r"(?![\w\-·])", rest))

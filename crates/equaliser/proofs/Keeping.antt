@@ -5,15 +5,12 @@ use mathlib.Core.Path.{_≡_, refl, ap, sym, subst, _∙_}
 use mathlib.Core.Bool.{Bool, true, false}
 use mathlib.Core.List.{List}
 use lib.ListN.{length, getD, set as setAt, length-set}
-use lib.Seq.{getD-set-same, getD-set-other}
-use lib.Dec.{ltb}
+use lib.{Seq.getD-set-same, Seq.getD-set-other, Dec.ltb}
 use borrow.Author.Tests.{ltb-true, ltb-false}
 use Rattle.model.specs.declared.Settings.{Settings}
 use Rattle.model.specs.declared.Form.the-variants.{Task}
 use Rattle.model.specs.Records.{Rec, kindAt}
 use Rattle.model.specs.Trees.{Block, nil, skip, act, branch, while, times}
-use Rattle.reading.specs.Closing.{opensBlock, closesBlock}
-use Rattle.reading.specs.Ranges.{Stands}
 use Rattle.reading.proofs.Standing.{stands-once, stands-closed}
 use Rattle.equaliser.specs.Pads.{Entry, Kept, Same, Below, Keeps}
 

@@ -2,26 +2,15 @@
 use Prim.Native.Nat.{ℕ, _+_, _-_, _^_, _≤_, _<_}
 use native.Mathlib.Omega.{arith}
 use mathlib.Core.Path.{_≡_, refl, ap, sym, subst, _∙_}
-use mathlib.Core.Bool.{true, false}
-use mathlib.Core.List.{List}
 use lib.ListN.{length}
 use Rattle.model.specs.declared.Settings.{Settings}
 use Rattle.model.specs.declared.Form.the-variants.{Task}
-use Rattle.model.specs.Records.{kindAt}
 use Rattle.model.specs.Trees.{Block, nil, size}
-use Rattle.model.specs.Times.{time}
-use Rattle.reading.specs.Closing.{closesBlock}
-use Rattle.reading.specs.Ranges.{InFile, afterFirst}
-use Rattle.reading.specs.Walks.{Walk}
 use Rattle.reading.proofs.Walking.{every, walk-start, none-closed, none-ended, walk-end, walk-at, walk-on, walk-next}
 use Rattle.timing.specs.declared.ticks.Time.the-variants.{Ticks, OverPeriod}
-use Rattle.timing.specs.Times.{Gives}
-use Rattle.timing.specs.Blocks.{firstTime}
 use Rattle.timing.proofs.Given.{gives-ticks, gives-over, was-ticks, was-over}
 use Rattle.timing.proofs.Firsts.{time-first}
 use Rattle.equaliser.specs.declared.measure.Extent.{Extent}
-use Rattle.equaliser.specs.Merged.{padded}
-use Rattle.equaliser.specs.Pads.{Kept, Below}
 use Rattle.equaliser.specs.Sizes.{BlockAsks, IsBlock, BlockSize, StatementAsks, IsStatement, StatementDone, StatementSize}
 use Rattle.equaliser.proofs.Keeping.{below-none, below-on, kept-none, kept-same, kept-on}
 use Rattle.equaliser.proofs.Merged.{waits-less, size-first as padded-size, padded-small}

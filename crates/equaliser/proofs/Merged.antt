@@ -1,7 +1,5 @@
 -- An equalised block statement by statement: what is written for each, and how many records.
 use Prim.Native.Nat.{ℕ, _+_, _*_, _-_, _≤_}
-use native.Mathlib.Nat.{add-zero, zero-add}
-use native.Mathlib.Omega.{arith}
 use mathlib.Core.Path.{_≡_, refl, ap, sym, _∙_}
 use Rattle.model.specs.declared.Settings.{Settings}
 use Rattle.model.specs.Trees.{Block, nil, skip, act, branch, while, times, _⧺_, size}
@@ -34,12 +32,10 @@ module _ (σ : Settings) where
   padded-first n nil k = refl
   padded-first n (skip m b) k = refl
   padded-first n (act p b) k = sym (waiting-⧺ n (act p nil) (padded σ 0 b k))
-  padded-first n (branch q a d b) k =
-      rw (time-F σ a, time-F σ d) (sym (waiting-⧺ n (branchOut σ q a d) (padded σ 0 b k)))
+  padded-first n (branch q a d b) k = rw (time-F σ a, time-F σ d) (sym (waiting-⧺ n (branchOut σ q a d) (padded σ 0 b k)))
   padded-first n (while q m a b) k =
       rw (time-F σ a, ← merge-pad (F σ a) 0, zero-add (time σ a)) (sym (waiting-⧺ n (loopOut σ q m a) (padded σ 0 b k)))
-  padded-first n (times q m a b) k =
-      rw (← merge-pad (F σ a) 0) (sym (waiting-⧺ n (times q m (padded σ 0 a 0) nil) (padded σ 0 b k)))
+  padded-first n (times q m a b) k = rw (← merge-pad (F σ a) 0) (sym (waiting-⧺ n (times q m (padded σ 0 a 0) nil) (padded σ 0 b k)))
 
   -- a tick waits only once it has been read
   pub waits-less : (n : ℕ) (b : Block) → firstWaits n b ≤ n + firstTime σ b

@@ -4,40 +4,22 @@ use native.Mathlib.Omega.{arith}
 use mathlib.Core.Path.{_≡_, refl, ap, sym, subst, _∙_}
 use mathlib.Core.Bool.{Bool, true, false}
 use mathlib.Core.List.{List, [], _∷_}
-use lib.ListN.{length}
-use lib.Dec.{ltb}
+use lib.{ListN.length, Dec.ltb}
 use borrow.Author.Tests.{lt-ltb, le-ltb, ltb-false}
-use Rattle.model.specs.declared.Settings.{Settings}
 use Rattle.model.specs.declared.Form.the-variants.{Task}
-use Rattle.model.specs.declared.Refusal.{Refusal}
-use Rattle.model.specs.declared.Equalised.{Equalised}
-use Rattle.model.specs.Records.{bytes, over}
 use Rattle.model.specs.Trees.{Block, size, linearise, fileTree}
-use Rattle.model.specs.Times.{time}
-use Rattle.model.specs.Equalising.{equalise}
-use Rattle.model.specs.Settings.{settingsOf}
 use Rattle.model.specs.Answers.{Verdict, finished, refusal, equalised, kept as kept-by}
 use Rattle.model.specs.Replies.{turnDown, noRoom, equaliseRows, equalisedTree, equaliseReply, equaliseOut}
 use Rattle.model.proofs.Sound.{sound-file}
 use Rattle.reading.specs.declared.Checked.the-variants.{Valid, Refused}
 use Rattle.records.specs.Blocks.{blockBytes, skipRecords}
 use Rattle.records.proofs.Blocks.{length-block}
-use Rattle.reading.specs.Answers.{Reads}
-use Rattle.reading.specs.Ranges.{SoundFile}
-use Rattle.reading.proofs.Entry.{read-sound}
-use Rattle.reading.proofs.Walking.{whole-file}
 use Rattle.timing.specs.declared.ticks.Time.the-variants.{Ticks, OverPeriod}
 use Rattle.timing.specs.Times.{Gives}
 use Rattle.timing.proofs.Given.{was-over}
 use Rattle.equaliser.specs.declared.measure.Extent.{Extent}
 use Rattle.equaliser.specs.declared.write.Written.{Written}
-use Rattle.equaliser.specs.Merged.{padded}
-use Rattle.equaliser.specs.Pads.{Kept}
 use Rattle.equaliser.specs.Sizes.{Small, BlockAsks, BlockDone, IsBlock, BlockSize}
-use Rattle.equaliser.specs.Written.{BlockFits, BlockWritten}
-use Rattle.equaliser.specs.Answers.{EqualisesSound}
-use Rattle.equaliser.proofs.Merged.{equalise-padded}
-use Rattle.equaliser.proofs.StatementSizes.{told}
 
 -- A TASK THAT WAS READ
 

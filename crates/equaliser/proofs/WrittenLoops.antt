@@ -2,8 +2,6 @@
 use Prim.Native.Nat.{ℕ, _+_, _^_, _≤_, _<_}
 use native.Mathlib.Omega.{arith}
 use mathlib.Core.Path.{_≡_, refl, ap, sym, subst, _∙_}
-use mathlib.Core.Bool.{true}
-use mathlib.Core.List.{List, _++_}
 use lib.ListN.{length, getD}
 use Rattle.model.specs.declared.Settings.{Settings}
 use Rattle.model.specs.declared.Form.the-variants.{Task}
@@ -11,18 +9,12 @@ use Rattle.model.specs.Records.{Rec, kindAt, recordAt, IF, over}
 use Rattle.model.specs.Trees.{Block, while, size}
 use Rattle.model.specs.Times.{time}
 use Rattle.records.specs.declared.Record.{Record}
-use Rattle.records.specs.Records.{recordOf}
-use Rattle.records.specs.Blocks.{blockBytes, Wrote}
 use Rattle.records.proofs.Over.{Part, lent, back, part-first, part-fits-last}
 use Rattle.records.proofs.Laying.{wrote-room, wrote-last}
-use Rattle.reading.specs.Closing.{opensBlock}
 use Rattle.reading.specs.Ranges.{firstPart, afterFirst, testOf}
-use Rattle.reading.specs.Walks.{StatementAt}
 use Rattle.reading.proofs.Walking.{block, open-at, first-in, task-while}
 use Rattle.timing.proofs.Firsts.{parts-time, time-first}
 use Rattle.equaliser.specs.declared.write.Written.{Written}
-use Rattle.equaliser.specs.Merged.{padded, firstOut}
-use Rattle.equaliser.specs.Pads.{Entry}
 use Rattle.equaliser.specs.Written.{loopHead, loopTail, BlockFits, BlockWritten, StatementFits, WritesStatement}
 use Rattle.equaliser.proofs.WrittenBytes.{loopBytes, loop-bytes}
 use Rattle.equaliser.proofs.WrittenParts.{block-fits, block-laid, block-goes}

@@ -1,5 +1,5 @@
 -- What the first pass asks for, and what it answers: the time of a block, how many records it is equalised to, and where it ends.
-use Prim.Native.Nat.{ℕ, _+_, _*_, _^_, _≤_, _<_}
+use Prim.Native.Nat.{ℕ, _+_, _^_, _≤_}
 use mathlib.Core.Path.{_≡_}
 use mathlib.Core.List.{List}
 use lib.ListN.{length}

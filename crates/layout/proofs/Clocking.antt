@@ -3,20 +3,13 @@ use Prim.Native.Nat.{ℕ, _+_, _≤_, _<_, min}
 use native.Mathlib.Omega.{arith}
 use mathlib.Core.Path.{_≡_, refl, ap, sym, subst, _∙_}
 use mathlib.Core.Bool.{Bool, true, false, _||_}
-use mathlib.Core.Logic.{⊎-elim}
-use mathlib.Core.List.{List}
-use lib.Dec.{eqb}
-use lib.ListN.{length}
+use lib.{Dec.eqb, ListN.length}
 use borrow.Author.Tests.{eqb-true, eqb-false}
 use Rattle.model.specs.declared.Settings.{Settings}
 use Rattle.model.specs.Records.{Rec, kindAt, recordAt, SKIP, IF, TIMES}
-use Rattle.model.specs.Trees.{check, size}
-use Rattle.model.specs.Times.{longest}
 use Rattle.model.proofs.Shapes.{or-cases, neither}
 use Rattle.records.specs.declared.Record.{Record}
 use Rattle.records.specs.Records.{recordOf}
-use Rattle.reading.specs.Closing.{closesBlock}
-use Rattle.reading.specs.Ranges.{firstPart, secondPart}
 use Rattle.timing.specs.Times.{stepTicks, settingsIn}
 use Rattle.placing.specs.declared.clock.State.{State}
 use Rattle.placing.specs.States.{Laying, Stepped, Skipped, backTo}
@@ -26,14 +19,9 @@ use Rattle.layout.specs.Idling.{AllIdle, IdleEnds}
 use Rattle.layout.specs.Meetings.{Noting, BlockMeasured, StatementMeasured}
 use Rattle.layout.specs.Lent.{loaded, placeIn, passage, Stored, Placed}
 use Rattle.layout.specs.Clocked.{StepStarts, StepEnds, BlockLent, StatementLent, BlockClocked, StatementClocked}
-use Rattle.layout.proofs.Lending.{passage-is}
-use Rattle.layout.proofs.Passing.{statement-next, passing-on}
 use Rattle.layout.proofs.PassingSteps.{step-short, is-act, act-lasts}
 use Rattle.layout.proofs.PassingRounds as loops
-use Rattle.layout.proofs.PassingRounds.{Loop}
-use Rattle.layout.proofs.IdleLoops.{idle-measured}
 use Rattle.layout.proofs.PassingBranches as ifs
-use Rattle.layout.proofs.PassingBranches.{Tested}
 use Rattle.layout.proofs.Measuring.{statement-late, Measuring, measuring-start, measuring-few, measuring-closed, measuring-ended, measuring-late, measuring-next}
 use Rattle.layout.proofs.Measuring.{side-empty, skip-measured, act-measured, MeasuringRounds, loop-start, loop-few, loop-late, loop-next, loop-measured, first-few, branch-measured}
 

@@ -1,51 +1,30 @@
 -- Loops whose bodies have SKIPs alone: single ticks of SKIP compose, the scan of such a body, and the loop as it is measured and written.
 use Prim.Native.Nat.{ℕ, zero, suc, _+_, _*_, _≤_, _<_, min}
-use native.Mathlib.Omega.{arith}
-use native.Mathlib.Nat.{add-zero}
 use mathlib.Core.Path.{_≡_, refl, ap, ap₂, sym, subst, _∙_}
 use mathlib.Core.Bool.{Bool, true, false, false≢true}
 use mathlib.Core.List.{List, []}
-use lib.ListN.{length}
-use lib.Dec.{eqb, ltb}
+use lib.{ListN.length, Dec.eqb, Dec.ltb}
 use borrow.Author.Tests.{eqb-true, eqb-false, ltb-true, ltb-false}
 use Rattle.model.specs.declared.Form.the-variants.{Equalised}
 use Rattle.model.specs.declared.Settings.{Settings}
 use Rattle.model.specs.Records.{Rec, kindAt, recordAt, SKIP, TIMES}
 use Rattle.model.specs.Trees.{Test, check, Block, nil, skip, act, _⧺_, size}
-use Rattle.model.specs.Times.{time}
 use Rattle.model.specs.Layout.{before, idle, idles}
-use Rattle.model.specs.Placement.{Fits}
-use Rattle.model.proofs.Sound.{OfForm}
-use Rattle.model.proofs.Trees.{⧺-nil, ⧺-assoc}
-use Rattle.theory.proofs.Times.{time-⧺}
-use Rattle.theory.proofs.Windows.{Free, idles-longer}
 use Rattle.records.specs.declared.Record.{Record}
 use Rattle.records.specs.Records.{recordOf}
 use Rattle.records.proofs.Over.{lent, back}
-use Rattle.reading.specs.Closing.{closesBlock}
 use Rattle.reading.specs.Ranges.{InFile, Ranged, firstSize, afterFirst, testOf}
-use Rattle.reading.specs.Walks.{Walk}
 use Rattle.reading.proofs.FirstKinds.{kind-is}
 use Rattle.reading.proofs.Walking.{kind-there, skip-at, walk-start, none-closed, walk-end, walk-at, walk-next}
 use Rattle.placing.specs.declared.clock.State.{State}
 use Rattle.placing.specs.States.{Laying, After, Stepped, Skipped}
 use Rattle.placing.specs.Placed.{Room, Lays, stepBytes, StepLaid}
-use Rattle.placing.proofs.Going.{after-⧺}
 use Rattle.placing.proofs.Writing.{laidBytes, Writing, first-room, writing-first, writing-same, writing-room, writing-next, writing-end}
-use Rattle.placing.proofs.Settling.{alike-eq}
 use Rattle.layout.specs.declared.skips.Idle.{Idle}
 use Rattle.layout.specs.Idling.{IdleBody, AllIdle, IdleLoop, IdleAt, SkipsFit, SkipsLaid, checked, checkRec, IdleEnds, IdleFits, IdleLaid}
-use Rattle.layout.specs.Ranges.{only}
-use Rattle.layout.specs.Measured.{laid}
-use Rattle.layout.specs.Meetings.{meetings, StatementMeasured}
 use Rattle.layout.specs.Written.{LaidFits, StatementFits, StatementLaid}
 use Rattle.layout.proofs.Unrolled.{rounds, rounds-none, rounds-first, laid-nil, laid-free}
-use Rattle.layout.proofs.Noting.{plain-checked, noted-plain}
-use Rattle.layout.proofs.Passing.{laying-on}
-use Rattle.layout.proofs.PassingSteps.{LaidAs, answered}
 use Rattle.layout.proofs.PassingRounds as loops
-use Rattle.layout.proofs.PassingRounds.{Loop}
-use Rattle.layout.proofs.Measuring.{noted-as}
 use Rattle.layout.proofs.WritingSteps.{fits-as, answered-as, step-fits, step-lays, skip-fits, skip-laid}
 
 -- TICKS OF SKIP
@@ -247,11 +226,7 @@ idle-capped {σ} {k} {n} {s} {r} e E = go (ltb (σ .period) k) refl
         let l = ltb-true (σ .period) k h in
         let long : (m : ℕ) (q : Test) → m ≤ time σ (checked σ m q (s .tick)) = λ m q.
         omega (arith, idles-longer σ m (s .tick), time-⧺ σ (idles σ m (s .tick)) (before σ (s .tick + time σ (idles σ m (s .tick))) 1 ⧺ act (check q) nil)) in
-        record {
-          late = λ q x. E .late q (omega (arith, long n q));
-          after = λ q x. absurd (omega (arith, long k q));
-          few = E .few;
-        }
+        record { late = λ q x. E .late q (omega (arith, long n q)); after = λ q x. absurd (omega (arith, long k q)); few = E .few }
     go false h = let l = ltb-false (σ .period) k h in let z : n ≡ k = omega arith in subst (λ (m : ℕ). IdleEnds σ m s r) z E
 
 -- THE LOOP, WRITTEN

@@ -2,8 +2,6 @@
 use Prim.Native.Nat.{ℕ, _+_, _≤_, _<_, min}
 use native.Mathlib.Omega.{arith}
 use mathlib.Core.Path.{_≡_, refl, ap, sym, subst}
-use mathlib.Core.Bool.{true, false}
-use mathlib.Core.List.{List, _++_}
 use lib.ListN.{length, length-append}
 use Rattle.model.specs.declared.Form.the-variants.{Equalised}
 use Rattle.model.specs.declared.Settings.{Settings}
@@ -12,8 +10,6 @@ use Rattle.model.specs.Trees.{check, Block, nil, act, _⧺_}
 use Rattle.model.specs.Layout.{before}
 use Rattle.records.specs.declared.Record.{Record}
 use Rattle.records.specs.Records.{recordOf}
-use Rattle.reading.specs.Closing.{closesBlock}
-use Rattle.reading.specs.Ranges.{Stands}
 use Rattle.timing.specs.Times.{stepTicks}
 use Rattle.placing.specs.declared.clock.State.{State}
 use Rattle.layout.specs.declared.measure.Passage.{Passage}
@@ -23,13 +19,10 @@ use Rattle.layout.specs.Measured.{laid, Meets, Entered, Statement, Block
 use Rattle.layout.specs.Meetings.{meetings, Noting, Noted, Notes, BlockMeasured, StatementMeasured}
 use Rattle.reading.proofs.Walking.{every, none-closed, none-ended}
 use Rattle.layout.proofs.Noting.{notes-++, notes-first, plain-step, plain-idles, noted-plain, noted-⧺}
-use Rattle.layout.proofs.Unrolled.{rounds, rounds-none}
 use Rattle.layout.proofs.Passing.{in-time, Passing, passing-start, left, all-done, passing-done, one, passing-late, passing-next}
 use Rattle.layout.proofs.PassingSteps.{LaidAs, laid-every, skip-as, skip-passed, is-act, act-as, act-passed}
 use Rattle.layout.proofs.PassingRounds as loops
-use Rattle.layout.proofs.PassingRounds.{PassingRounds}
 use Rattle.layout.proofs.PassingBranches as ifs
-use Rattle.layout.proofs.PassingBranches.{Tested}
 
 -- nothing is noted of what ends too late
 pub block-late : {s : List ℕ} {i to : ℕ} {σ : Settings} {at : State} {k : ℕ} {old new : List ℕ} {r : Passage} → BlockPassed s i to σ at r → σ .period < r .state .tick

@@ -4,36 +4,20 @@ use native.Mathlib.Omega.{arith}
 use mathlib.Core.Path.{_≡_, refl, ap, ap₂, sym, subst, _∙_}
 use mathlib.Core.Bool.{Bool, true, false, _||_, or-true}
 use mathlib.Core.List.{List, [], _∷_}
-use lib.ListN.{length}
-use lib.Dec.{ltb}
+use lib.{ListN.length, Dec.ltb}
 use borrow.Author.Tests.{ltb-true, ltb-false, lt-ltb, le-ltb}
-use Rattle.model.specs.declared.Settings.{Settings}
 use Rattle.model.specs.declared.Form.the-variants.{Equalised}
-use Rattle.model.specs.declared.Refusal.{Refusal}
-use Rattle.model.specs.declared.LaidOut.{LaidOut}
-use Rattle.model.specs.Records.{bytes, over}
 use Rattle.model.specs.Trees.{Block, size, linearise, fileTree}
-use Rattle.model.specs.Times.{time, longest}
 use Rattle.model.specs.Layout.{unroll, opened, layout, total}
-use Rattle.model.specs.Settings.{settingsOf}
 use Rattle.model.specs.Answers.{Verdict, finished, refusal, laidOut, kept}
 use Rattle.model.specs.Replies.{turnDown, shortWindow, noRoom, layOutRows, laidTree, layOutReply, layOutOut}
-use Rattle.model.specs.Placement.{Positive}
 use Rattle.theory.proofs.Accepted.{in-range, fits, room-left}
 use Rattle.theory.proofs.Laid.{total-longer}
 use Rattle.reading.specs.declared.Checked.the-variants.{Valid, Refused}
 use Rattle.records.specs.Blocks.{blockBytes, skipRecords}
 use Rattle.records.proofs.Blocks.{one-skip, length-block}
-use Rattle.reading.specs.Answers.{Reads}
-use Rattle.reading.proofs.Entry.{read-settings, read-sound}
 use Rattle.placing.specs.declared.clock.State.{State}
 use Rattle.placing.specs.States.{Layable, After, started}
-use Rattle.reading.specs.Ranges.{SoundFile}
-use Rattle.layout.specs.Measured.{FilePassed}
-use Rattle.layout.specs.Meetings.{FileMeasured}
-use Rattle.layout.specs.Written.{FileFits}
-use Rattle.layout.specs.Answers.{InRange, LaysOutSound}
-use Rattle.reading.proofs.Standing.{stands-file}
 use Rattle.layout.proofs.Whole.{few-ifs, opened-total, total-is, size-is}
 
 -- ROWS
@@ -62,11 +46,7 @@ wide-window : {σ : Settings} → Layable σ → shortWindow σ ≡ false
 wide-window {σ} L = le-ltb (σ .window) (σ .beat + σ .save + longest σ) (L .fits .wide)
 
 pub layable : {σ : Settings} → InRange σ → shortWindow σ ≡ false → Layable σ
-layable {σ} I h = record {
-  fits = fits σ (I .positive) h;
-  narrow = I .narrow;
-  short = I .short;
-}
+layable {σ} I h = record { fits = fits σ (I .positive) h; narrow = I .narrow; short = I .short }
 
 -- the ticks that were counted are above P: so is the total, and row 8 refuses
 module _ {file : List ℕ} {σ : Settings} (L : Layable σ) {r : State} (F : FilePassed file σ r) where

@@ -1,20 +1,14 @@
 -- The whole file: from the commands of tick 0 over the laid block to the last BEAT.
 use Prim.Native.Nat.{ℕ, _+_, _*_, _-_, _%_, _/_, _≤_, _<_}
-use native.Mathlib.Omega.{arith}
-use native.Mathlib.Nat.{zero-mod, zero-add}
 use mathlib.Core.Path.{_≡_, refl, ap, ap₂, sym, subst, _∙_}
 use mathlib.Core.Bool.{Bool, true, false, cond}
 use mathlib.Core.List.{List, _++_, append-assoc}
-use lib.ListN.{length, length-append}
-use lib.Dec.{eqb}
+use lib.{ListN.length, ListN.length-append, Dec.eqb}
 use borrow.Author.Tests.{eqb-true, eqb-false, eq-eqb, ne-eqb}
 use Rattle.model.specs.declared.Form.the-variants.{Equalised}
 use Rattle.model.specs.declared.Settings.{Settings}
 use Rattle.model.specs.Trees.{beat, save, Block, nil, skip, act, _⧺_, size, fileTree}
-use Rattle.model.specs.Times.{time}
-use Rattle.model.specs.Equalising.{waiting, merge}
 use Rattle.model.specs.Layout.{unroll, commands, left, lay, opened, body, lastValue, layout, total}
-use Rattle.model.specs.Records.{over}
 use Rattle.model.proofs.Trees.{⧺-assoc}
 use Rattle.theory.proofs.Times.{time-⧺}
 use Rattle.theory.proofs.Windows.{Free, round, window-pos, commands-0, free-start}
@@ -31,11 +25,7 @@ use Rattle.layout.specs.Meetings.{meetings, Holds, BlockMeasured, FileMe
 use Rattle.placing.specs.Placed.{bytesOf, Lays, tailBytes}
 use Rattle.layout.specs.Written.{BlockFits, BlockLaid, FileFits}
 use Rattle.placing.proofs.Settling.{settled-⧺, waits-⧺, merge-settled, Alike, alike-eq, alike-sym, alike-trans, alike-skip}
-use Rattle.placing.proofs.Going.{after-⧺, after-alike}
-use Rattle.placing.proofs.Ticking.{left-is}
 use Rattle.layout.proofs.Noting.{holds-notes, meetings-⧺, few-meetings}
-use Rattle.reading.proofs.Standing.{stands-file}
-use Rattle.reading.proofs.Walking.{whole-file}
 
 -- TICK 0
 

@@ -6,16 +6,11 @@ use mathlib.Core.List.{List}
 use lib.ListN.{length}
 use Rattle.model.specs.declared.Form.the-variants.{Equalised}
 use Rattle.model.specs.declared.Settings.{Settings}
-use Rattle.model.specs.Trees.{skip}
-use Rattle.model.specs.Layout.{commands}
 use Rattle.reading.specs.Ranges.{SoundFile}
 use Rattle.placing.specs.declared.clock.State.{State}
 use Rattle.placing.specs.States.{Layable, Laying, After, started}
-use Rattle.layout.specs.Measured.{Entered}
-use Rattle.layout.specs.Meetings.{BlockMeasured, FileMeasured}
 use Rattle.timing.specs.Times.{settingsIn}
 use Rattle.layout.specs.Lent.{loaded, placeIn, passage, Stored}
-use Rattle.layout.specs.Clocked.{BlockLent, BlockClocked}
 use Rattle.layout.proofs.Whole.{opening, laying-start, after-opening, file-entered, file-late, file-measured}
 
 module _ (t : List ℕ) (L : Layable (settingsIn t)) {n : Settings} (e : n ≡ settingsIn t) {x : State} (z : x ≡ started) where

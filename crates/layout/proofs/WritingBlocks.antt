@@ -2,29 +2,19 @@
 use Prim.Native.Nat.{ℕ, _+_, _≤_, _<_}
 use native.Mathlib.Omega.{arith}
 use mathlib.Core.Path.{_≡_, ap, sym, subst, _∙_}
-use mathlib.Core.Bool.{true, false}
-use mathlib.Core.List.{List, _++_}
 use lib.ListN.{length, length-append}
 use Rattle.model.specs.declared.Settings.{Settings}
-use Rattle.model.specs.Records.{kindAt}
 use Rattle.model.specs.Trees.{Block, nil, _⧺_, size}
-use Rattle.model.specs.Times.{time}
 use Rattle.theory.proofs.Times.{time-⧺}
 use Rattle.records.proofs.Over.{lent, back}
-use Rattle.reading.specs.Closing.{closesBlock}
-use Rattle.reading.specs.Ranges.{firstSize, afterFirst}
 use Rattle.placing.specs.declared.clock.State.{State}
 use Rattle.layout.specs.declared.measure.Passage.{Passage}
-use Rattle.layout.specs.Measured.{laid}
-use Rattle.layout.specs.Meetings.{meetings, Holds}
 use Rattle.layout.specs.Written.{BlockFits, StatementFits, LaysTo, BlockLaid, StatementLaid}
 use Rattle.placing.proofs.Settling.{alike-eq}
 use Rattle.reading.proofs.Walking.{every, none-closed, none-ended, walk-end}
 use Rattle.layout.proofs.Noting.{holds-left, holds-right, meetings-⧺}
-use Rattle.layout.proofs.Unrolled.{laid-nil}
 use Rattle.placing.proofs.Writing.{laidBytes, Writing, writing-start, writing-same, writing-room, writing-next, writing-end}
 use Rattle.layout.proofs.Passing.{Passing, passing-start, left, all-done, statement-next, one, two, first, passing-on, passing-next}
-use Rattle.layout.proofs.WritingSteps.{laid-passed}
 
 -- of the block at `from`, laid from `at` on, the records from `next` on are left
 pub record WritingBlock (s : List ℕ) (from to : ℕ) (σ : Settings) (at state : State) (next k n : ℕ) (table old new : List ℕ) : Type 0 where
@@ -77,14 +67,7 @@ module _ {s : List ℕ} {from to : ℕ} {σ : Settings} {at state : State} {next
 
     in-time : state .tick + time σ (one P) ≤ σ .period
     in-time =
-        omega (
-          arith,
-          W .within,
-          split .same .lasts,
-          time-⧺ σ (split .done) (one P ⧺ two P),
-          time-⧺ σ (one P) (two P),
-          split .after .tick,
-        )
+        omega (arith, W .within, split .same .lasts, time-⧺ σ (split .done) (one P ⧺ two P), time-⧺ σ (one P) (two P), split .after .tick)
 
     -- the next byte is at n
     module _ {m : ℕ} (h : m ≡ laidBytes at state) where

@@ -7,22 +7,10 @@ use mathlib.Core.List.{List, [], _∷_, append-nil}
 use lib.ListN.{length, getD, drop, length-append, length-drop}
 use lib.Seq.{sets}
 use Rattle.model.specs.declared.Form.the-variants.{Laid}
-use Rattle.model.specs.declared.Refusal.{Refusal}
-use Rattle.model.specs.declared.LaidOut.{LaidOut}
-use Rattle.model.specs.declared.Settings.{Settings}
-use Rattle.model.specs.Settings.{settingsOf, badSettings}
 use Rattle.model.specs.Trees.{Block, size, linearise}
-use Rattle.model.specs.Times.{time}
 use Rattle.model.specs.Answers.{finished, refusal, laidOut}
-use Rattle.model.specs.Records.{over}
-use Rattle.model.specs.Limits.{fileLength}
 use Rattle.model.specs.Replies.{equaliseReply, laidTotal, layOutReply, equalisedOf, prepareReply, prepareOut}
 use Rattle.model.specs.Listing.{startTicks, laidFrom, listStarts}
-use Rattle.model.proofs.Bytes.{recordsAt, first-bytes}
-use Rattle.model.proofs.Trees.{length-linearise}
-use Rattle.model.proofs.Passes.{length-file}
-use Rattle.model.proofs.Stands.{At, begins}
-use Rattle.model.proofs.Sound.{OfForm, sound-file}
 use Rattle.records.specs.declared.settings.Decoded.the-variants.{Refused}
 use Rattle.records.specs.Decoded.{Decodes}
 use Rattle.records.proofs.Stores.{stored-over}

@@ -5,18 +5,9 @@ use mathlib.Core.Path.{_≡_, refl, ap, ap₂, sym, subst, _∙_}
 use mathlib.Core.List.{List, [], _∷_, _++_}
 use lib.ListN.{length, getD, drop}
 use lib.Seq.{length-sets, drop-cons}
-use Rattle.model.specs.declared.Line.{Line}
-use Rattle.model.specs.declared.Shown.{Shown}
-use Rattle.model.specs.declared.Refusal.{Refusal}
-use Rattle.model.specs.Settings.{settingsOf}
 use Rattle.model.specs.Records.{Rec, recordAt, firstRecords, over}
-use Rattle.model.specs.Trees.{Block, linearise}
 use Rattle.model.specs.Answers.{finished, row, refusal}
-use Rattle.model.specs.Limits.{fileLength}
-use Rattle.model.specs.Replies.{prepareReply, prepareOut}
 use Rattle.model.specs.Listing.{lineOf, startTicks, linesOf, laidFrom, listStarts, lineAt, listed, turnedDown, printed}
-use Rattle.model.proofs.Bytes.{recordsAt, recordsAt-suc}
-use Rattle.model.proofs.Trees.{length-linearise}
 use Rattle.listing.specs.Lines.{linesIn}
 use Rattle.listing.proofs.LineLaws.{line-there}
 use Rattle.listing.proofs.Listings.{accepted, count, total, ticks-count, table-filled, records-there, laid-length}

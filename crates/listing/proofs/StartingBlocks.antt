@@ -4,22 +4,14 @@ use native.Mathlib.Omega.{arith}
 use mathlib.Core.Path.{_≡_, refl, ap, sym, _∙_}
 use mathlib.Core.Bool.{true, false, false≢true}
 use mathlib.Core.List.{List, [], _∷_}
-use lib.ListN.{length, set as setAt}
-use lib.Seq.{sets, length-sets}
+use lib.{ListN.length, ListN.set as setAt, Seq.sets, Seq.length-sets}
 use Rattle.model.specs.declared.Form.the-variants.{Laid}
 use Rattle.model.specs.declared.Settings.{Settings}
 use Rattle.model.specs.Records.{Rec, kindAt, recordAt, IF}
-use Rattle.model.specs.Limits.{mostTicks}
 use Rattle.model.specs.Trees.{Block, nil, skip, act, branch, while, times, size}
-use Rattle.model.specs.Times.{time}
-use Rattle.model.specs.Listing.{startTicks}
-use Rattle.reading.specs.Closing.{closesBlock}
 use Rattle.reading.specs.Ranges.{Stands, firstSize, afterFirst}
-use Rattle.reading.specs.Walks.{Walk}
 use Rattle.reading.proofs.FirstKinds.{kind-is}
 use Rattle.reading.proofs.Walking.{every, every-of, block, some, walk-start, none-closed, none-ended, walk-end, walk-at, walk-on, walk-next}
-use Rattle.timing.specs.Times.{stepTicks}
-use Rattle.timing.specs.Blocks.{firstTime}
 use Rattle.timing.proofs.Firsts.{time-first, act-ticks}
 use Rattle.listing.specs.declared.starts.Place.{Place}
 use Rattle.listing.specs.Starts.{firstStarts, Stored, Entered, Statement, BlockStarted, StatementStarted}

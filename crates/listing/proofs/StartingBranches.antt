@@ -8,19 +8,12 @@ use lib.Seq.{sets, length-sets}
 use Rattle.model.specs.declared.Form.the-variants.{Laid}
 use Rattle.model.specs.declared.Settings.{Settings}
 use Rattle.model.specs.Records.{kindAt, recordAt, IF}
-use Rattle.model.specs.Limits.{mostTicks}
 use Rattle.model.specs.Trees.{Block, branch, size}
-use Rattle.model.specs.Times.{time}
-use Rattle.model.specs.Listing.{startTicks}
-use Rattle.reading.specs.Closing.{opensBlock}
 use Rattle.reading.specs.Ranges.{InFile, firstPart, secondPart, afterFirst, testOf}
-use Rattle.reading.specs.Walks.{IfAt}
 use Rattle.reading.proofs.Walking.{block, first-in, if-at, second-in}
 use Rattle.listing.specs.declared.starts.Place.{Place}
 use Rattle.listing.specs.Starts.{firstStarts, Stored, Entered, Statement, BlockStarted, StatementStarted}
 use Rattle.records.proofs.Stores.{stored-on}
-use Rattle.listing.proofs.Starting.{starts-length}
-use Rattle.listing.proofs.StartingBlocks.{place, told}
 
 module _ {s : List ℕ} {i to : ℕ} {σ : Settings} {t : ℕ} {out : List ℕ} (S : Statement s i to σ t out) (k : kindAt s i ≡ IF) where
   abbrev one : Block
@@ -65,11 +58,7 @@ module _ {s : List ℕ} {i to : ℕ} {σ : Settings} {t : ℕ} {out : List ℕ} 
     -- the table once ELSE is stored
     module _ {u : List ℕ} (kept : length u ≡ length w) where
       pub two-entered : Entered s (e .next + 1) to σ (t + 1) u
-      two-entered = record {
-        file = two-in;
-        room = omega (arith, S .room, same-room, kept);
-        early = omega (arith, sides-early);
-      }
+      two-entered = record { file = two-in; room = omega (arith, S .room, same-room, kept); early = omega (arith, sides-early) }
 
       module _ {v : List ℕ} {f : Place} (T : BlockStarted s (e .next + 1) to σ (t + 1) u v f) where
         second : Stored (startTicks σ two (t + 1)) (time σ two) (size two) (e .next + 1) (t + 1) u v f

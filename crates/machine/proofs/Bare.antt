@@ -8,9 +8,7 @@ use Rattle.model.specs.declared.Settings.{Settings}
 use Rattle.model.specs.Trees.{Block, _⧺_, size}
 use Rattle.model.specs.Runs.{Step, step, Run, run}
 use Rattle.model.specs.Stopping.{none}
-use Rattle.theory.proofs.Sequences.{run-⧺}
 use Rattle.theory.proofs.Views.{see, Alike, alike-refl, alike-sym, alike-trans, alike-eq, alike-⊳, alike-move}
-use Rattle.theory.proofs.Unindexed.{unindexed}
 use Rattle.stepping.specs.Machines.{Machine, machine, acted, cutOff, turn, does, runs}
 use Rattle.machine.specs.Contracts.{passed, after, ahead}
 use Rattle.machine.proofs.Positions.{joined}
@@ -24,8 +22,7 @@ bare m = machine (m .tick) (m .cut) (m .overran) (record { variables = m .holds 
 module _ (σ : Settings) (ins s : List ℕ) where
   then-joined : (b : Block) (bs : List Block) (i j : ℕ) → Alike unindexed (after σ ins s (i + size b) bs) (run σ ins (joined bs) (j + size b))
       → Alike unindexed (ahead σ ins s i b bs) (run σ ins (b ⧺ joined bs) j)
-  then-joined b bs i j a =
-      alike-trans (alike-⊳ (alike-move σ ins b i j) a) (alike-sym (alike-eq (run-⧺ σ ins b (joined bs) j)))
+  then-joined b bs i j a = alike-trans (alike-⊳ (alike-move σ ins b i j) a) (alike-sym (alike-eq (run-⧺ σ ins b (joined bs) j)))
 
   after-joined : (bs : List Block) (k j : ℕ) → Alike unindexed (after σ ins s k bs) (run σ ins (joined bs) j)
   after-joined [] k j = alike-refl

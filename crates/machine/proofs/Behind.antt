@@ -1,12 +1,8 @@
 -- What is behind a block, and what the kind of a record says.
 use Prim.Native.Nat.{ℕ, _+_}
 use mathlib.Core.Path.{_≡_, ap, sym, _∙_}
-use mathlib.Core.Bool.{true, false}
-use mathlib.Core.Logic.{⊎-elim}
-use mathlib.Core.List.{List}
 use native.Mathlib.Omega.{arith}
-use lib.Dec.{eqb}
-use lib.ListN.{getD}
+use lib.{Dec.eqb, ListN.getD}
 use borrow.Author.Tests.{eqb-true, eq-eqb, ne-eqb}
 use Rattle.model.specs.Records.{kindAt, IF, ELSE, WHILE, END, TIMES}
 use Rattle.model.proofs.Shapes.{or-cases}

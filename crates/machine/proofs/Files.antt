@@ -1,16 +1,10 @@
 -- A sound file: its records are one block, and the table of their closings has room.
 use Prim.Native.Nat.{ℕ, _≤_, _<_}
 use native.Mathlib.Omega.{arith}
-use mathlib.Core.Path.{_≡_}
-use mathlib.Core.List.{List}
 use lib.ListN.{length}
 use Rattle.model.specs.declared.Form.{Form}
 use Rattle.model.specs.Trees.{size, fileTree}
 use Rattle.model.proofs.Sound.{Sound, sound-file}
-use Rattle.reading.specs.Closing.{Closings}
-use Rattle.reading.specs.Ranges.{SoundFile, Fillable}
-use Rattle.reading.proofs.Scanning.{most-records}
-use Rattle.reading.proofs.Walking.{whole-file}
 use Rattle.machine.specs.Contracts.{extent, Started, Begun}
 
 module _ {f : Form} {s : List ℕ} (S : SoundFile f s) where
@@ -25,13 +19,7 @@ module _ {f : Form} {s : List ℕ} (S : SoundFile f s) where
 
 module _ {s : List ℕ} {i : ℕ} {ins w : List ℕ} {limit t : ℕ} (S : Started s i ins w limit t) where
   pub table-fills : {ends : List ℕ} → extent s < length ends → Fillable s (extent s) ends
-  table-fills k = record {
-    form = S .form;
-    file = whole-file (S .sound);
-    ends = file-size (S .sound);
-    few = file-few (S .sound);
-    room = k;
-  }
+  table-fills k = record { form = S .form; file = whole-file (S .sound); ends = file-size (S .sound); few = file-few (S .sound); room = k }
 
   pub started-begun : {ends : List ℕ} → Closings s (extent s) ends → Begun s i (extent s) ends ins w limit t
   started-begun T = record {

@@ -6,17 +6,7 @@ use mathlib.Core.Bool.{Bool, true, false}
 use mathlib.Core.List.{List, [], _∷_}
 use lib.Dec.{leb}
 use borrow.Author.Tests.{le-leb, lt-leb, leb-true, leb-false}
-use Rattle.model.specs.declared.Form.{Form}
-use Rattle.model.specs.declared.Settings.{Settings}
 use Rattle.model.specs.Trees.{Test, Block, nil, skip, act, branch, while, times, _⧺_, size}
-use Rattle.model.specs.Times.{time}
-use Rattle.model.specs.Stopping.{rest}
-use Rattle.model.specs.Placement.{LoopFree}
-use Rattle.model.proofs.Stands.{At}
-use Rattle.model.proofs.Sound.{OfForm}
-use Rattle.model.proofs.Trees.{⧺-assoc}
-use Rattle.theory.proofs.Times.{time-⧺}
-use Rattle.theory.proofs.Left.{rest-0}
 use Rattle.reading.specs.Ranges.{Stands}
 use Rattle.reading.proofs.Standing.{stands-last, stands-one, stands-two}
 use Rattle.machine.specs.Contracts.{extent, Pending, Chain}

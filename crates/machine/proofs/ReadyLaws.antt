@@ -6,13 +6,6 @@ use mathlib.Core.Bool.{Bool, true, false}
 use mathlib.Core.List.{List}
 use lib.ListN.{length}
 use borrow.Author.Tests.{lt-ltb, le-ltb}
-use Rattle.model.specs.declared.Form.{Form}
-use Rattle.model.specs.declared.Settings.{Settings}
-use Rattle.model.specs.declared.Refusal.{Refusal}
-use Rattle.model.specs.Settings.{settingsOf}
-use Rattle.model.specs.Trees.{fileTree}
-use Rattle.model.specs.Times.{time}
-use Rattle.model.specs.Answers.{Verdict, refusal}
 use Rattle.model.specs.Replies.{reading, above, fileTime, readyRows}
 use Rattle.model.proofs.Sound.{sound-file}
 use Rattle.theory.proofs.Accepted.{in-range}
@@ -23,8 +16,6 @@ use Rattle.reading.proofs.Filled.{fills-file}
 use Rattle.reading.proofs.Entry.{none, read-sound, read-settings}
 use Rattle.timing.specs.declared.ticks.Time.{Time}
 use Rattle.timing.specs.declared.ticks.Time.the-variants.{Ticks, OverPeriod}
-use Rattle.timing.specs.Times.{Gives}
-use Rattle.timing.specs.Blocks.{BlockTimes}
 use Rattle.timing.proofs.Given.{was-over, was-ticks}
 use Rattle.machine.specs.Calls.{Readies}
 

@@ -1,8 +1,6 @@
 -- Records run one after another: what is done, what is left, and what an answer that has halted says.
 use Prim.Native.Nat.{ℕ, _+_, _≤_, _<_}
-use native.Mathlib.Omega.{arith}
 use mathlib.Core.Path.{_≡_, refl, ap, sym, subst, _∙_}
-use native.Mathlib.Nat.{add-zero}
 use mathlib.Core.Bool.{Bool, true, false, cond, _||_, false≢true}
 use mathlib.Core.List.{List, [], _++_}
 use lib.ListN.{length}
@@ -10,14 +8,6 @@ use Rattle.model.specs.declared.Settings.{Settings}
 use Rattle.model.specs.Records.{kindAt}
 use Rattle.model.specs.Trees.{Block, nil, skip, act, branch, while, times, size}
 use Rattle.model.specs.Runs.{Step, overran, variablesAfter, Run, _⊳_, run}
-use Rattle.theory.proofs.Accepted.{neither}
-use Rattle.theory.proofs.Sequences.{⊳-assoc}
-use Rattle.reading.specs.Closing.{closesBlock}
-use Rattle.reading.specs.Ranges.{firstSize, afterFirst}
-use Rattle.reading.specs.Walks.{StatementAt}
-use Rattle.reading.proofs.Filled.{size-first, fills-none}
-use Rattle.reading.proofs.Standing.{stands-closed}
-use Rattle.reading.proofs.Walking.{some, behind}
 use Rattle.stepping.specs.declared.progress.Progress.{Progress}
 use Rattle.stepping.specs.Machines.{Machine, does, runs}
 use Rattle.stepping.specs.Steps.{going, reached, halted, Ran}
@@ -60,10 +50,7 @@ module _ {limit : ℕ} {f : Run} {j t : ℕ} {old new : List ℕ} {r : Progress}
       ∙ ap (runs limit g) (sym (R .reaches) ∙ reached-going r new e)
 
   pub ran-halted : (g : Run) (k : ℕ) → halted r ≡ true → Ran limit (f ⊳ g) k t old new r
-  ran-halted g k e = record {
-    reaches = R .reaches ∙ sym (runs-halted limit f g (going t old) refl (halts ∙ e));
-    goes = λ h. never e h;
-  }
+  ran-halted g k e = record { reaches = R .reaches ∙ sym (runs-halted limit f g (going t old) refl (halts ∙ e)); goes = λ h. never e h }
 
 -- the same from another start
 pub ran-from : {limit : ℕ} {f g : Run} {j k t u : ℕ} {old mid new : List ℕ} {r : Progress}
@@ -238,8 +225,7 @@ module _ {s : List ℕ} {from to : ℕ} {ends : List ℕ} {σ : Settings} {ins :
       step = S .right (P .rest .form) here
 
       running-halted : halted r ≡ true → RecordsRan s from to σ ins limit t₀ old new r
-      running-halted e =
-          answered (ran-from split (λ h. never e h) (ran-halted step onwards 0 e))
+      running-halted e = answered (ran-from split (λ h. never e h) (ran-halted step onwards 0 e))
 
       module _ (e : halted r ≡ false) where
         goes : r .next ≡ next + firstSize left

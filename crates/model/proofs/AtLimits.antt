@@ -5,16 +5,12 @@ use mathlib.Core.List.{List, [], _∷_}
 use lib.ListN.{replicate}
 use Rattle.model.specs.declared.Form.the-variants.{Task, Laid}
 use Rattle.model.specs.Records.{firstRecords, records, bytes, SKIP, BEAT, SAVE}
-use Rattle.model.specs.Settings.{settingsOf, badSettings}
 use Rattle.model.specs.Trees.{linearise, stackOf, treeOf, fileTree}
-use Rattle.model.specs.Runs.{effect}
-use Rattle.model.specs.Equalising.{equalise}
 use Rattle.model.specs.Layout.{before, lastValue, layout, total}
 use Rattle.model.specs.Stopping.{imageBytes, imageOf, takeUp}
 use Rattle.model.specs.Refusals.{fieldsFit, scan, fault}
 use Rattle.model.specs.Replies.{reading, timeReply, equalisedTree, equaliseReply, laidTree, layOutReply, prepareReply}
 use Rattle.model.specs.Replies.{Loan, ready, stepsOf, runReply, imageAt, stopReply, takenUp, resumeReply}
-use Rattle.model.specs.Chain.{lend}
 use Rattle.model.proofs.Bench.{row, file, settings, junk}
 use Rattle.model.proofs.TurnedDown.{Case, _says_, Answered}
 

@@ -6,10 +6,8 @@ use mathlib.Core.List.{List, [], _∷_, _++_}
 use lib.ListN.{length, getD, take, drop, replicate}
 use Rattle.model.specs.declared.Form.the-variants.{Task}
 use Rattle.model.specs.Records.{firstRecords, records, bytes, SKIP, SET, READ, WRITE, IF, ELSE, WHILE, END, BEAT, SAVE}
-use Rattle.model.specs.Settings.{settingsOf, badSettings}
 use Rattle.model.specs.Trees.{linearise, stackOf, treeOf, fileTree}
 use Rattle.model.specs.Runs.{Effect, nothing, assigns, outputs, beats, saves, overruns, Buffers, isBeat, isSave, starts, holds, result, effect}
-use Rattle.model.specs.Equalising.{equalise}
 use Rattle.model.specs.Layout.{before, lastValue, layout, total}
 use Rattle.model.specs.Stopping.{imageBytes, imageOf, takeUp}
 use Rattle.model.specs.Refusals.{fieldsFit, scan, fault}

@@ -1,11 +1,8 @@
 -- A checkpoint image is read back from its 72 bytes.
 use Prim.Native.Nat.{ℕ, _+_, _*_}
-use native.Mathlib.Nat.{add-zero}
-use native.Mathlib.Omega.{arith}
 use mathlib.Core.Path.{_≡_, refl, ap, ap₂, sym, subst, _∙_}
 use mathlib.Core.List.{List, [], _∷_, _++_}
-use lib.ListN.{length, drop}
-use lib.Seq.{getD-drop, drop-drop}
+use lib.{ListN.length, ListN.drop, Seq.getD-drop, Seq.drop-drop}
 use Rattle.model.specs.Records.{wordAt, wordBytes}
 use Rattle.model.specs.Stopping.{Image, words, wordsFrom, imageBytes, imageOf}
 use Rattle.model.proofs.Bytes.{word-back}

@@ -3,15 +3,7 @@ use Prim.Native.Nat.{ℕ}
 use mathlib.Core.Path.{_≡_, refl, ap, ap₂, sym, _∙_}
 use mathlib.Core.Bool.{Bool, true, false, cond}
 use mathlib.Core.List.{List}
-use lib.Dec.{eqb}
-use lib.ListN.{length, getD}
-use Rattle.model.specs.declared.Refusal.{Refusal}
-use Rattle.model.specs.declared.Timed.{Timed}
-use Rattle.model.specs.declared.Equalised.{Equalised}
-use Rattle.model.specs.declared.LaidOut.{LaidOut}
-use Rattle.model.specs.declared.Ran.{Ran}
-use Rattle.model.specs.declared.Stopped.{Stopped}
-use Rattle.model.specs.declared.Rehearsed.{Rehearsed}
+use lib.{Dec.eqb, ListN.length, ListN.getD}
 use Rattle.model.specs.Answers.{Verdict, finished, refused, bit, refusal, timed, equalised, laidOut, ran, stopped, rehearsed}
 
 -- a function that can be undone is injective

@@ -95,8 +95,7 @@ shaped-skip o t l x n h =
 
 shaped-set : Shaped 2
 unfolding fieldsFit
-shaped-set o t l x n h =
-    rw (zeros (n ∷ []) (and-right (setFits (rec 2 o t l x n)) (unused (n ∷ [])) h) .0) (is-act (set o t l x))
+shaped-set o t l x n h = rw (zeros (n ∷ []) (and-right (setFits (rec 2 o t l x n)) (unused (n ∷ [])) h) .0) (is-act (set o t l x))
 
 port-zeros : (o t l x n : ℕ) → (unused (o ∷ x ∷ n ∷ []) && variable t && port l) ≡ true → Zeros (o ∷ x ∷ n ∷ [])
 port-zeros o t l x n h =

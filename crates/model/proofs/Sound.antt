@@ -1,12 +1,9 @@
 -- A file that passes the scan is the bytes of its tree, which stands in it, nests within the form's limit and has only that form's records.
 use Prim.Native.Nat.{ℕ, zero, suc, _+_, _*_, _/_, _%_, _≤_, _<_, max}
-use native.Mathlib.Nat.{add-zero, zero-add}
-use native.Mathlib.Omega.{arith}
 use mathlib.Core.Path.{_≡_, refl, ap, sym, subst, _∙_}
 use mathlib.Core.Bool.{Bool, true, false, cond, not, _||_}
 use mathlib.Core.List.{List, [], _∷_, _++_, append-assoc, append-nil}
-use lib.Dec.{eqb, ltb}
-use lib.ListN.{length}
+use lib.{Dec.eqb, Dec.ltb, ListN.length}
 use borrow.Author.Tests.{eqb-true, ltb-false}
 use Rattle.model.specs.declared.Form.{Form}
 use Rattle.model.specs.Records.{Rec, IF, WHILE, TIMES, kindAt, recordAt, records, bytes}
@@ -15,8 +12,6 @@ use Rattle.model.specs.Trees.{size, depth, testRec, skipRec, actRec, els
 use Rattle.model.specs.Refusals.{maxRecords, maxDepth, kindFits, fieldsFit, Open, first, second, loop, Nesting, misplaced, inside, nest}
 use Rattle.model.specs.Refusals.{sound, faulty, deeper, scan, fault}
 use Rattle.model.proofs.Bytes.{Bytes, bytes-records, length-records, recordsAt, recordsAt-suc, records-at}
-use Rattle.model.proofs.Trees.{length-linearise, treeOf-linearise}
-use Rattle.model.proofs.Stands.{At, begins}
 use Rattle.model.proofs.Shapes.{by-act, Fit, Shape, is-skip, is-act, is-if, is-while, is-times, is-else, is-end, shape}
 
 -- BLOCKS
@@ -145,10 +140,8 @@ turn : (f : Form) (m : ℕ) (os next : List Open) (r : Rec) (rs : List Rec) → 
     → nest (r .kind) os ≡ inside next → Parsed f m next rs → Parsed f m os (r ∷ rs)
 unfolding linearise
 turn f m os next r rs (is-skip n) fit l e p = skip-turn f m os rs n fit (reopen f m os next rs e p)
-turn f m os next r rs (is-act a) fit l e p =
-    act-turn f m os rs a fit (reopen f m os next rs (sym (nest-act a os) ∙ e) p)
-turn f m os next r rs (is-if q) fit l e p =
-    if-turn f m os rs q fit (reopen f m (first ∷ os) next rs e p)
+turn f m os next r rs (is-act a) fit l e p = act-turn f m os rs a fit (reopen f m os next rs (sym (nest-act a os) ∙ e) p)
+turn f m os next r rs (is-if q) fit l e p = if-turn f m os rs q fit (reopen f m (first ∷ os) next rs e p)
 turn f m os next r rs (is-while q n) fit l e p =
     loop-turn f m os rs (while q n) (testRec WHILE q n) (λ a b. refl) (λ a b. refl) (λ a b x y. (fit, x, y))
     (reopen f m (loop ∷ os) next rs e p)

@@ -4,15 +4,11 @@ use native.Mathlib.Omega.{arith}
 use mathlib.Core.Path.{_≡_, refl, ap, subst, _∙_}
 use mathlib.Core.Bool.{Bool, true, false, cond}
 use mathlib.Core.List.{List, [], _++_}
-use lib.Dec.{eqb}
-use lib.ListN.{length, length-append}
+use lib.{Dec.eqb, ListN.length, ListN.length-append}
 use borrow.Author.Tests.{eq-eqb, ne-eqb}
 use Rattle.model.specs.declared.Settings.{Settings}
 use Rattle.model.specs.Records.{Rec, rec, recordBytes, bytes, BEAT, over}
 use Rattle.model.specs.Trees.{beat, save, Block, nil, skip, act, actRec, size, linearise}
-use Rattle.model.specs.Equalising.{merge}
-use Rattle.model.specs.Layout.{commands, before}
-use Rattle.model.specs.Times.{longest}
 use Rattle.records.specs.Blocks.{blockBytes, skipRecords, skipBytes, Wrote}
 use Rattle.records.proofs.Blocks.{length-block, waiting-bytes}
 use Rattle.records.proofs.Over.{Part, lent, back, part-first, part-end, part-last}
@@ -20,10 +16,7 @@ use Rattle.placing.specs.declared.clock.State.{State}
 use Rattle.placing.specs.Merging.{settled, waits}
 use Rattle.placing.specs.States.{Laying, After, backTo}
 use Rattle.placing.specs.Placed.{bytesOf, Lays, Closed}
-use Rattle.placing.proofs.Settling.{size-merge}
-use Rattle.placing.proofs.Moves.{shows-on}
 use Rattle.placing.proofs.Ticking.{commands-due, before-waits, before-none}
-use Rattle.placing.proofs.Writing.{laidBytes}
 
 -- COMMANDS
 

@@ -1,9 +1,6 @@
 -- Calls one after another, up to the first that refuses.
 use Prim.Native.Nat.{ℕ}
 use native.Mathlib.Omega.{arith}
-use mathlib.Core.Path.{_≡_, refl}
-use mathlib.Core.Bool.{true}
-use mathlib.Core.List.{List}
 use Rattle.model.specs.declared.Refusal.{Refusal}
 use Rattle.model.specs.Answers.{Verdict, finished, refused, refusal, andThen, isFinished}
 

@@ -8,15 +8,10 @@ use lib.ListN.{length, getD, take}
 use borrow.Author.Tests.{le-ltb}
 use Rattle.model.specs.declared.Refusal.{Refusal}
 use Rattle.model.specs.declared.Form.the-variants.{Task}
-use Rattle.model.specs.Settings.{settingsOf, badSettings}
-use Rattle.model.specs.Trees.{size, fileTree}
 use Rattle.model.specs.Refusals.{Fault, sound, faulty, fault}
 use Rattle.model.specs.Answers.{Verdict, finished, refusal, valueAt}
-use Rattle.model.specs.Limits.{fileLength}
 use Rattle.model.specs.Replies.{reading, equalisedTree, equaliseReply, equaliseOut, layOutReply, layOutOut, equalisedOf, prepareReply, prepareOut}
 use Rattle.model.proofs.Sound.{sound-file}
-use Rattle.theory.proofs.Accepted.{equalise-accepted}
-use Rattle.theory.proofs.Files.{equalised-file}
 use Rattle.equaliser.proofs.Merged.{equalise-padded, padded-small}
 use Rattle.preparation.proofs.Chaining.{refused-first}
 

@@ -1,19 +1,8 @@
 -- The lines of the records one by one, and the text of what is printed.
 use Prim.Native.Nat.{ℕ, zero, suc, _+_, _/_, _≤_, _<_}
-use native.Mathlib.Nat.{add-zero, zero-add}
-use native.Mathlib.Numerals.{add-one}
-use native.Mathlib.Omega.{arith}
 use mathlib.Core.Path.{_≡_, ap, sym, subst, _∙_}
 use mathlib.Core.List.{List, [], _∷_, _++_, append-assoc, append-nil}
 use lib.ListN.{length, getD, replicate, length-append, length-replicate}
-use Rattle.model.specs.declared.Line.{Line}
-use Rattle.model.specs.declared.Shown.{Shown}
-use Rattle.model.specs.declared.Refusal.{Refusal}
-use Rattle.model.specs.declared.LaidOut.{LaidOut}
-use Rattle.model.specs.Records.{recordAt, over}
-use Rattle.model.specs.Answers.{row, laidOut}
-use Rattle.model.specs.Limits.{fileLength}
-use Rattle.model.specs.Replies.{prepareReply, prepareOut}
 use Rattle.model.specs.Listing.{lineOf, lineAt, listStarts, ascii, decimal, lineText, linesText, listed, turnedDown, printed, printedText}
 use Rattle.listing.proofs.LineLaws.{at-most-four, line-there}
 use Rattle.listing.specs.Lines.{linesIn}
@@ -63,8 +52,7 @@ module _ (laid table : List ℕ) (i : ℕ) where
 
 pub text-of-refusal : (s task : List ℕ) (x : Refusal) {r : LaidOut} → r ≡ LaidOut.Refused x → laidOut r ≡ prepareReply s task fileLength
     → printedText (turnedDown (row x .0)) ≡ printedText (printed s task)
-text-of-refusal s task x e f =
-    ap printedText (sym (printed-refused s task x (sym (ap laidOut e) ∙ f)))
+text-of-refusal s task x e f = ap printedText (sym (printed-refused s task x (sym (ap laidOut e) ∙ f)))
 
 pub put-refused : {n k i j r : ℕ} {a b d f : List ℕ} → k ≡ n → Put (ascii "refused ") 0 a b i → Put (decimal k) i b d j × (j ≤ i + 10)
     → Put (ascii "\n") j d f r → Put (printedText (turnedDown n)) 0 a f r × (r ≤ 64)

@@ -4,23 +4,14 @@ use native.Mathlib.Omega.{arith}
 use mathlib.Core.Path.{_≡_, ap, sym}
 use mathlib.Core.Bool.{Bool, true, false, not, _||_}
 use mathlib.Core.List.{List, [], _∷_}
-use lib.Dec.{leb}
-use lib.ListN.{getD}
+use lib.{Dec.leb, ListN.getD}
 use borrow.Author.Tests.{ltb-false, leb-false, not-false}
 use Rattle.model.specs.declared.Form.{Form}
-use Rattle.model.specs.Settings.{settingsOf}
-use Rattle.model.specs.Trees.{fileTree}
-use Rattle.model.specs.Times.{time}
 use Rattle.model.specs.Runs.{Step, duration, overran}
 use Rattle.model.specs.Stopping.{Image, imageOf, start, rest, takeUp}
-use Rattle.model.specs.Refusals.{sound, fault}
 use Rattle.model.specs.Answers.{Verdict, finished, bit}
-use Rattle.model.specs.Limits.{fileLength}
 use Rattle.model.specs.Replies.{turnDown, above, fileTime, timeReply, equaliseReply, layOutReply, equalisedOf, prepareReply}
 use Rattle.model.specs.Replies.{Loan, badBuffers, badImageLength, ready, ended, stepsOf, runReply, stopReply, imageAt, isSaved, takenUp, afterSave, strayImage, resumeReply, restartReply}
-use Rattle.theory.proofs.Within.{run-within}
-use Rattle.theory.proofs.Left.{rest-0}
-use Rattle.theory.proofs.Reached.{rest-reached}
 use Rattle.theory.proofs.Accepted.{neither, passed, read, in-range, equalise-accepted, lay-out-accepted}
 use Rattle.preparation.proofs.Chaining.{second-done}
 use Rattle.machine.proofs.Positions.{rest-shorter}

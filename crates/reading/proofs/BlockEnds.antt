@@ -2,15 +2,10 @@
 use Prim.Native.Nat.{ℕ, suc, _+_, _-_, _<_}
 use native.Mathlib.Omega.{arith}
 use mathlib.Core.Path.{_≡_, refl, ap, _∙_}
-use mathlib.Core.Bool.{true}
-use mathlib.Core.Logic.{⊎-elim}
-use mathlib.Core.List.{List}
 use lib.Dec.{eqb}
 use borrow.Author.Tests.{eqb-true, ne-eqb}
 use Rattle.model.specs.Records.{Rec, kindAt, recordAt, ELSE, WHILE, END, TIMES}
 use Rattle.model.specs.Trees.{Test, Act, Block, nil, skip, act, branch, while, times, size, actRec}
-use Rattle.model.proofs.Shapes.{by-act, or-cases}
-use Rattle.model.proofs.Stands.{At, LoopAt}
 use Rattle.reading.specs.Closing.{Pass, Ends, On, closesBlock, passTo, goOn, closingIn}
 
 -- what a record at i makes of the count is a matter of its kind
@@ -69,8 +64,7 @@ through-one s b next m l i n p B e =
 through : (s : List ℕ) (b : Block) → Through s b
 through s nil m l i n at e = ap (λ (k : ℕ). closingIn s k i n) (omega arith) ∙ same s l i (i + 0) n (omega arith)
 through s (skip c b) m l i n at e = through-one s b (λ m l i n. through s b m l i n) m l i n (passes s i n (at .0)) (at .1) e
-through s (act p b) m l i n at e =
-    through-one s b (λ m l i n. through s b m l i n) m l i n (passes s i n (at .0) ∙ pass-act p n) (at .1) e
+through s (act p b) m l i n at e = through-one s b (λ m l i n. through s b m l i n) m l i n (passes s i n (at .0) ∙ pass-act p n) (at .1) e
 through s (branch q a d b) m l i n at e =
     let z = size b + l in
     let y = size d + suc z in

@@ -4,21 +4,13 @@ use native.Mathlib.Omega.{arith}
 use mathlib.Core.Path.{_≡_, refl, sym, subst, _∙_}
 use mathlib.Core.Bool.{Bool, true, false}
 use mathlib.Core.List.{List, []}
-use Rattle.model.specs.declared.Form.{Form}
-use Rattle.model.specs.declared.Settings.{Settings}
-use Rattle.model.specs.declared.Refusal.{Refusal}
-use Rattle.model.specs.Limits.{mostTicks}
-use Rattle.model.specs.Settings.{badSettings}
 use Rattle.model.specs.Refusals.{Fault, sound, faulty, fault}
-use Rattle.model.specs.Answers.{Verdict, finished}
 use Rattle.model.specs.Replies.{turnDown, unless, reading}
 use Rattle.records.specs.declared.settings.Decoded.{Decoded}
 use Rattle.records.specs.Decoded.{Decodes}
 use Rattle.reading.specs.declared.Checked.the-variants.{Valid, Refused}
 use Rattle.reading.specs.declared.scan.Scanned.{Scanned}
 use Rattle.reading.specs.declared.scan.Scanned.the-variants.{Sound}
-use Rattle.reading.specs.Scanning.{scanned, Scans}
-use Rattle.reading.specs.Answers.{Reads}
 
 -- what is refused was not read
 pub none : {A : Type 0} (x : Refusal) (σ : Settings) → Refused x ≡ Valid σ → A

@@ -1,13 +1,10 @@
 -- What a record makes of the open blocks, held as two numbers.
 use Prim.Native.Nat.{ℕ, _+_, _*_, _-_, _/_, _%_, _^_, _≤_, _<_}
-use native.Mathlib.Omega.{arith}
-use native.Mathlib.Nat.{two-pow-succ}
 use mathlib.Core.Path.{_≡_, refl, ap, ap₂}
 use mathlib.Core.List.{List, [], _∷_}
 use mathlib.Core.Logic.{_⊎_, inl, inr}
 use borrow.Author.Tests.{ne-eqb}
-use lib.ListN.{length}
-use lib.Pow.{pow-mono}
+use lib.{ListN.length, Pow.pow-mono}
 use Rattle.model.specs.Records.{IF, ELSE, WHILE, END, TIMES}
 use Rattle.model.specs.Refusals.{Open, first, second, loop, afterElse, afterEnd, nest}
 use Rattle.reading.specs.Nesting.{waits, bits, blocks, nested}

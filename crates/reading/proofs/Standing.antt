@@ -4,8 +4,7 @@ use native.Mathlib.Omega.{arith}
 use mathlib.Core.Path.{_≡_, refl, ap, sym, subst, _∙_}
 use mathlib.Core.Bool.{Bool, true, false}
 use mathlib.Core.List.{List}
-use lib.Dec.{ltb}
-use lib.ListN.{length}
+use lib.{Dec.ltb, ListN.length}
 use borrow.Author.Tests.{ltb-true, ltb-false}
 use Rattle.model.specs.declared.Form.{Form}
 use Rattle.model.specs.Records.{Rec, kindAt, recordAt}
@@ -13,8 +12,6 @@ use Rattle.model.specs.Trees.{Test, Block, nil, skip, act, branch, while, times
 use Rattle.model.proofs.Stands.{At, LoopAt, stands-once as one-stands}
 use Rattle.model.proofs.Sound.{OfForm, sound-file}
 use Rattle.reading.specs.Closing.{opensBlock, closesBlock, closingIn}
-use Rattle.reading.specs.Walks.{OpenAt}
-use Rattle.reading.specs.Ranges.{SoundFile, Stands}
 use Rattle.reading.proofs.BlockEnds.{found, ends-block, ran-out}
 use Rattle.reading.proofs.FirstKinds.{kind-is, act-opens, shut}
 use Rattle.reading.proofs.Filled.{fills-none}

@@ -4,16 +4,10 @@ use mathlib.Core.Path.{_≡_, refl, sym, ap₂, subst, _∙_}
 use mathlib.Core.Logic.{_↔_}
 use mathlib.Core.Bool.{Bool, true, false, not, Bool·beq, false≢true, and-false, and-eq-true-iff, _&&_}
 use mathlib.Core.List.{List, [], _∷_}
-use native.Mathlib.Numerals.{add-one}
-use native.Mathlib.Omega.{arith}
-use lib.Dec.{eqb}
+use lib.{Dec.eqb, Seq.drop-cons}
 use lib.ListN.{length, getD, drop, drop-of-length-le}
-use lib.Seq.{drop-cons}
 use borrow.Author.Tests.{eqb-true, eq-eqb, ne-eqb, not-true, not-false}
-use Rattle.model.specs.Answers.{bit}
-use Rattle.model.specs.Chain.{End}
 use Rattle.rehearsal.specs.declared.ends.Final.{Final}
-use Rattle.model.specs.Rehearsal.{sameList, sameEnd}
 use Rattle.rehearsal.specs.Contracts.{endIn}
 
 -- ELEMENT BY ELEMENT

@@ -4,14 +4,9 @@ use mathlib.Core.Path.{_≡_, ap, ap₂, sym, _∙_}
 use mathlib.Core.Bool.{Bool}
 use mathlib.Core.List.{List, [], _∷_}
 use lib.ListN.{replicate}
-use Rattle.model.specs.declared.Refusal.{Refusal}
-use Rattle.model.specs.declared.Ran.{Ran}
-use Rattle.model.specs.Runs.{Buffers}
 use Rattle.model.specs.Answers.{Verdict, finished, bit, refusal, ran, andThen}
 use Rattle.model.specs.Replies.{Loan, runReply, runBuffers}
 use Rattle.model.specs.Chain.{End, endOf, runEnd}
-use Rattle.model.specs.declared.Stop.{Stop}
-use Rattle.model.specs.Rehearsal.{wholeOf, stoppedOf}
 use Rattle.rehearsal.specs.Contracts.{secondOf}
 use Rattle.preparation.proofs.Chaining.{refused-first}
 

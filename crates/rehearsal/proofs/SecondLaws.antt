@@ -4,15 +4,8 @@ use native.Mathlib.Nat.{sub-zero}
 use mathlib.Core.Path.{_≡_, ap, ap₂, sym, subst, _∙_}
 use mathlib.Core.Bool.{Bool, true, false, cond}
 use mathlib.Core.List.{List, [], _∷_}
-use lib.Dec.{eqb}
-use lib.ListN.{length, replicate}
+use lib.{Dec.eqb, ListN.length, ListN.replicate}
 use Rattle.model.specs.declared.Form.the-variants.{Laid}
-use Rattle.model.specs.declared.Refusal.{Refusal}
-use Rattle.model.specs.declared.Ran.{Ran}
-use Rattle.model.specs.declared.Stopped.{Stopped}
-use Rattle.model.specs.Records.{wordAt}
-use Rattle.model.specs.Runs.{Buffers}
-use Rattle.model.specs.Stopping.{imageOf}
 use Rattle.model.specs.Answers.{Verdict, finished, bit, refusal, ran, stopped, andThen, valueAt}
 use Rattle.model.specs.Replies.{Loan, runReply, runBuffers, stopReply, stopBuffers, stopImage, resumeReply, resumeBuffers, restartReply, restartBuffers, buffersOf}
 use Rattle.model.specs.Chain.{Outputs, lend, End, endOf}

@@ -25,7 +25,7 @@ use model::limits::PORTS;
 use model::limits::VARIABLES;
 use records::words::copy;
 use records::words::word_at;
-use timing::ticks::beyond;
+use timing::ticks::excess;
 
 // What a stop left for the run that is taken up.
 pub struct Left {
@@ -124,7 +124,7 @@ fn resumed(
                 stop,
                 saved: true,
                 image: tick,
-                twice: beyond(stop, tick),
+                twice: excess(stop, tick),
             }
         }
     }

@@ -4,15 +4,10 @@ use mathlib.Core.Bool.{true, false}
 use mathlib.Core.List.{List, [], _∷_}
 use Prim.Native.Nat.{ℕ, _*_, _-_, _≤_}
 use native.Mathlib.Omega.{arith}
-use lib.Dec.{eqb}
+use lib.{Dec.eqb, Seq.getD-drop, Seq.take-all}
 use lib.ListN.{length, getD, drop, length-drop, List·getD-eq-default}
-use lib.Seq.{getD-drop, take-all}
 use borrow.Author.Tests.{eq-eqb, ne-eqb}
-use Rattle.model.specs.Replies.{afterSave}
-use Rattle.model.specs.Stopping.{words, imageBytes}
 use Rattle.records.proofs.Over.{lent}
-use Rattle.stepping.specs.Machines.{held}
-use Rattle.stepping.specs.Buffers.{StoredImage}
 
 -- AN IMAGE
 

@@ -1,12 +1,10 @@
 -- Tests, operations, fields that fit, and what a record does.
 use Prim.Native.Nat.{ℕ, zero, suc, _+_, _*_, _/_, _%_, _^_, _≤_, _<_}
-use native.Mathlib.Omega.{arith}
 use mathlib.Core.Path.{_≡_, refl, sym, subst}
 use mathlib.Core.Bool.{Bool, true, false, cond, not, _&&_}
 use mathlib.Core.List.{List, [], _∷_}
 use lib.Dec.{eqb, leb, ltb}
 use lib.ListN.{getD}
-use native.Mathlib.Nat.{lt-of-not-le}
 use borrow.Author.Tests.{ltb-true, ltb-false, leb-true, eqb-true, eqb-false, le-leb, lt-leb, le-ltb, lt-ltb, ne-eqb}
 use Rattle.model.specs.Records.{Rec, rec, SET, READ, WRITE, CHECK, BEAT, SAVE}
 use Rattle.model.specs.Refusals.{variable, port, unused, opFits, setFits, testFits, fieldsFit}

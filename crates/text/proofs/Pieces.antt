@@ -1,7 +1,5 @@
 -- Pieces of text one behind the other, and how long they can be.
 use Prim.Native.Nat.{ℕ, _+_, _≤_, _<_}
-use native.Mathlib.Numerals.{add-one}
-use native.Mathlib.Omega.{arith}
 use mathlib.Core.Path.{_≡_, refl, sym, ap, subst, _∙_}
 use mathlib.Core.Logic.{_≢_}
 use mathlib.Core.List.{List, [], _∷_, _++_, append-assoc, append-nil}
@@ -9,8 +7,6 @@ use lib.ListN.{length, take, drop, getD, length-append}
 use lib.Seq.{take-suc, take-length}
 use borrow.Author.Tests.{ne-eqb}
 use Rattle.model.specs.Listing.{ascii, name, decimal, spaced}
-use Rattle.records.proofs.Over.{lent, back}
-use Rattle.records.proofs.Stores.{stored-on, stored-lent}
 use Rattle.text.specs.Pieces.{Put}
 
 pub put-same : {a b old new : List ℕ} {at r : ℕ} → a ≡ b → Put a at old new r → Put b at old new r
@@ -19,11 +15,7 @@ put-same {old = old} {new = new} {at = at} {r = r} e p = subst (λ (t : List ℕ
 -- copied into the rest of the page
 pub put-copied : (a old : List ℕ) (at : ℕ) {ys : List ℕ} {n : ℕ} → at + length a ≤ length old → n ≡ length a
     → ys ≡ take (length a) a ++ drop (length a) (lent old at) → Put a at old (back old at ys) (at + n)
-put-copied a old at h en e =
-    record {
-      page = stored-lent old at a h (e ∙ rw take-length);
-      ends = ap (λ (k : ℕ). at + k) en;
-    }
+put-copied a old at h en e = record { page = stored-lent old at a h (e ∙ rw take-length); ends = ap (λ (k : ℕ). at + k) en }
 
 -- nothing
 pub put-none : (old : List ℕ) (at : ℕ) → Put [] at old old at
@@ -32,10 +24,7 @@ put-none old at = record { page = refl; ends = omega arith }
 -- one piece behind another
 pub put-then : {a b old mid new : List ℕ} {at j r : ℕ} → Put a at old mid j → Put b j mid new r → Put (a ++ b) at old new r
 put-then {a} {b} {old} {at = at} p q =
-    record {
-      page = stored-on old at a b (p .page) (sym (p .ends)) (q .page);
-      ends = omega (arith, p .ends, q .ends, length-append a b);
-    }
+    record { page = stored-on old at a b (p .page) (sym (p .ends)) (q .page); ends = omega (arith, p .ends, q .ends, length-append a b) }
 
 spaced-last : (ns : List ℕ) (n : ℕ) → spaced (ns ++ n ∷ []) ≡ spaced ns ++ ascii " " ++ decimal n
 spaced-last [] n = append-nil (ascii " " ++ decimal n)

@@ -7,20 +7,13 @@ use mathlib.Core.List.{List, [], _∷_}
 use lib.Dec.{eqb, leb, ltb}
 use lib.ListN.{length}
 use borrow.Author.Tests.{not-false, leb-false, eqb-true, eqb-false, ltb-false, le-ltb}
-use Rattle.model.specs.Limits.{fileRecords, imageLength}
-use Rattle.model.specs.declared.Settings.{Settings}
-use Rattle.model.specs.declared.Form.{Form}
 use Rattle.model.specs.declared.Form.the-variants.{Task, Equalised}
 use Rattle.model.specs.Settings.{settingsOf, outOfRange, badSettings}
 use Rattle.model.specs.Trees.{Block, size, fileTree}
-use Rattle.model.specs.Times.{time, longest}
-use Rattle.model.specs.Runs.{duration}
 use Rattle.model.specs.Refusals.{Fault, sound, faulty, fault}
 use Rattle.model.specs.Answers.{Verdict, finished, bit}
 use Rattle.model.specs.Replies.{turnDown, unless, reading, shortWindow, above, noRoom, fileTime, timeReply}
 use Rattle.model.specs.Replies.{equalisedTree, equaliseReply, laidTree, laidTotal, layOutReply, Loan, badBuffers, badImageLength, ready, stepsOf, imageAt, isSaved, stopReply}
-use Rattle.model.specs.Chain.{Outputs, lend}
-use Rattle.model.specs.Placement.{Positive, Fits}
 
 -- ROWS
 

@@ -5,10 +5,8 @@ use mathlib.Core.Bool.{Bool, true, false}
 use mathlib.Core.List.{List, []}
 use Rattle.model.specs.declared.Settings.{Settings}
 use Rattle.model.specs.Trees.{Test, check, Block, nil, skip, act, branch, while, times, _⧺_, size}
-use Rattle.model.specs.Times.{ticks, time}
 use Rattle.model.specs.Runs.{nothing, holds, lastTest, effect, Run, _⊳_, single, choose, spin, rounds, run}
 use Rattle.model.specs.Equalising.{pad, F, waiting, merge, equalise}
-use Rattle.model.specs.Layout.{copies, unroll}
 use Rattle.theory.proofs.Sequences.{⊳-assoc, ⊳-nil, run-⧺}
 use Rattle.theory.proofs.Views.{see, Alike, alike-refl, alike-sym, alike-trans, alike-eq, alike-⊳, alike-single, alike-choose, alike-rounds, alike-spin}
 use Rattle.theory.proofs.Traces.{traced, silent-behind}

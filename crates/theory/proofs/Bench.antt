@@ -1,17 +1,12 @@
 -- The lettered bench tasks A to K give what document 01 says, and demand 3 applies to task K: its conditions hold there. The list and the
 -- computation stand in `model`, so that edits of the definitions there are tried against them.
 use native.Mathlib.Omega.{arith}
-use mathlib.Core.Path.{_≡_, refl}
-use mathlib.Core.Bool.{true}
 use Rattle.model.specs.Records.{firstRecords, records, bytes}
-use Rattle.model.specs.Settings.{settingsOf, badSettings}
 use Rattle.model.specs.Trees.{linearise, stackOf, treeOf, fileTree}
 use Rattle.model.specs.Runs.{holds, result, effect}
-use Rattle.model.specs.Equalising.{equalise}
 use Rattle.model.specs.Layout.{before, lastValue, layout, total}
 use Rattle.model.specs.Refusals.{fieldsFit, scan, fault}
 use Rattle.model.specs.Replies.{reading, equalisedTree, equaliseReply, equaliseOut, laidTree, layOutReply, layOutOut, ready, stepsOf, runReply}
-use Rattle.model.specs.Answers.{isFinished, valueAt}
 use Rattle.model.specs.Chain.{Chain, Lent, equalising, layingOut, wholeLoan}
 use Rattle.model.proofs.Bench.{lettered, Holds, bench, settings, factorial, chain}
 use Rattle.theory.specs.Demand3.{StopUnseen}

@@ -9,16 +9,8 @@ use borrow.Author.Tests.{ne-eqb}
 use Rattle.model.specs.declared.Settings.{Settings}
 use Rattle.model.specs.Records.{Rec, kindAt, recordAt, bytes, SAVE}
 use Rattle.model.specs.Trees.{Act, set, read, write, check, beat, save, Block, nil, skip, act, branch, while, times, size, actRec, linearise}
-use Rattle.model.specs.Times.{ticks}
 use Rattle.model.specs.Runs.{Effect, nothing, overruns, isSave, Step, duration, onVariables, variablesAfter, holds, effect, Run, _⊳_, run}
 use Rattle.model.specs.Stopping.{upto, Image, none, saved, lastImage}
-use Rattle.model.specs.Placement.{LoopFree}
-use Rattle.model.specs.Replies.{afterSave}
-use Rattle.model.proofs.Bytes.{records-bytes, records-at}
-use Rattle.model.proofs.Stands.{At, begins}
-use Rattle.theory.proofs.Sequences.{duration-++, either}
-use Rattle.theory.proofs.Stops.{beyond, upto-within}
-use Rattle.theory.proofs.Outputs.{length-variables}
 use Rattle.theory.proofs.Every.{Every, every-at, every-nil, every-single, every-choose}
 use Rattle.theory.proofs.LastImage.{Made, made, made-within}
 

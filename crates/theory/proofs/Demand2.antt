@@ -5,26 +5,16 @@ use mathlib.Core.List.{List, [], _∷_}
 use lib.ListN.{length}
 use Rattle.model.specs.declared.Settings.{Settings}
 use Rattle.model.specs.declared.Form.the-variants.{Task, Equalised, Laid}
-use Rattle.model.specs.Records.{bytes}
-use Rattle.model.specs.Settings.{settingsOf}
 use Rattle.model.specs.Trees.{Block, linearise, fileTree}
 use Rattle.model.specs.Runs.{Step, duration, leave, cleared, run}
 use Rattle.model.specs.Equalising.{F, merge, equalise}
-use Rattle.model.specs.Layout.{layout, total}
 use Rattle.model.specs.Stopping.{upto, none, lastImage}
-use Rattle.model.specs.Answers.{finished}
 use Rattle.model.specs.Replies.{savedAt, fileTime, equalisedTree, equaliseReply, laidTree, laidTotal, layOutReply}
 use Rattle.model.specs.Replies.{Loan, stepsOf, imageAt, stopReply, stopBuffers, imageOver, stopImage}
-use Rattle.model.specs.Placement.{Fits}
 use Rattle.model.specs.Chain.{Outputs, lend, takenUpSteps, imageTick}
-use Rattle.model.proofs.Sound.{OfForm, sound-file}
-use Rattle.model.proofs.Passes.{length-file}
-use Rattle.theory.proofs.Times.{time-equalise}
-use Rattle.theory.proofs.Lasts.{equalised-lasts}
 use Rattle.theory.proofs.Laid.{time-laid, placed-laid, total-longer, last-start, laid-lasts}
 use Rattle.theory.proofs.LaidRuns.{Total, LaidFrom, laid-beats, whole-starts, whole-values, whole-saves, cut-values, cut-saves}
 use Rattle.theory.proofs.LaidRuns.{save-follows, no-crossing, laid-total, loop-free, laid-whole}
-use Rattle.theory.proofs.TakenUp.{laid-again}
 use Rattle.theory.proofs.Stops.{beyond, upto-beyond, upto-only, upto-all, upto-ended}
 use Rattle.theory.proofs.Accepted.{equalise-accepted, lay-out-accepted, Runnable, timed, stop-accepted}
 use Rattle.theory.proofs.Files.{task-runnable, equalised-runnable, equalised-written, laid-runnable, laid-written}

@@ -2,31 +2,16 @@
 use Prim.Native.Nat.{ℕ, _+_, _*_, _-_, _≤_, _<_}
 use native.Mathlib.Omega.{arith}
 use mathlib.Core.Path.{_≡_, ap, ap₂, sym, _∙_, subst}
-use mathlib.Core.Bool.{true, false}
-use mathlib.Core.List.{List}
 use lib.ListN.{replicate}
 use Rattle.model.specs.declared.Form.{Form}
 use Rattle.model.specs.declared.Form.the-variants.{Task, Laid}
-use Rattle.model.specs.Settings.{settingsOf}
-use Rattle.model.specs.Trees.{Block, fileTree}
 use Rattle.model.specs.Runs.{Step, duration, level, mark, run}
-use Rattle.model.specs.Equalising.{equalise}
-use Rattle.model.specs.Layout.{layout}
-use Rattle.model.specs.Stopping.{upto, none}
 use Rattle.model.specs.Replies.{savedAt, Loan, badBuffers, stepsOf, runReply, stopReply, ended}
-use Rattle.model.specs.Timeline.{endedBy, lastSaveEnd}
-use Rattle.model.specs.Answers.{isFinished, valueAt}
 use Rattle.model.specs.Chain.{Set, Outputs, Chain, LentSet, LentOutputs, Lent, equalising, layingOut, laidFile, lend, plainLoan, preparedLoan, wholeLoan, stoppedLoan}
 use Rattle.model.specs.Chain.{takingUp, imageTick, runTwice, End, endOf, runEnd, plainEndTwo, wholeEnd, stoppedEnd}
 use Rattle.theory.proofs.Views.{see, same-variables, same-outputs, same-overran}
-use Rattle.theory.proofs.Traces.{traced}
-use Rattle.theory.proofs.Twice.{saved-tick}
-use Rattle.theory.proofs.Stops.{upto-ended}
-use Rattle.theory.proofs.Accepted.{Runnable}
-use Rattle.theory.proofs.Files.{fileOf}
 use Rattle.theory.proofs.Running.{LentLengths, lengths-good, steps, run-answer, run-leaves, stop-answer}
 use Rattle.theory.proofs.StoppedOnce.{endFrom, EndsAs, ends-alike, soon, image-early}
-use Rattle.theory.proofs.Prepared.{Prepared, prepared}
 
 -- equal traces lead to equal ends
 same-end : (es fs : List Step) (v : List ℕ) → see traced es ≡ see traced fs → endFrom es v ≡ endFrom fs v

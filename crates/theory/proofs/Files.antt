@@ -6,15 +6,11 @@ use mathlib.Core.List.{List, [], _∷_}
 use lib.ListN.{length, take, drop}
 use lib.Seq.{take-append-seam}
 use Rattle.model.specs.declared.Form.the-variants.{Task, Equalised, Laid}
-use Rattle.model.specs.Records.{bytes, over}
-use Rattle.model.specs.Settings.{settingsOf}
 use Rattle.model.specs.Trees.{Block, size, linearise, fileTree}
 use Rattle.model.specs.Answers.{Verdict, finished, kept, valueAt}
 use Rattle.model.specs.Replies.{fileTime, equalisedTree, equaliseReply, equaliseOut, laidTree, laidTotal, layOutReply, layOutOut}
 use Rattle.model.proofs.Sound.{OfForm, Sound, sound-file}
 use Rattle.model.proofs.Passes.{passes, tree-back, length-file}
-use Rattle.theory.proofs.Times.{time-equalise}
-use Rattle.theory.proofs.Forms.{equalised-of-form, depth-equalise}
 use Rattle.theory.proofs.Laid.{time-laid, laid-of-form, depth-laid}
 use Rattle.theory.proofs.Accepted.{EqualiseAccepted, equalise-accepted, LayOutAccepted, lay-out-accepted, Runnable}
 
@@ -25,8 +21,7 @@ fileOf b = bytes (linearise b)
 -- what an answer says was written, of a result b in a lent buffer
 file-in : (r : Verdict) (b : Block) (out xs : List ℕ) (t : ℕ) → r ≡ finished xs → 12 * size b ∷ t ∷ [] ≡ xs
     → take (valueAt 0 r) (kept r (over (fileOf b) out) out) ≡ fileOf b
-file-in r b out xs t e a =
-    rw (e, ← a, ← length-file b) (take-append-seam (fileOf b) (drop (length (fileOf b)) out))
+file-in r b out xs t e a = rw (e, ← a, ← length-file b) (take-append-seam (fileOf b) (drop (length (fileOf b)) out))
 
 -- EQUALISED
 

@@ -1,12 +1,6 @@
 -- Equalising a task writes records of an equalised file, and nests at most twice as deep.
 use Prim.Native.Nat.{ℕ, zero, suc, _+_, _*_, _≤_, max}
-use native.Mathlib.Nat.{mul-le-mul-right}
-use native.Mathlib.Omega.{arith}
-use mathlib.Core.Path.{_≡_, refl}
-use mathlib.Core.Bool.{true, _&&_}
 use borrow.Author.Tests.{le-leb}
-use Rattle.model.specs.declared.Settings.{Settings}
-use Rattle.model.specs.declared.Form.{Form}
 use Rattle.model.specs.declared.Form.the-variants.{Task, Equalised, Laid}
 use Rattle.model.specs.Records.{SKIP, IF, WHILE, TIMES}
 use Rattle.model.specs.Trees.{Test, Act, set, read, write, check, beat, save, Block, nil, skip, act, branch, while, times, _⧺_}
@@ -54,15 +48,13 @@ skip-kind Laid = refl
 
 -- a body takes no longer than its loop's rounds
 one-round : (q : Test) (n t : ℕ) → (testFits (testRec WHILE q n) && between 1 65535 n) ≡ true → t ≤ n * t
-one-round q n t h =
-    omega (arith, mul-le-mul-right t (within 1 65535 n (and-right (testFits (testRec WHILE q n)) (between 1 65535 n) h) .0))
+one-round q n t h = omega (arith, mul-le-mul-right t (within 1 65535 n (and-right (testFits (testRec WHILE q n)) (between 1 65535 n) h) .0))
 
 module _ (f : Form) where
   waiting-of-form : (n : ℕ) (b : Block) → n ≤ 1000000 → OfForm f b → OfForm f (waiting n b)
   unfolding fieldsFit
   waiting-of-form zero b l p = p
-  waiting-of-form (suc n) b l p =
-      (record { kind = skip-kind f; fields = rw (le-leb 1 (suc n) (omega arith), le-leb (suc n) 1000000 l) }, p)
+  waiting-of-form (suc n) b l p = (record { kind = skip-kind f; fields = rw (le-leb 1 (suc n) (omega arith), le-leb (suc n) 1000000 l) }, p)
 
   -- with n ticks of SKIP before it
   merged : (σ : Settings) (b : Block) (n : ℕ) → Formed f b → n + time σ b ≤ 1000000 → OfForm f (merge n b)

@@ -3,29 +3,17 @@ use Prim.Native.Nat.{ℕ, zero, suc, _+_, _-_, _%_, _≤_}
 use native.Mathlib.Omega.{arith}
 use native.Mathlib.Nat.{div-eq-of-lt, div-le-of-le-mul, mul-le-mul-right}
 use mathlib.Core.Path.{_≡_, refl, ap, _∙_}
-use mathlib.Core.Bool.{false}
-use mathlib.Core.List.{List}
 use borrow.Author.Tests.{le-leb}
 use Rattle.model.specs.declared.Settings.{Settings}
 use Rattle.model.specs.declared.Form.the-variants.{Equalised, Laid}
 use Rattle.model.specs.Trees.{beat, Block, nil, act, depth, actRec}
-use Rattle.model.specs.Times.{time}
 use Rattle.model.specs.Runs.{overran, duration, effect, run}
 use Rattle.model.specs.Layout.{unroll, body, ceiling, lastValue, closed, layout, total}
-use Rattle.model.specs.Refusals.{fieldsFit}
-use Rattle.model.specs.Placement.{Fits, Placed}
-use Rattle.model.proofs.Shapes.{Fit}
-use Rattle.model.proofs.Sound.{OfForm}
 use Rattle.theory.proofs.Times.{time-⧺, time-merge, time-unroll}
-use Rattle.theory.proofs.Sequences.{run-⧺}
 use Rattle.theory.proofs.Views.{Alike, alike-trans, alike-eq}
-use Rattle.theory.proofs.Traces.{traced, silent-behind}
-use Rattle.theory.proofs.Agreement.{run-merge, run-unroll}
 use Rattle.theory.proofs.Forms.{Formed, formed, formed-⧺, merged-of-form, depth-⧺, depth-merge}
 use Rattle.theory.proofs.Unrolling.{unrolled-loop-free, unrolled-command-free, unrolled-formed, depth-unroll}
 use Rattle.theory.proofs.Windows.{placed-body, body-ends, body-longer, window-pos}
-use Rattle.theory.proofs.Placing.{placed-even, placed-merge}
-use Rattle.theory.proofs.Lasts.{even-lasts}
 use Rattle.theory.proofs.Weaving.{Woven, done, waits, beats, saves, skips, acts, branches, woven-body, woven-depth, run-woven}
 
 -- a count of windows is at most the ticks that they cover

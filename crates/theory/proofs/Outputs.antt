@@ -3,10 +3,7 @@ use Prim.Native.Nat.{ℕ}
 use mathlib.Core.Path.{_≡_, refl, ap, sym, _∙_}
 use mathlib.Core.Bool.{Bool, true, false}
 use mathlib.Core.List.{List, [], _∷_}
-use lib.Dec.{eqb}
-use lib.ListN.{length, length-set}
-use lib.ListN.{set as setAt}
-use lib.Seq.{set-set, set-comm}
+use lib.{Dec.eqb, ListN.length, ListN.length-set, ListN.set as setAt, Seq.set-set, Seq.set-comm}
 use borrow.Author.Tests.{eqb-true, eqb-false}
 use Rattle.model.specs.Runs.{Effect, nothing, assigns, outputs, beats, saves, overruns, Step, onVariables, variablesAfter, onOutputs, outputsAfter}
 

@@ -2,24 +2,12 @@
 use Prim.Native.Nat.{ℕ}
 use native.Mathlib.Omega.{arith}
 use mathlib.Core.Path.{_≡_, refl, ap, sym, _∙_, subst}
-use mathlib.Core.Bool.{true}
-use mathlib.Core.List.{List}
 use lib.ListN.{length, take}
 use Rattle.model.specs.declared.Form.the-variants.{Task, Laid}
-use Rattle.model.specs.Settings.{settingsOf}
-use Rattle.model.specs.Trees.{Block, fileTree}
-use Rattle.model.specs.Runs.{run}
-use Rattle.model.specs.Equalising.{equalise}
-use Rattle.model.specs.Layout.{layout}
 use Rattle.model.specs.Answers.{Verdict, finished, refused, isFinished, valueAt}
 use Rattle.model.specs.Replies.{equalisedTree, laidTree, layOutReply, layOutOut}
-use Rattle.model.specs.Placement.{Fits, Placed}
 use Rattle.model.specs.Chain.{Chain, equalising, layingOut, laidFile}
 use Rattle.model.proofs.Passes.{tree-back}
-use Rattle.theory.proofs.Views.{Alike, alike-trans}
-use Rattle.theory.proofs.Traces.{traced}
-use Rattle.theory.proofs.Agreement.{run-equalise}
-use Rattle.theory.proofs.Laid.{placed-laid, run-laid}
 use Rattle.theory.proofs.Accepted.{EqualiseAccepted, equalise-accepted, lay-out-accepted, Runnable}
 use Rattle.theory.proofs.Files.{fileOf, equalised-form, task-runnable, equalised-file, laid-runnable, laid-file}
 

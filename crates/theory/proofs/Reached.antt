@@ -4,25 +4,14 @@ use native.Mathlib.Omega.{arith}
 use mathlib.Core.Path.{_≡_, refl, subst}
 use mathlib.Core.Bool.{Bool, true, false, cond, false≢true}
 use mathlib.Core.List.{List}
-use lib.Dec.{eqb, ltb}
-use lib.ListN.{length, List·getD-eq-default}
+use lib.{Dec.eqb, Dec.ltb, ListN.length, ListN.List·getD-eq-default}
 use borrow.Author.Tests.{ltb-true, ltb-false, eqb-true}
 use Rattle.model.specs.declared.Form.{Form}
 use Rattle.model.specs.declared.Form.the-variants.{Task, Equalised, Laid}
-use Rattle.model.specs.Records.{kindAt, SAVE}
 use Rattle.model.specs.Trees.{Block, nil, skip, act, branch, while, times, fileTree}
-use Rattle.model.specs.Settings.{settingsOf}
-use Rattle.model.specs.Layout.{unroll, layout}
 use Rattle.model.specs.Refusals.{kindFits, sound, fault}
-use Rattle.model.specs.Answers.{finished}
 use Rattle.model.specs.Replies.{laidTree, layOutReply, afterSave}
-use Rattle.model.specs.Placement.{LoopFree}
 use Rattle.model.proofs.Sound.{OfForm, sound-file, sound-kind}
-use Rattle.theory.proofs.Forms.{formed}
-use Rattle.theory.proofs.Unrolling.{unrolled-loop-free}
-use Rattle.theory.proofs.Placing.{placed-loop-free}
-use Rattle.theory.proofs.Laid.{placed-laid}
-use Rattle.theory.proofs.Accepted.{lay-out-accepted}
 
 -- what laying out unrolls
 pub lay-reached : (file : List ℕ) → fault Equalised file ≡ sound → LoopFree (unroll (fileTree file))

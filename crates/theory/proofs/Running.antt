@@ -3,18 +3,13 @@ use Prim.Native.Nat.{ℕ, _≤_, _<_}
 use mathlib.Core.Path.{_≡_, refl, ap, _∙_}
 use mathlib.Core.Bool.{true, false, not}
 use mathlib.Core.List.{List, [], _∷_}
-use lib.Dec.{eqb}
-use lib.ListN.{length}
+use lib.{Dec.eqb, ListN.length}
 use borrow.Author.Tests.{not-false, eqb-true, eq-eqb, lt-leb, le-ltb}
 use Rattle.model.specs.declared.Form.{Form}
-use Rattle.model.specs.Settings.{settingsOf}
-use Rattle.model.specs.Trees.{Block, fileTree}
 use Rattle.model.specs.Runs.{Step, duration, Buffers, leave, cleared, run}
-use Rattle.model.specs.Stopping.{upto, Image, Saved, none, lastImage, imageOf, start, takeUp}
-use Rattle.model.specs.Answers.{finished, bit}
+use Rattle.model.specs.Stopping.{upto, Image, imageOf, start, takeUp}
 use Rattle.model.specs.Replies.{savedAt, badBuffers, badImageLength, ended, stepsOf, runReply, runBuffers, imageAt, isSaved, stopReply, stopBuffers, imageOver, stopImage}
 use Rattle.model.specs.Replies.{takenUp, takenBuffers, afterSave, resumeReply, resumeBuffers, restartReply, restartBuffers}
-use Rattle.model.specs.Chain.{Outputs, lend}
 use Rattle.theory.proofs.Accepted.{neither, Runnable, readied}
 
 -- what steps from an image on leave, with the outputs o before

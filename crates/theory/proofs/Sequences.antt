@@ -1,7 +1,5 @@
 -- One run and then another: what the steps of both leave, and the run of two blocks in a row.
 use Prim.Native.Nat.{ℕ, _+_}
-use native.Mathlib.Omega.{arith}
-use native.Mathlib.Nat.{add-zero}
 use mathlib.Core.Path.{_≡_, refl, ap, sym, _∙_, fun-ext}
 use mathlib.Core.Bool.{Bool, true, false, cond, _||_}
 use mathlib.Core.List.{List, [], _∷_, _++_, append-assoc, append-nil}
@@ -65,10 +63,8 @@ module _ (σ : Settings) (ins : List ℕ) where
 
   pub run-⧺ : (a b : Block) (i : ℕ) (v : List ℕ) → run σ ins (a ⧺ b) i v ≡ (run σ ins a i ⊳ run σ ins b (i + size a)) v
   run-⧺ nil b i v = rw (add-zero i)
-  run-⧺ (skip n a) b i v =
-      then-⧺ (single n i (λ v. nothing)) (i + 1) (i + (1 + size a)) a b v (omega arith) (run-⧺ a b (i + 1))
-  run-⧺ (act p a) b i v =
-      then-⧺ (single (ticks σ p) i (effect ins p)) (i + 1) (i + (1 + size a)) a b v (omega arith) (run-⧺ a b (i + 1))
+  run-⧺ (skip n a) b i v = then-⧺ (single n i (λ v. nothing)) (i + 1) (i + (1 + size a)) a b v (omega arith) (run-⧺ a b (i + 1))
+  run-⧺ (act p a) b i v = then-⧺ (single (ticks σ p) i (effect ins p)) (i + 1) (i + (1 + size a)) a b v (omega arith) (run-⧺ a b (i + 1))
   run-⧺ (branch q x y a) b i v =
       let k = i + 3 + size x + size y in
       then-⧺ (choose i q (run σ ins x (i + 1)) (run σ ins y (i + 2 + size x))) k (i + (3 + size x + size y + size a)) a b v

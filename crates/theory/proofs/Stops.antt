@@ -6,9 +6,6 @@ use mathlib.Core.Bool.{Bool, true, false, cond}
 use mathlib.Core.List.{List, [], _∷_, _++_, nil≢cons, head-eq-of-cons-eq}
 use lib.Dec.{leb}
 use borrow.Author.Tests.{leb-true, leb-false, le-leb, lt-leb}
-use Rattle.model.specs.Runs.{Step, duration}
-use Rattle.model.specs.Stopping.{upto}
-use Rattle.model.specs.Timeline.{endedBy}
 use Rattle.theory.proofs.Sequences.{duration-++}
 
 -- the steps that the stop cut off

@@ -1,7 +1,5 @@
 -- The steps of a laid file that a run taken up does are those of the whole run from the image's tick on, in place and of the same values.
 use Prim.Native.Nat.{ℕ, _+_}
-use native.Mathlib.Omega.{arith}
-use native.Mathlib.Nat.{add-zero, add-assoc}
 use mathlib.Core.Path.{_≡_, refl, sym, _∙_, subst}
 use mathlib.Core.Bool.{true, false, false≢true}
 use mathlib.Core.List.{List, [], _∷_, _++_}
@@ -10,15 +8,8 @@ use Rattle.model.specs.Trees.{Block}
 use Rattle.model.specs.Runs.{Effect, nothing, assigns, outputs, beats, saves, overruns, isBeat, isSave, Step, duration, overran, run}
 use Rattle.model.specs.Stopping.{upto, Saved, none, saved, lastImage, takeUp}
 use Rattle.model.specs.Placement.{Fits, LoopFree, StepsPlaced}
-use Rattle.theory.proofs.Sequences.{duration-++, overran-++}
-use Rattle.theory.proofs.Views.{see, same-overran}
-use Rattle.theory.proofs.Unindexed.{unindexed, same-duration}
-use Rattle.theory.proofs.Stops.{beyond}
 use Rattle.theory.proofs.Starts.{Settled, settled-start, settled-after, step-placed}
-use Rattle.theory.proofs.LastImage.{made, made-within}
 use Rattle.theory.proofs.Resuming.{orStart, since, parted}
-use Rattle.theory.proofs.Values.{StepsValued}
-use Rattle.theory.proofs.LaidRuns.{dueValue, LaidFrom}
 
 -- THE STEPS BEHIND OTHERS
 

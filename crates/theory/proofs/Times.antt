@@ -4,9 +4,7 @@ use native.Mathlib.Omega.{arith}
 use mathlib.Core.Path.{_≡_, refl, _∙_}
 use Rattle.model.specs.declared.Settings.{Settings}
 use Rattle.model.specs.Trees.{Block, nil, skip, act, branch, while, times, _⧺_}
-use Rattle.model.specs.Times.{time}
 use Rattle.model.specs.Equalising.{F, waiting, merge, equalise}
-use Rattle.model.specs.Layout.{copies, unroll}
 
 module _ (σ : Settings) where
   pub time-⧺ : (a b : Block) → time σ (a ⧺ b) ≡ time σ a + time σ b

@@ -1,14 +1,9 @@
 -- An equalised file unrolled has no loop and no command, and its records are those of a laid file.
 use Prim.Native.Nat.{ℕ, zero, suc, _≤_}
 use native.Mathlib.Omega.{arith}
-use mathlib.Core.Path.{_≡_, refl}
-use mathlib.Core.Bool.{false≢true}
 use Rattle.model.specs.declared.Form.the-variants.{Equalised, Laid}
-use Rattle.model.specs.Records.{IF, TIMES}
 use Rattle.model.specs.Trees.{Act, set, read, write, check, beat, save, Block, nil, skip, act, branch, while, times, _⧺_}
 use Rattle.model.specs.Trees.{depth, testRec, actRec}
-use Rattle.model.specs.Runs.{nothing}
-use Rattle.model.specs.Layout.{copies, unroll}
 use Rattle.model.specs.Refusals.{between, testFits, fieldsFit}
 use Rattle.model.specs.Placement.{command, CommandFree, LoopFree}
 use Rattle.model.proofs.Shapes.{Fit, and-left}

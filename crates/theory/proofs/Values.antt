@@ -6,18 +6,12 @@ use mathlib.Core.Bool.{Bool, true, false, cond}
 use mathlib.Core.List.{List, [], _∷_, _++_, map}
 use Rattle.model.specs.declared.Settings.{Settings}
 use Rattle.model.specs.Trees.{Act, set, read, write, check, beat, save, Block, nil, skip, act, branch, while, times, _⧺_, size}
-use Rattle.model.specs.Times.{ticks, time}
 use Rattle.model.specs.Runs.{Effect, nothing, assigns, outputs, beats, saves, overruns, Step, step, isBeat, starts, duration}
 use Rattle.model.specs.Runs.{onVariables, overran, holds, effect, Run, _⊳_, run}
-use Rattle.model.specs.Equalising.{waiting, merge}
 use Rattle.model.specs.Layout.{body, lastValue, closed}
 use Rattle.model.specs.Placement.{Each, command, CommandFree, LoopFree}
 use Rattle.model.specs.Timeline.{picks, beatAt, beatList}
-use Rattle.theory.proofs.Times.{time-merge}
-use Rattle.theory.proofs.Sequences.{run-⧺}
-use Rattle.theory.proofs.Within.{run-within}
 use Rattle.theory.proofs.Every.{Every, every-nil, every-single, every-choose}
-use Rattle.theory.proofs.Weaving.{woven-body, woven-each}
 
 -- VALUES BY START
 

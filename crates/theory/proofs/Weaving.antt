@@ -5,14 +5,9 @@ use mathlib.Core.List.{List}
 use lib.Dec.{eqb, ltb}
 use Rattle.model.specs.declared.Settings.{Settings}
 use Rattle.model.specs.Trees.{Test, Act, beat, save, Block, nil, skip, act, branch, while, times, _⧺_, size, depth}
-use Rattle.model.specs.Times.{ticks, time}
-use Rattle.model.specs.Runs.{effect, run}
 use Rattle.model.specs.Layout.{commands, left, before, idle, idles, fill, filled, lay, opened, body}
-use Rattle.model.specs.Placement.{Each, LoopFree}
 use Rattle.model.proofs.Trees.{⧺-nil}
-use Rattle.theory.proofs.Sequences.{either}
 use Rattle.theory.proofs.Views.{Alike, alike-refl, alike-⊳, alike-single, alike-choose}
-use Rattle.theory.proofs.Traces.{traced}
 
 -- b, and b with more woven into it
 pub data Woven : Block → Block → Type 0 where
@@ -61,8 +56,7 @@ module _ (σ : Settings) where
 
   woven-fill : (n t e : ℕ) → Woven nil (fill σ n t e)
   woven-fill zero t e = done
-  woven-fill (suc n) t e =
-      either (Woven nil) (ltb t e) _ nil (woven-⧺ (woven-idle t) (woven-fill n (t + time σ (idle σ t)) e)) done
+  woven-fill (suc n) t e = either (Woven nil) (ltb t e) _ nil (woven-⧺ (woven-idle t) (woven-fill n (t + time σ (idle σ t)) e)) done
 
   woven-filled : (t e : ℕ) {a a′ : Block} → Woven a a′ → Woven a (filled σ t a′ e)
   woven-filled t e {a} {a′} p = behind p (woven-fill (e - (t + time σ a′)) (t + time σ a′) e)

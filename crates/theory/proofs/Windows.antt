@@ -13,8 +13,6 @@ use Rattle.model.specs.Runs.{nothing, beats, saves, isBeat, isSave}
 use Rattle.model.specs.Layout.{commands, left, before, idle, idles, fill, filled, lay, opened, body}
 use Rattle.model.specs.Placement.{Fits, command, CommandFree, LoopFree, InPlace, Placed}
 use Rattle.model.proofs.Trees.{⧺-nil}
-use Rattle.theory.proofs.Times.{time-⧺}
-use Rattle.theory.proofs.Sequences.{either}
 use Rattle.theory.proofs.Clock.{mod-within, mod-over, mod-round}
 
 -- LAYING OUT TAKES NO TICK AWAY
@@ -32,8 +30,7 @@ module _ (σ : Settings) where
   -- the time of a block is at most that of what is laid of it, from any tick
   lay-longer : (b : Block) (t : ℕ) → LoopFree b → time σ b ≤ time σ (lay σ b t)
   lay-longer nil t p = omega arith
-  lay-longer (skip n b) t p =
-      rw (time-⧺ σ (idles σ n t)) (omega (arith, idles-longer n t, lay-longer b (t + time σ (idles σ n t)) p))
+  lay-longer (skip n b) t p = rw (time-⧺ σ (idles σ n t)) (omega (arith, idles-longer n t, lay-longer b (t + time σ (idles σ n t)) p))
   lay-longer (act q b) t p =
       let u = t + time σ (before σ t (ticks σ q)) in
       rw (time-⧺ σ (before σ t (ticks σ q))) (omega (arith, lay-longer b (u + ticks σ q) p))

@@ -3,21 +3,10 @@ use Prim.Native.Nat.{ℕ, _/_}
 use mathlib.Core.Path.{_≡_, refl, ap, _∙_}
 use mathlib.Core.List.{List}
 use lib.ListN.{length}
-use Rattle.model.specs.declared.Form.{Form}
-use Rattle.model.specs.declared.Settings.{Settings}
-use Rattle.model.specs.declared.Refusal.{Refusal}
-use Rattle.model.specs.Trees.{fileTree}
-use Rattle.model.specs.Times.{time}
-use Rattle.model.specs.Answers.{refusal}
-use Rattle.model.specs.Replies.{timeReply}
 use Rattle.model.proofs.Sound.{sound-file}
 use Rattle.reading.specs.declared.Checked.the-variants.{Valid, Refused}
 use Rattle.reading.specs.Answers.{Reads}
-use Rattle.reading.proofs.Filled.{fills-file}
-use Rattle.reading.proofs.Entry.{read-sound}
 use Rattle.timing.specs.declared.ticks.Time.{Time}
-use Rattle.timing.specs.Times.{answered, upTo}
-use Rattle.timing.specs.Blocks.{BlockTimes}
 
 module _ (s : List ℕ) (f : Form) (file : List ℕ) where
   pub refused-reply : (x : Refusal) → Reads s f file (Refused x) → refusal x ≡ timeReply s f file

@@ -2,16 +2,7 @@
 use Prim.Native.Nat.{ℕ, _+_, _-_, _≤_, _<_}
 use native.Mathlib.Omega.{arith}
 use mathlib.Core.Path.{_≡_, refl, ap, subst}
-use mathlib.Core.Bool.{true, false}
-use mathlib.Core.List.{List}
-use Rattle.model.specs.declared.Form.{Form}
-use Rattle.model.specs.declared.Settings.{Settings}
-use Rattle.model.specs.Records.{kindAt}
-use Rattle.model.specs.Trees.{nil, depth}
-use Rattle.model.specs.Times.{time}
-use Rattle.reading.specs.Closing.{closesBlock}
 use Rattle.reading.specs.Ranges.{InFile, Ranged, firstSize}
-use Rattle.reading.specs.Walks.{Walk}
 use Rattle.reading.proofs.Standing.{standing-at}
 use Rattle.reading.proofs.Walking.{walk-start, none-closed, none-ended, walk-end, walk-at, walk-next}
 use Rattle.timing.specs.declared.ticks.Time.the-variants.{Ticks, OverPeriod}

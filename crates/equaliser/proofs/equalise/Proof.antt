@@ -5,12 +5,6 @@ use Rattle.equaliser.proofs.Replies.{read-refused, sound-task, read-equ
 use Rattle.equaliser.proofs.equalise.Statement.{statement}
 use Rattle.equaliser.proofs.equalise.Tie as tie
 
-equalise-sound-requires : tie.Need-equalise-sound-requires
-equalise-sound-requires c κs = sound-task _ _ _ (subst (Reads _ _ _) (c .before .before .read3 .given .1) (c .before .before .before .before .read .ensures))
-
-returns : tie.Need-returns
-returns c = read-refused _ _ _ _ (subst (Reads _ _ _) (c .before .read2 .given .1) (c .before .before .before .read .ensures))
-
 returns-2 : tie.Need-returns-2
 returns-2 c =
     let v = c .before .before .before .before .before in
@@ -18,4 +12,7 @@ returns-2 c =
 
 pub equalise-spec : {M : Type 1} → statement M
 equalise-spec =
-    tie.close (tie.spec (search needs) (search needs) (search needs) equalise-sound-requires returns (search needs) returns-2)
+    tie.close (tie.spec (search needs) (search needs) (search needs)
+    (λ c κs. sound-task _ _ _ (subst (Reads _ _ _) (c .before .before .read3 .given .1) (c .before .before .before .before .read .ensures)))
+    (λ c. read-refused _ _ _ _ (subst (Reads _ _ _) (c .before .read2 .given .1) (c .before .before .before .read .ensures))) (search needs)
+    returns-2)

@@ -10,9 +10,6 @@ lay-out-sound-requires c κs =
     let R = subst (Reads _ _ _) (c .before .before .read3 .given .1) (c .before .before .before .before .read .ensures) in
     (sound-file _ _ _ R, settings-in-range _ _ _ R)
 
-returns : tie.Need-returns
-returns c = read-refused _ _ _ _ (subst (Reads _ _ _) (c .before .read2 .given .1) (c .before .before .before .read .ensures))
-
 returns-2 : tie.Need-returns-2
 returns-2 c =
     let v = c .before .before .before .before .before in
@@ -20,4 +17,6 @@ returns-2 c =
 
 pub lay-out-spec : {M : Type 1} → statement M
 lay-out-spec =
-    tie.close (tie.spec (search needs) (search needs) (search needs) lay-out-sound-requires returns (search needs) returns-2)
+    tie.close (tie.spec (search needs) (search needs) (search needs) lay-out-sound-requires
+    (λ c. read-refused _ _ _ _ (subst (Reads _ _ _) (c .before .read2 .given .1) (c .before .before .before .read .ensures))) (search needs)
+    returns-2)

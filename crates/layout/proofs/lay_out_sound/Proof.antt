@@ -67,9 +67,6 @@ write-file-requires c κs =
     (by-settings (c .before .before .before .before .before .before .before .before .before .before .before .before .before .before .before .before .ticks-of .ensures)
     (c .before .before .before .before .before .before .before .before .before .before .before .before .before .measure-file .ensures))
 
-cast-t28 : tie.Need-cast-t28
-cast-t28 c = let t = timed (c .before .before .before .before .before .before .before .before) in omega (arith, t .short, t .settings .short)
-
 returns-4 : tie.Need-returns-4
 returns-4 c =
     let j = c .before .before .before .before .before in
@@ -82,5 +79,6 @@ lay-out-sound-spec =
     (search needs) (search needs) (search needs) (λ c. omega (arith, few-counted (timed (c .before))))
     (λ c. omega (arith, few-counted (timed (c .before)))) (search needs)
     (λ c. no-room (timed (c .before .before .before)) _ (sym (c .before .no-room .ensures) ∙ c .if3 .taken)) write-file-requires
-    (λ c. omega (arith, few-counted (timed (c .before .before .before .before .before .before .before .before)))) cast-t28 (search needs)
-    returns-4)
+    (λ c. omega (arith, few-counted (timed (c .before .before .before .before .before .before .before .before))))
+    (λ c. let t = timed (c .before .before .before .before .before .before .before .before) in omega (arith, t .short, t .settings .short))
+    (search needs) returns-4)

@@ -1,5 +1,3 @@
-use mathlib.Core.Bool.{false}
-use mathlib.Core.Path.{subst}
 use borrow.Author.Needs.{needs}
 use Rattle.machine.specs.Calls.{Readies}
 use Rattle.machine.proofs.Whole.{lent, cleared-ready, cleared-run}

@@ -5,11 +5,6 @@ use Rattle.machine.proofs.Whole.{left-bytes, lent, whole-started, run-l
 use Rattle.machine.proofs.run_whole.Statement.{statement}
 use Rattle.machine.proofs.run_whole.Tie as tie
 
-load-variables-requires : tie.Need-load-variables-requires
-load-variables-requires c κs =
-    let w = c .before .before .before .before .before .before .before in
-    (refl, lent ((w .pre)) .variables)
-
 load-outputs-requires : tie.Need-load-outputs-requires
 load-outputs-requires c κs =
     let w = c .before .before .before .before .before .before .before .before .before .before .before .before in
@@ -46,5 +41,7 @@ returns c =
 
 pub run-whole-spec : {M : Type 1} → statement M
 run-whole-spec =
-    tie.close (tie.spec (search needs) load-variables-requires (search needs) load-outputs-requires (search needs) run-from-requires
-    (search needs) store-requires (search needs) (search needs) (search needs) returns)
+    tie.close (tie.spec (search needs)
+    (λ c κs. let w = c .before .before .before .before .before .before .before in (refl, lent ((w .pre)) .variables)) (search needs)
+    load-outputs-requires (search needs) run-from-requires (search needs) store-requires (search needs) (search needs) (search needs)
+    returns)

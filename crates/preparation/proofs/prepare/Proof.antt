@@ -1,7 +1,6 @@
 use Prim.Native.Nat.{ℕ}
 use mathlib.Core.Path.{ap, sym, _∙_}
-use lib.ListN.{replicate, length-replicate}
-use lib.Seq.{length-take-le}
+use lib.{ListN.replicate, ListN.length-replicate, Seq.length-take-le}
 use borrow.Author.Needs.{needs}
 use Rattle.model.specs.Answers.{equalised}
 use Rattle.preparation.proofs.Preparing.{prepare-refused, prepare-fits, prepare-laid}

@@ -1,11 +1,8 @@
 use native.Mathlib.Omega.{arith}
 use mathlib.Core.Path.{sym}
-use lib.ListN.{take, replicate}
-use lib.Seq.{length-take-le}
+use lib.{ListN.take, ListN.replicate, Seq.length-take-le}
 use borrow.Author.Needs.{needs}
 use Rattle.model.specs.Listing.{printed, printedText}
-use Rattle.printing.proofs.Reading.{read-zeros}
-use Rattle.printing.proofs.Rendering.{over-fits}
 use Rattle.printing.proofs.print_listing.Statement.{statement}
 use Rattle.printing.proofs.print_listing.Tie as tie
 

@@ -5,19 +5,7 @@ use borrow.Author.Needs.{needs}
 use Rattle.rack.proofs.rack_lay_out.Statement.{statement}
 use Rattle.rack.proofs.rack_lay_out.Tie as tie
 
-lay-out-requires : tie.Need-lay-out-requires
-lay-out-requires c κs = search needs
-
-laid-word-requires : tie.Need-laid-word-requires
-laid-word-requires c κs = laid-few _ _ _ _ (c .before .before .lay-out .ensures .0)
-
-same-length : tie.Need-same-length
-same-length c = search needs
-
-returns : tie.Need-returns
-returns c =
-    let e = c .before .before .before .lay-out .ensures in
-    (c .laid-word .ensures ∙ ap (packed fileWord) (e .0), e .1)
-
 pub rack-lay-out-spec : {M : Type 1} → statement M
-rack-lay-out-spec = tie.close (tie.spec lay-out-requires laid-word-requires same-length returns)
+rack-lay-out-spec =
+    tie.close (tie.spec (search needs) (λ c κs. laid-few _ _ _ _ (c .before .before .lay-out .ensures .0)) (search needs)
+    (λ c. let e = c .before .before .before .lay-out .ensures in (c .laid-word .ensures ∙ ap (packed fileWord) (e .0), e .1)))

@@ -15,5 +15,4 @@ returns c =
     (c .before .before .before .before .before .before .before .before .before .before .before .form-of .ensures) (e .0) (e .1) (c .ran-word .ensures)
 
 pub rack-restart-spec : {M : Type 1} → statement M
-rack-restart-spec =
-    tie.close (tie.spec (search needs) (search needs) (search needs) (search needs) (search needs) (search needs) returns)
+rack-restart-spec = tie.close (tie.spec (search needs) (search needs) (search needs) (search needs) (search needs) (search needs) returns)

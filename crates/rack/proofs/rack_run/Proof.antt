@@ -15,5 +15,4 @@ returns c =
     (c .before .before .before .before .before .before .before .before .before .before .before .form-of .ensures) (e .0) (e .1) (c .ran-word .ensures)
 
 pub rack-run-spec : {M : Type 1} → statement M
-rack-run-spec =
-    tie.close (tie.spec (search needs) (search needs) (search needs) (search needs) (search needs) (search needs) returns)
+rack-run-spec = tie.close (tie.spec (search needs) (search needs) (search needs) (search needs) (search needs) (search needs) returns)

@@ -7,20 +7,10 @@ use borrow.Author.Needs.{needs}
 use Rattle.rack.proofs.rack_time.Statement.{statement}
 use Rattle.rack.proofs.rack_time.Tie as tie
 
-form-of-requires : tie.Need-form-of-requires
-form-of-requires c κs = search needs
-
-time-file-requires : tie.Need-time-file-requires
-time-file-requires c κs = search needs
-
-time-word-requires : tie.Need-time-word-requires
-time-word-requires c κs = search needs
-
 returns : tie.Need-returns
 returns c =
     let a = c .before .before .before .before .before .args in
     c .time-word .ensures ∙ ap (packed fileWord) (c .before .time-file .ensures ∙ ap (λ (f : Form). timeReply (now (a .settings)) f (now (a .file))) (c .before .before .form-of .ensures))
 
 pub rack-time-spec : {M : Type 1} → statement M
-rack-time-spec =
-    tie.close (tie.spec form-of-requires time-file-requires time-word-requires returns)
+rack-time-spec = tie.close (tie.spec (search needs) (search needs) (search needs) returns)

@@ -6,9 +6,6 @@ use Rattle.reading.proofs.Entry.{settings-refused, file-refused, both-r
 use Rattle.reading.proofs.read.Statement.{statement}
 use Rattle.reading.proofs.read.Tie as tie
 
-returns : tie.Need-returns
-returns c = settings-refused _ _ _ _ (subst (Decodes _) (c .before .decoded .given .1) (c .before .before .before .decode .ensures))
-
 returns-2 : tie.Need-returns-2
 returns-2 c =
     let v = c .before .before .before .before in
@@ -23,4 +20,6 @@ returns-3 c =
 
 pub read-spec : {M : Type 1} → statement M
 read-spec =
-    tie.close (tie.spec (search needs) (search needs) (search needs) (search needs) (search needs) (search needs) returns returns-2 returns-3)
+    tie.close (tie.spec (search needs) (search needs) (search needs) (search needs) (search needs) (search needs)
+    (λ c. settings-refused _ _ _ _ (subst (Decodes _) (c .before .decoded .given .1) (c .before .before .before .decode .ensures)))
+    returns-2 returns-3)

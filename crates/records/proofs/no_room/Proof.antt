@@ -3,8 +3,6 @@ use Prim.Native.Nat.{ℕ, _*_, _≤_, _<_}
 use mathlib.Core.Path.{_≡_, ap, sym, _∙_}
 use mathlib.Core.Bool.{Bool, true, _||_, or-true, or-false}
 use lib.Dec.{ltb}
-use borrow.Author.Needs.{needs}
-use borrow.Author.Tests.{lt-ltb, le-ltb}
 use Rattle.model.specs.Replies.{noRoom}
 use Rattle.records.proofs.no_room.Statement.{statement}
 use Rattle.records.proofs.no_room.Tie as tie
@@ -15,14 +13,5 @@ long room n h = ap (λ (b : Bool). ltb room (12 * n) || b) (lt-ltb 5461 n h) ∙
 short : (room n : ℕ) → n ≤ 5461 → noRoom room n ≡ ltb room (12 * n)
 short room n h = ap (λ (b : Bool). ltb room (12 * n) || b) (le-ltb 5461 n h) ∙ or-false (ltb room (12 * n))
 
-returns : tie.Need-returns
-returns c = sym (long _ _ (c .if1 .taken))
-
-mul-result : tie.Need-mul-result
-mul-result c = search needs
-
-returns-2 : tie.Need-returns-2
-returns-2 c = sym (short _ _ (c .if1 .left))
-
 pub no-room-spec : {M : Type 1} → statement M
-no-room-spec = tie.close (tie.spec returns mul-result returns-2)
+no-room-spec = tie.close (tie.spec (λ c. sym (long _ _ (c .if1 .taken))) (search needs) (λ c. sym (short _ _ (c .if1 .left))))

@@ -1,8 +1,6 @@
 use mathlib.Core.Path.{ap, sym, _∙_}
 use lib.Seq.{length-take-le}
 use borrow.Author.Needs.{needs}
-use Rattle.model.specs.Answers.{laidOut}
-use Rattle.model.specs.Rehearsal.{setOf}
 use Rattle.rehearsal.proofs.Preparing.{good-sets, rehearse-refused, file-fits, rehearse-bad, rehearse-done}
 use Rattle.rehearsal.proofs.rehearse.Statement.{statement}
 use Rattle.rehearsal.proofs.rehearse.Tie as tie
@@ -28,10 +26,6 @@ slice-aggregate-rehearse-laid c =
     sym (length-take-le _ _ (file-fits (a .settings .now) (a .task .now) (setOf (a .one .now) (a .one-inputs .now)) (setOf (a .two .now) (a .two-inputs .now)) (a .stop)
     (sym (ap laidOut (c .before .before .before .before .r2 .given .1)) ∙ w .ensures .0) (w .ensures .1) (w .kept .1 .1 .0)))
 
-rehearse-laid-requires : tie.Need-rehearse-laid-requires
-rehearse-laid-requires c κs =
-    good-sets (c .before .before .bad-sets .ensures) (c .before .if1 .left)
-
 returns-2 : tie.Need-returns-2
 returns-2 c =
     let a = c .before .before .before .before .before .before .before .before .before .before .before .before .args in
@@ -48,4 +42,4 @@ returns-3 c =
 pub rehearse-spec : {M : Type 1} → statement M
 rehearse-spec =
     tie.close (tie.spec (search needs) (search needs) (search needs) (search needs) (search needs) returns array-share-prefix-laid
-    slice-aggregate-rehearse-laid rehearse-laid-requires returns-2 returns-3)
+    slice-aggregate-rehearse-laid (λ c κs. good-sets (c .before .before .bad-sets .ensures) (c .before .if1 .left)) returns-2 returns-3)

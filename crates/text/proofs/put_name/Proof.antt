@@ -4,33 +4,6 @@ use borrow.Author.Needs.{needs}
 use Rattle.text.proofs.put_name.Statement.{statement}
 use Rattle.text.proofs.put_name.Tie as tie
 
-returns : tie.Need-returns
-returns c = put-name (c .before .before .before .before .before .match .keys1) (omega arith) (c .before .before .put-text .ensures)
-
-returns-2 : tie.Need-returns-2
-returns-2 c = put-name (c .before .before .before .before .before .match .keys2) (omega arith) (c .before .before .put-text2 .ensures)
-
-returns-3 : tie.Need-returns-3
-returns-3 c = put-name (c .before .before .before .before .before .match .keys3) (omega arith) (c .before .before .put-text3 .ensures)
-
-returns-4 : tie.Need-returns-4
-returns-4 c = put-name (c .before .before .before .before .before .match .keys4) (omega arith) (c .before .before .put-text4 .ensures)
-
-returns-5 : tie.Need-returns-5
-returns-5 c = put-name (c .before .before .before .before .before .match .keys5) (omega arith) (c .before .before .put-text5 .ensures)
-
-returns-6 : tie.Need-returns-6
-returns-6 c = put-name (c .before .before .before .before .before .match .keys6) (omega arith) (c .before .before .put-text6 .ensures)
-
-returns-7 : tie.Need-returns-7
-returns-7 c = put-name (c .before .before .before .before .before .match .keys7) (omega arith) (c .before .before .put-text7 .ensures)
-
-returns-8 : tie.Need-returns-8
-returns-8 c = put-name (c .before .before .before .before .before .match .keys8) (omega arith) (c .before .before .put-text8 .ensures)
-
-returns-9 : tie.Need-returns-9
-returns-9 c = put-name (c .before .before .before .before .before .match .keys9) (omega arith) (c .before .before .put-text9 .ensures)
-
 returns-10 : tie.Need-returns-10
 returns-10 c =
     let at-put-text10 = c .before .before in
@@ -45,6 +18,22 @@ pub put-name-spec : {M : Type 1} → statement M
 put-name-spec =
     tie.close (tie.spec (search needs) (search needs) (search needs) (search needs) (search needs) (search needs) (search needs)
     (search needs) (search needs) (search needs) (search needs) (search needs) (search needs) (search needs) (search needs) (search needs)
-    (search needs) (search needs) (search needs) (search needs) (search needs) returns (search needs) returns-2 (search needs) returns-3
-    (search needs) returns-4 (search needs) returns-5 (search needs) returns-6 (search needs) returns-7 (search needs) returns-8
-    (search needs) returns-9 (search needs) returns-10)
+    (search needs) (search needs) (search needs) (search needs) (search needs)
+    (λ c. put-name (c .before .before .before .before .before .match .keys1) (omega arith) (c .before .before .put-text .ensures))
+    (search needs)
+    (λ c. put-name (c .before .before .before .before .before .match .keys2) (omega arith) (c .before .before .put-text2 .ensures))
+    (search needs)
+    (λ c. put-name (c .before .before .before .before .before .match .keys3) (omega arith) (c .before .before .put-text3 .ensures))
+    (search needs)
+    (λ c. put-name (c .before .before .before .before .before .match .keys4) (omega arith) (c .before .before .put-text4 .ensures))
+    (search needs)
+    (λ c. put-name (c .before .before .before .before .before .match .keys5) (omega arith) (c .before .before .put-text5 .ensures))
+    (search needs)
+    (λ c. put-name (c .before .before .before .before .before .match .keys6) (omega arith) (c .before .before .put-text6 .ensures))
+    (search needs)
+    (λ c. put-name (c .before .before .before .before .before .match .keys7) (omega arith) (c .before .before .put-text7 .ensures))
+    (search needs)
+    (λ c. put-name (c .before .before .before .before .before .match .keys8) (omega arith) (c .before .before .put-text8 .ensures))
+    (search needs)
+    (λ c. put-name (c .before .before .before .before .before .match .keys9) (omega arith) (c .before .before .put-text9 .ensures))
+    (search needs) returns-10)

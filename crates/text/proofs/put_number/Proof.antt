@@ -1,16 +1,8 @@
 use native.Mathlib.Omega.{arith}
 use mathlib.Core.Path.{_∙_}
-use Rattle.text.proofs.Digits.{few-digits, decimal-is}
-use Rattle.text.proofs.Pieces.{put-same}
 use borrow.Author.Needs.{needs}
 use Rattle.text.proofs.put_number.Statement.{statement}
 use Rattle.text.proofs.put_number.Tie as tie
-
-put-text-requires : tie.Need-put-text-requires
-put-text-requires c κs =
-    let e = c .before .before .decimal .ensures in
-    let h = few-digits _ _ (omega arith) (e .1 .0 .2) in
-    omega (arith, e .0 .0, e .0 .1)
 
 returns : tie.Need-returns
 returns c =
@@ -24,4 +16,6 @@ returns c =
 
 pub put-number-spec : {M : Type 1} → statement M
 put-number-spec =
-    tie.close (tie.spec (search needs) (search needs) (search needs) put-text-requires (search needs) returns)
+    tie.close (tie.spec (search needs) (search needs) (search needs)
+    (λ c κs. let e = c .before .before .decimal .ensures in let h = few-digits _ _ (omega arith) (e .1 .0 .2) in omega (arith, e .0 .0, e .0 .1))
+    (search needs) returns)

@@ -9,9 +9,6 @@ use Rattle.timing.proofs.time_file.Tie as tie
 enum-told : tie.Need-enum-told
 enum-told c = search needs
 
-returns : tie.Need-returns
-returns c = refused-reply _ _ _ _ (subst (Reads _ _ _) (c .before .read2 .given .1) (c .before .before .before .read .ensures))
-
 returns-2 : tie.Need-returns-2
 returns-2 c =
     let v = c .before .before .before .before .before in
@@ -26,4 +23,6 @@ returns-3 c =
 
 pub time-file-spec : {M : Type 1} → statement M
 time-file-spec =
-    tie.close (tie.spec (search needs) (search needs) (search needs) (search needs) (search needs) enum-told returns returns-2 returns-3)
+    tie.close (tie.spec (search needs) (search needs) (search needs) (search needs) (search needs) enum-told
+    (λ c. refused-reply _ _ _ _ (subst (Reads _ _ _) (c .before .read2 .given .1) (c .before .before .before .read .ensures))) returns-2
+    returns-3)

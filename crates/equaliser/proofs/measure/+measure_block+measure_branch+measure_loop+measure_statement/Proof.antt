@@ -3,8 +3,6 @@ use Prim.Native.Nat.{ℕ, _+_, _*_, _-_, _<_}
 use native.Mathlib.Omega.{arith}
 use mathlib.Core.Bool.{false}
 use mathlib.Core.Path.{_≡_, ap, sym, _∙_}
-use borrow.Author.Needs.{needs}
-use borrow.Author.Tests.{not-true, not-false}
 use Rattle.model.specs.Records.{Rec, kindAt}
 use Rattle.records.proofs.Blocks.{one-skip}
 use Rattle.reading.specs.Closing.{opensBlock, closesBlock}
@@ -134,11 +132,6 @@ going : (t : ℕ) (c : measure-block-lts.Else1 (measure-block-claims t) (measure
     closesBlock (kindAt (c .before .before .before .before .before .before .args .file .now) (c .before .before .before .before .loop .next)) ≡ false
 going t c = told closesBlock (c .before .before .kind-at .ensures) (c .before .closes .ensures) (c .if1 .left)
 
-measure-block-loop-holds : (t : ℕ) → measure-block-lts.Need-loop-holds (measure-block-claims t) (measure-block-at t) measure-block.Post measure-block-Inv-loop measure-block-μ-loop
-measure-block-loop-holds t c =
-    let start = c .before in
-    measured-start (start .args .rack) (omega arith) (start .pre .1)
-
 measure-block-measure-statement-requires : (t : ℕ) → measure-block-lts.Need-measure-statement-requires (measure-block-claims t) (measure-block-at t) measure-block.Post measure-block-Inv-loop measure-block-μ-loop
 measure-block-measure-statement-requires t c κs =
     let at-loop-test = c .before .before .before .before in
@@ -184,11 +177,6 @@ measure-block-loop-less t c =
 
 measure-block-returns-4 : (t : ℕ) → measure-block-lts.Need-returns-4 (measure-block-claims t) (measure-block-at t) measure-block.Post measure-block-Inv-loop measure-block-μ-loop
 measure-block-returns-4 t c = measured-closed (c .before .before .before .before .loop .inv) (told closesBlock (c .before .before .kind-at .ensures) (c .before .closes .ensures) (c .if1 .taken))
-
-measure-branch-measure-block-requires : (t : ℕ) → measure-branch-lts.Need-measure-block-requires (measure-branch-claims t) (measure-branch-at t) measure-branch.Post
-measure-branch-measure-block-requires t c κs =
-    let start = c .before .before in
-    (omega arith, first-asks (start .pre .1 .0) (ap opensBlock (start .pre .1 .1)))
 
 measure-branch-returns : (t : ℕ) → measure-branch-lts.Need-returns (measure-branch-claims t) (measure-branch-at t) measure-branch.Post
 measure-branch-returns t c =
@@ -283,11 +271,6 @@ measure-branch-returns-3 t c =
     (c .before .before .before .before .padded-records .ensures .0) (c .before .before .before .padded-records2 .ensures .0) (c .before .before .branch-time .ensures)
     (c .before .skip-records .ensures)
 
-measure-loop-measure-block-requires : (t : ℕ) → measure-loop-lts.Need-measure-block-requires (measure-loop-claims t) (measure-loop-at t) measure-loop.Post
-measure-loop-measure-block-requires t c κs =
-    let start = c .before .before in
-    (omega arith, first-asks (start .pre .1 .0) (start .pre .1 .2))
-
 measure-loop-returns : (t : ℕ) → measure-loop-lts.Need-returns (measure-loop-claims t) (measure-loop-at t) measure-loop.Post
 measure-loop-returns t c =
     let start = c .before .before .before .before .before in
@@ -374,20 +357,21 @@ pub +measure-block+measure-branch+measure-loop+measure-statement-spec : {M : Typ
 +measure-block+measure-branch+measure-loop+measure-statement-spec =
     close μ-measure-block μ-measure-branch μ-measure-loop μ-measure-statement
     (λ t. measure-block-lts.spec (measure-block-claims t) (measure-block-at t) measure-block.Post measure-block-Inv-loop
-    measure-block-μ-loop (measure-block-loop-holds t) (omega arith) (search needs) (measure-block-measure-statement-requires t)
-    (search needs) (search needs) (measure-block-returns t) (omega arith) (measure-block-returns-2 t) (omega arith)
-    (λ c. omega (arith, measured-few (goes-on t c))) (measure-block-loop-less t) (λ c. goes-on t c)
-    (λ c. measured-all (c .before .loop .inv) (c .loop-test .left)) (measure-block-returns-4 t))
+    measure-block-μ-loop (λ c. let start = c .before in measured-start (start .args .rack) (omega arith) (start .pre .1)) (omega arith)
+    (search needs) (measure-block-measure-statement-requires t) (search needs) (search needs) (measure-block-returns t) (omega arith)
+    (measure-block-returns-2 t) (omega arith) (λ c. omega (arith, measured-few (goes-on t c))) (measure-block-loop-less t)
+    (λ c. goes-on t c) (λ c. measured-all (c .before .loop .inv) (c .loop-test .left)) (measure-block-returns-4 t))
     (λ t. measure-branch-lts.spec (measure-branch-claims t) (measure-branch-at t) measure-branch.Post (omega arith)
-    (measure-branch-measure-block-requires t) (search needs) (search needs) (measure-branch-returns t)
-    (measure-branch-add-measure-block-2 t) (measure-branch-measure-block-requires-2 t) (search needs) (search needs)
-    (measure-branch-returns-2 t) (search needs) (search needs) (measure-branch-keep-requires t) (measure-branch-padded-records-requires t)
-    (measure-branch-padded-records-requires-2 t) (omega arith) (search needs) (search needs) (omega arith) (measure-branch-add-t23 t)
-    (measure-branch-add-t24 t) (measure-branch-returns-3 t))
+    (λ c κs. let start = c .before .before in (omega arith, first-asks (start .pre .1 .0) (ap opensBlock (start .pre .1 .1))))
+    (search needs) (search needs) (measure-branch-returns t) (measure-branch-add-measure-block-2 t)
+    (measure-branch-measure-block-requires-2 t) (search needs) (search needs) (measure-branch-returns-2 t) (search needs) (search needs)
+    (measure-branch-keep-requires t) (measure-branch-padded-records-requires t) (measure-branch-padded-records-requires-2 t) (omega arith)
+    (search needs) (search needs) (omega arith) (measure-branch-add-t23 t) (measure-branch-add-t24 t) (measure-branch-returns-3 t))
     (λ t. measure-loop-lts.spec (measure-loop-claims t) (measure-loop-at t) measure-loop.Post (omega arith)
-    (measure-loop-measure-block-requires t) (search needs) (search needs) (measure-loop-returns t) (measure-loop-keep-requires t)
-    (measure-loop-padded-records-requires t) (search needs) (search needs) (measure-loop-add-sides t) (search needs) (search needs)
-    (measure-loop-add-t16 t) (measure-loop-add-t19 t) (measure-loop-add-t20 t) (measure-loop-returns-2 t))
+    (λ c κs. let start = c .before .before in (omega arith, first-asks (start .pre .1 .0) (start .pre .1 .2))) (search needs) (search needs)
+    (measure-loop-returns t) (measure-loop-keep-requires t) (measure-loop-padded-records-requires t) (search needs) (search needs)
+    (measure-loop-add-sides t) (search needs) (search needs) (measure-loop-add-t16 t) (measure-loop-add-t19 t) (measure-loop-add-t20 t)
+    (measure-loop-returns-2 t))
     λ t. measure-statement-lts.spec (measure-statement-claims t) (measure-statement-at t) measure-statement.Post (omega arith)
     (search needs) (omega arith) (λ c κs. c .before .before .before .before .pre .1 .short) (measure-statement-returns t)
     (measure-statement-measure-branch-requires t) (λ c. c .measure-branch .ensures) (measure-statement-measure-loop-requires t)

@@ -6,12 +6,6 @@ use Rattle.records.proofs.Blocks.{one-skip}
 use Rattle.equaliser.proofs.measure.padded_records.Statement.{statement}
 use Rattle.equaliser.proofs.measure.padded_records.Tie as tie
 
-add-skip-records : tie.Need-add-skip-records
-add-skip-records c = search needs
-
-skip-records-requires : tie.Need-skip-records-requires
-skip-records-requires c κs = search needs
-
 add-result : tie.Need-add-result
 add-result c = omega (arith, c .before .before .before .pre .few, c .before .skip-records .ensures, one-skip (c .before .before .before .args .block .wait + c .before .before .before .args .pad))
 
@@ -22,5 +16,4 @@ returns c = (
 )
 
 pub padded-records-spec : {M : Type 1} → statement M
-padded-records-spec =
-    tie.close (tie.spec add-skip-records skip-records-requires add-result returns)
+padded-records-spec = tie.close (tie.spec (search needs) (search needs) add-result returns)

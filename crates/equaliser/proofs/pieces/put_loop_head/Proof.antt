@@ -11,5 +11,4 @@ returns c =
     head-laid (recordOf (s .args .r)) (s .args .out .now) (s .pre) (w .put-record .ensures) (c .before .before .put-record2 .ensures)
 
 pub put-loop-head-spec : {M : Type 1} → statement M
-put-loop-head-spec =
-    tie.close (tie.spec (search needs) (search needs) (search needs) (search needs) (search needs) (search needs) returns)
+put-loop-head-spec = tie.close (tie.spec (search needs) (search needs) (search needs) (search needs) (search needs) (search needs) returns)

@@ -127,12 +127,6 @@ going : (t : ℕ) (c : write-block-lts.Else1 (write-block-claims t) (write-block
     closesBlock (kindAt (c .before .before .before .before .before .before .before .args .file .now) (c .before .before .before .before .loop .next)) ≡ false
 going t c = told closesBlock (c .before .before .kind-at .ensures) (c .before .closes .ensures) (c .if1 .left)
 
-write-block-sub-write-statement : (t : ℕ) → write-block-lts.Need-sub-write-statement (write-block-claims t) (write-block-at t) write-block.Post write-block-Inv-loop write-block-μ-loop
-write-block-sub-write-statement t c = part-at (c .before .before .before .before .loop .inv (c .before .before .before .before .before .before .before .pre .1) .part)
-
-write-block-part-write-statement-start : (t : ℕ) → write-block-lts.Need-part-write-statement-start (write-block-claims t) (write-block-at t) write-block.Post write-block-Inv-loop write-block-μ-loop
-write-block-part-write-statement-start t c = part-at (c .before .before .before .before .loop .inv (c .before .before .before .before .before .before .before .pre .1) .part)
-
 write-block-write-statement-requires : (t : ℕ) → write-block-lts.Need-write-statement-requires (write-block-claims t) (write-block-at t) write-block.Post write-block-Inv-loop write-block-μ-loop
 write-block-write-statement-requires t c κs =
     let at-loop-test = c .before .before .before .before in
@@ -268,17 +262,6 @@ branch-second t c F =
     let start = c .before .before .before .before .before .before .before .before .before .before .before .before .before .before .before .before .before .before .before
     .before in
     second-laid F (start .pre .1 .1) (start .pre .1 .2) (branch-else t (c .before .before .before .before .before .before) F) (c .write-block2 .ensures)
-
-write-branch-put-record-requires : (t : ℕ) → write-branch-lts.Need-put-record-requires (write-branch-claims t) (write-branch-at t) write-branch.Post
-write-branch-put-record-requires t c κs =
-    let start = c .before .before .before in
-    test-fits (start .pre .1 .0) (start .pre .1 .1) (start .pre .1 .2)
-
-write-branch-sub-write-block : (t : ℕ) → write-branch-lts.Need-sub-write-block (write-branch-claims t) (write-branch-at t) write-branch.Post
-write-branch-sub-write-block t c = part-at (branch-test t (c .before .before .before) (c .before .before .before .before .before .before .before .pre .1 .0) .part)
-
-write-branch-part-write-block-start : (t : ℕ) → write-branch-lts.Need-part-write-block-start (write-branch-claims t) (write-branch-at t) write-branch.Post
-write-branch-part-write-block-start t c = part-at (branch-test t (c .before .before .before) (c .before .before .before .before .before .before .before .pre .1 .0) .part)
 
 write-branch-write-block-requires : (t : ℕ) → write-branch-lts.Need-write-block-requires (write-branch-claims t) (write-branch-at t) write-branch.Post
 write-branch-write-block-requires t c κs =
@@ -433,17 +416,6 @@ loop-body t c F =
     let start = c .before .before .before .before .before .before .before .before in
     body-laid F (start .pre .1 .1) (start .pre .1 .2) (start .pre .1 .3) (loop-head t (c .before .before .before .before) F) (c .write-block .ensures)
 
-write-loop-put-loop-head-requires : (t : ℕ) → write-loop-lts.Need-put-loop-head-requires (write-loop-claims t) (write-loop-at t) write-loop.Post
-write-loop-put-loop-head-requires t c κs =
-    let start = c .before .before .before in
-    head-fits (start .pre .1 .0) (start .pre .1 .1) (start .pre .1 .2) (start .pre .1 .3)
-
-write-loop-sub-write-block : (t : ℕ) → write-loop-lts.Need-sub-write-block (write-loop-claims t) (write-loop-at t) write-loop.Post
-write-loop-sub-write-block t c = part-at (loop-head t (c .before .before) (c .before .before .before .before .before .before .pre .1 .0) .part)
-
-write-loop-part-write-block-start : (t : ℕ) → write-loop-lts.Need-part-write-block-start (write-loop-claims t) (write-loop-at t) write-loop.Post
-write-loop-part-write-block-start t c = part-at (loop-head t (c .before .before) (c .before .before .before .before .before .before .pre .1 .0) .part)
-
 write-loop-write-block-requires : (t : ℕ) → write-loop-lts.Need-write-block-requires (write-loop-claims t) (write-loop-at t) write-loop.Post
 write-loop-write-block-requires t c κs =
     let start = c .before .before .before .before .before .before .before in
@@ -510,9 +482,6 @@ step-begun t c F = begun F (c .before .before .before .before .record-at .ensure
 
 write-statement-add-wait : (t : ℕ) → write-statement-lts.Need-add-wait (write-statement-claims t) (write-statement-at t) write-statement.Post
 write-statement-add-wait t c = omega (arith, skip-short (c .before .before .before .before .before .before .pre .1) (c .before .before .before .record-at .ensures) (c .before .if1 .taken))
-
-write-statement-returns : (t : ℕ) → write-statement-lts.Need-returns (write-statement-claims t) (write-statement-at t) write-statement.Post
-write-statement-returns t c = record { right = λ F. skip-written F (c .before .before .before .record-at .ensures) (c .before .if1 .taken) }
 
 write-statement-put-skip-requires : (t : ℕ) → write-statement-lts.Need-put-skip-requires (write-statement-claims t) (write-statement-at t) write-statement.Post
 write-statement-put-skip-requires t c κs = skip-fits (c .before .before .before .before .before .before .pre .1) (c .before .before .before .record-at .ensures) (c .before .if1 .left)
@@ -603,31 +572,39 @@ pub +write-block+write-branch+write-inner+write-loop+write-statement-spec : {M :
 +write-block+write-branch+write-inner+write-loop+write-statement-spec =
     close μ-write-block μ-write-branch μ-write-inner μ-write-loop μ-write-statement
     (λ t. write-block-lts.spec (write-block-claims t) (write-block-at t) write-block.Post write-block-Inv-loop write-block-μ-loop
-    (λ c. λ F. writing-start F) (omega arith) (search needs) (write-block-sub-write-statement t) (write-block-part-write-statement-start t)
+    (λ c. λ F. writing-start F) (omega arith) (search needs)
+    (λ c. part-at (c .before .before .before .before .loop .inv (c .before .before .before .before .before .before .before .pre .1) .part))
+    (λ c. part-at (c .before .before .before .before .loop .inv (c .before .before .before .before .before .before .before .pre .1) .part))
     (search needs) (write-block-write-statement-requires t) (write-block-add-at t) (write-block-loop-less t) (λ c. λ F. turned t c F)
     (λ c. part-at (c .before .loop .inv (c .before .before .before .before .pre .1) .part))
     (λ c. part-at (c .before .loop .inv (c .before .before .before .before .pre .1) .part)) (search needs)
     (λ c. omega (arith, c .before .before .loop .inv (c .before .before .before .before .before .pre .1) .within))
     (write-block-put-skip-requires t) (write-block-add-bytes t) (write-block-same-length t) (write-block-returns t))
-    (λ t. write-branch-lts.spec (write-branch-claims t) (write-branch-at t) write-branch.Post (write-branch-put-record-requires t)
-    (omega arith) (omega arith) (omega arith) (write-branch-sub-write-block t) (write-branch-part-write-block-start t) (search needs)
-    (write-branch-write-block-requires t) (write-branch-add-middle t) (write-branch-sub-put-bare t) (write-branch-part-put-bare-start t)
-    (search needs) (write-branch-put-bare-requires t) (write-branch-add-start t) (write-branch-add-write-block-2 t) (omega arith)
-    (omega arith) (omega arith) (write-branch-sub-write-block-2 t) (write-branch-part-write-block-start-2 t) (search needs)
-    (write-branch-write-block-requires-2 t) (write-branch-add-last t) (write-branch-sub-put-bare-2 t) (write-branch-part-put-bare-start-2 t)
-    (search needs) (write-branch-put-bare-requires-2 t) (write-branch-add-t15 t) (write-branch-add-t30 t) (write-branch-same-length t)
-    (write-branch-returns t))
+    (λ t. write-branch-lts.spec (write-branch-claims t) (write-branch-at t) write-branch.Post
+    (λ c κs. let start = c .before .before .before in test-fits (start .pre .1 .0) (start .pre .1 .1) (start .pre .1 .2)) (omega arith)
+    (omega arith) (omega arith)
+    (λ c. part-at (branch-test t (c .before .before .before) (c .before .before .before .before .before .before .before .pre .1 .0) .part))
+    (λ c. part-at (branch-test t (c .before .before .before) (c .before .before .before .before .before .before .before .pre .1 .0) .part))
+    (search needs) (write-branch-write-block-requires t) (write-branch-add-middle t) (write-branch-sub-put-bare t)
+    (write-branch-part-put-bare-start t) (search needs) (write-branch-put-bare-requires t) (write-branch-add-start t)
+    (write-branch-add-write-block-2 t) (omega arith) (omega arith) (omega arith) (write-branch-sub-write-block-2 t)
+    (write-branch-part-write-block-start-2 t) (search needs) (write-branch-write-block-requires-2 t) (write-branch-add-last t)
+    (write-branch-sub-put-bare-2 t) (write-branch-part-put-bare-start-2 t) (search needs) (write-branch-put-bare-requires-2 t)
+    (write-branch-add-t15 t) (write-branch-add-t30 t) (write-branch-same-length t) (write-branch-returns t))
     (λ t. write-inner-lts.spec (write-inner-claims t) (write-inner-at t) write-inner.Post (write-inner-write-branch-requires t)
     (search needs) (λ c. c .before .before .write-branch .ensures) (write-inner-write-loop-requires t) (search needs)
     (λ c. c .before .before .write-loop .ensures))
-    (λ t. write-loop-lts.spec (write-loop-claims t) (write-loop-at t) write-loop.Post (write-loop-put-loop-head-requires t) (omega arith)
-    (write-loop-sub-write-block t) (write-loop-part-write-block-start t) (search needs) (write-loop-write-block-requires t)
-    (write-loop-add-at t) (write-loop-sub-put-loop-tail t) (write-loop-part-put-loop-tail-start t) (search needs) (omega arith)
-    (omega arith) (write-loop-put-loop-tail-requires t) (write-loop-add-bytes t) (write-loop-add-t13 t) (search needs)
-    (write-loop-returns t))
+    (λ t. write-loop-lts.spec (write-loop-claims t) (write-loop-at t) write-loop.Post
+    (λ c κs. let start = c .before .before .before in head-fits (start .pre .1 .0) (start .pre .1 .1) (start .pre .1 .2) (start .pre .1 .3))
+    (omega arith) (λ c. part-at (loop-head t (c .before .before) (c .before .before .before .before .before .before .pre .1 .0) .part))
+    (λ c. part-at (loop-head t (c .before .before) (c .before .before .before .before .before .before .pre .1 .0) .part)) (search needs)
+    (write-loop-write-block-requires t) (write-loop-add-at t) (write-loop-sub-put-loop-tail t) (write-loop-part-put-loop-tail-start t)
+    (search needs) (omega arith) (omega arith) (write-loop-put-loop-tail-requires t) (write-loop-add-bytes t) (write-loop-add-t13 t)
+    (search needs) (write-loop-returns t))
     λ t. write-statement-lts.spec (write-statement-claims t) (write-statement-at t) write-statement.Post (omega arith)
-    (write-statement-add-wait t) (omega arith) (write-statement-returns t) (write-statement-put-skip-requires t) (search needs)
-    (write-statement-sub-write-inner t) (write-statement-part-write-inner-start t) (search needs) (write-statement-write-inner-requires t)
-    (write-statement-add-t17 t) (search needs) (write-statement-returns-2 t) (write-statement-sub-put-record t)
-    (write-statement-part-put-record-start t) (search needs) (write-statement-put-record-requires t) (omega arith)
-    (write-statement-add-t25 t) (search needs) (write-statement-returns-3 t)
+    (write-statement-add-wait t) (omega arith)
+    (λ c. record { right = λ F. skip-written F (c .before .before .before .record-at .ensures) (c .before .if1 .taken) })
+    (write-statement-put-skip-requires t) (search needs) (write-statement-sub-write-inner t) (write-statement-part-write-inner-start t)
+    (search needs) (write-statement-write-inner-requires t) (write-statement-add-t17 t) (search needs) (write-statement-returns-2 t)
+    (write-statement-sub-put-record t) (write-statement-part-put-record-start t) (search needs) (write-statement-put-record-requires t)
+    (omega arith) (write-statement-add-t25 t) (search needs) (write-statement-returns-3 t)

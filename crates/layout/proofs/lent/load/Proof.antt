@@ -11,5 +11,4 @@ returns c =
     ap (λ (x : ℕ). (record { tick = getD a 0 0; «ticks_left» = getD a 1 0; «windows_left» = getD a 2 0; wait = getD a 3 0; records = x })) (c .wide .ensures)
 
 pub load-spec : {M : Type 1} → statement M
-load-spec =
-    tie.close (tie.spec (search needs) (search needs) (search needs) (search needs) (search needs) (search needs) returns)
+load-spec = tie.close (tie.spec (search needs) (search needs) (search needs) (search needs) (search needs) (search needs) returns)

@@ -7,5 +7,4 @@ returns : tie.Need-returns
 returns c = ((c .wide) .ensures, placed ((c .before .before .before .args) .clock .now) ((c .before .before .before .pre) .0) ((c .before .if1) .taken))
 
 pub place-spec : {M : Type 1} → statement M
-place-spec =
-    tie.close (tie.spec (search needs) (search needs) (search needs) (search needs) returns (search needs) (λ c. search needs))
+place-spec = tie.close (tie.spec (search needs) (search needs) (search needs) (search needs) returns (search needs) (λ c. search needs))

@@ -284,9 +284,6 @@ measure-block-loop-again-2 t c =
     ((at-record-at .record-at) .ensures) (sym ((c .before .before .before .before .before .nests) .ensures) ∙ (c .before .before .before .before .if2) .left)
     ((c .before .before .before .measure-step) .ensures) ((c .if4) .left)
 
-measure-block-returns-4 : (t : ℕ) → measure-block-lts.Need-returns-4 (measure-block-claims t) (measure-block-at t) measure-block.Post measure-block-Inv-loop measure-block-μ-loop
-measure-block-returns-4 t c = clocking-ended ((c .before .before .before .loop) .inv) ((c .store4) .ensures) ((c .before .before .loop-test) .left)
-
 measure-branch-stepped-requires : (t : ℕ) → measure-branch-lts.Need-stepped-requires (measure-branch-claims t) (measure-branch-at t) measure-branch.Post
 measure-branch-stepped-requires t c κs =
     let y = test-laying ((c .before .before .before .before .pre) .1 .0) ((c .before .before .settings-in) .ensures) ((c .load) .ensures) in
@@ -478,9 +475,6 @@ measure-branch-returns-4 t c =
     ((at-if3 .before .before .before .load3) .ensures) ((at-if3 .if3) .left) ((c .before .before .before .before .before .settings-in2) .ensures)
     ((c .before .before .before .before .meet) .ensures) ((c .before .before .store3) .ensures) ((at-place .place) .ensures .0) ((c .note) .ensures)
 
-measure-inner-record-at-requires : (t : ℕ) → measure-inner-lts.Need-record-at-requires (measure-inner-claims t) (measure-inner-at t) measure-inner.Post
-measure-inner-record-at-requires t c κs = omega (arith, (c .before .pre) .1 .0 .statement .here .early, (c .before .pre) .1 .0 .statement .here .file .inside)
-
 measure-inner-measure-branch-requires : (t : ℕ) → measure-inner-lts.Need-measure-branch-requires (measure-inner-claims t) (measure-inner-at t) measure-inner.Post
 measure-inner-measure-branch-requires t c κs =
     let start = c .before .before .before .before .before .before in (
@@ -513,9 +507,6 @@ unfolding settingsIn
 measure-inner-idle-rounds-requires t c κs =
     let S = c .before .before .before .before .before .pre .1 .0 .statement in
     (record { order = omega (arith, S .here .early); inside = S .here .file .inside }, S .ready .laying .settings .short)
-
-measure-inner-measure-idle-requires : (t : ℕ) → measure-inner-lts.Need-measure-idle-requires (measure-inner-claims t) (measure-inner-at t) measure-inner.Post
-measure-inner-measure-idle-requires t c κs = idle-laying (c .before .before .before .before .before .before .before .before .before .before .pre .1 .0) (c .load .ensures)
 
 measure-inner-store-requires : (t : ℕ) → measure-inner-lts.Need-store-requires (measure-inner-claims t) (measure-inner-at t) measure-inner.Post
 measure-inner-store-requires t c κs =
@@ -552,9 +543,6 @@ measure-rounds-Inv-loop s i to count t clock₀ meets₀ body next₀ round₀ c
 
 abbrev measure-rounds-μ-loop : measure-rounds-lts.MeasureT-loop
 measure-rounds-μ-loop s i to count t clock₀ meets₀ body next₀ round₀ clock meets next round = count - round
-
-measure-rounds-add-body : (t : ℕ) → measure-rounds-lts.Need-add-body (measure-rounds-claims t) (measure-rounds-at t) measure-rounds.Post measure-rounds-Inv-loop measure-rounds-μ-loop
-measure-rounds-add-body t c = omega (arith, (c .before .pre) .1 .0 .statement .here .early, (c .before .pre) .1 .0 .statement .here .file .inside)
 
 measure-rounds-measure-block-requires : (t : ℕ) → measure-rounds-lts.Need-measure-block-requires (measure-rounds-claims t) (measure-rounds-at t) measure-rounds.Post measure-rounds-Inv-loop measure-rounds-μ-loop
 measure-rounds-measure-block-requires t c κs =
@@ -616,7 +604,8 @@ pub +measure-block+measure-branch+measure-inner+measure-rounds+measure-side-spec
     (measure-block-measure-step-requires t) (measure-block-add-next t) (search needs) (measure-block-store-requires-3 t)
     (measure-block-returns-3 t)
     (λ c. omega (arith, (c .before .before .before .before .before .before .before .before .before .loop-test) .taken))
-    (measure-block-loop-again-2 t) (λ c κs. store-fits ((c .before .before .loop) .inv)) (measure-block-returns-4 t))
+    (measure-block-loop-again-2 t) (λ c κs. store-fits ((c .before .before .loop) .inv))
+    (λ c. clocking-ended ((c .before .before .before .loop) .inv) ((c .store4) .ensures) ((c .before .before .loop-test) .left)))
     (λ t. measure-branch-lts.spec (measure-branch-claims t) (measure-branch-at t) measure-branch.Post (search needs) (search needs)
     (measure-branch-stepped-requires t) (measure-branch-store-requires t) (search needs) (measure-branch-returns t)
     (measure-branch-place-requires t) (measure-branch-add-measure-side t) (measure-branch-measure-side-requires t) (search needs)
@@ -624,12 +613,16 @@ pub +measure-block+measure-branch+measure-inner+measure-rounds+measure-side-spec
     (measure-branch-measure-side-requires-2 t) (search needs) (search needs) (measure-branch-returns-3 t) (search needs)
     (measure-branch-meet-requires t) (measure-branch-store-requires-3 t) (search needs) (measure-branch-add-result t)
     (measure-branch-returns-4 t))
-    (λ t. measure-inner-lts.spec (measure-inner-claims t) (measure-inner-at t) measure-inner.Post (measure-inner-record-at-requires t)
+    (λ t. measure-inner-lts.spec (measure-inner-claims t) (measure-inner-at t) measure-inner.Post
+    (λ c κs. omega (arith, (c .before .pre) .1 .0 .statement .here .early, (c .before .pre) .1 .0 .statement .here .file .inside))
     (measure-inner-measure-branch-requires t) (λ c. (c .measure-branch) .ensures) (measure-inner-add-idle-rounds t) (search needs)
-    (measure-inner-idle-rounds-requires t) (search needs) (measure-inner-measure-idle-requires t) (measure-inner-store-requires t)
-    (measure-inner-add-result t) (measure-inner-returns-2 t) (measure-inner-measure-rounds-requires t) (λ c. (c .measure-rounds) .ensures))
+    (measure-inner-idle-rounds-requires t) (search needs)
+    (λ c κs. idle-laying (c .before .before .before .before .before .before .before .before .before .before .pre .1 .0) (c .load .ensures))
+    (measure-inner-store-requires t) (measure-inner-add-result t) (measure-inner-returns-2 t) (measure-inner-measure-rounds-requires t)
+    (λ c. (c .measure-rounds) .ensures))
     (λ t. measure-rounds-lts.spec (measure-rounds-claims t) (measure-rounds-at t) measure-rounds.Post measure-rounds-Inv-loop
-    measure-rounds-μ-loop (measure-rounds-add-body t)
+    measure-rounds-μ-loop
+    (λ c. omega (arith, (c .before .pre) .1 .0 .statement .here .early, (c .before .pre) .1 .0 .statement .here .file .inside))
     (λ c. rounds-start ((c .before .pre) .1 .0) ((c .before .pre) .1 .1) ((c .before .pre) .1 .2)) (measure-rounds-measure-block-requires t)
     (search needs) (search needs) (measure-rounds-returns t) (omega arith) (omega arith) (measure-rounds-loop-again t) (search needs)
     (search needs) (measure-rounds-stepped-requires t) (measure-rounds-store-requires t) (measure-rounds-add-result t)

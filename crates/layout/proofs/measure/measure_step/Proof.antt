@@ -3,9 +3,6 @@ use borrow.Author.Needs.{needs}
 use Rattle.layout.proofs.measure.measure_step.Statement.{statement}
 use Rattle.layout.proofs.measure.measure_step.Tie as tie
 
-returns : tie.Need-returns
-returns c = step-skipped ((c .before .before .before .settings-in) .ensures) ((c .before .if1) .taken) (c .filled .ensures)
-
 stepped-requires : tie.Need-stepped-requires
 stepped-requires c κs =
     let d = step-fits ((c .before .before .before .settings-in) .ensures) (c .before .before .before .before .pre) ((c .before .if1) .left) (c .step-ticks .ensures) in
@@ -17,4 +14,5 @@ returns-2 c = step-stepped ((c .before .before .before .before .settings-in) .en
 pub measure-step-spec : {M : Type 1} → statement M
 measure-step-spec =
     tie.close (tie.spec (search needs) (λ c κs. step-laying ((c .before .before .settings-in) .ensures) (c .before .before .before .pre))
-    returns (search needs) stepped-requires returns-2)
+    (λ c. step-skipped ((c .before .before .before .settings-in) .ensures) ((c .before .if1) .taken) (c .filled .ensures)) (search needs)
+    stepped-requires returns-2)

@@ -16,21 +16,11 @@ met-is : (l : State) (k m n : ℕ) → k ≡ skipRecords (l .wait) → m ≡ cap
 met-is l k m n e f =
     ap (λ (x : ℕ). record { tick = l .tick; «ticks_left» = l .«ticks_left»; «windows_left» = l .«windows_left»; wait = 0; records = x }) (f ∙ ap (λ (x : ℕ). cap (n + (2 + x))) e)
 
-cast-skip-records : tie.Need-cast-skip-records
-cast-skip-records c = search needs
-
-skip-records-requires : tie.Need-skip-records-requires
-skip-records-requires c κs = search needs
-
-add-counted : tie.Need-add-counted
-add-counted c = omega (arith, c .skip-records .ensures, one-skip ((c .before .before .args) .late .wait))
-
-counted-requires : tie.Need-counted-requires
-counted-requires c κs = omega (arith, c .skip-records .ensures, one-skip ((c .before .before .args) .late .wait))
-
 returns : tie.Need-returns
 returns c = met-is ((c .before .before .before .args) .late) _ _ ((c .before .before .before .args) .count) ((c .before .skip-records) .ensures) (c .counted .ensures)
 
 pub met-spec : {M : Type 1} → statement M
 met-spec =
-    tie.close (tie.spec cast-skip-records skip-records-requires add-counted counted-requires returns)
+    tie.close (tie.spec (search needs) (search needs)
+    (λ c. omega (arith, c .skip-records .ensures, one-skip ((c .before .before .args) .late .wait)))
+    (λ c κs. omega (arith, c .skip-records .ensures, one-skip ((c .before .before .args) .late .wait))) returns)

@@ -1,14 +1,7 @@
-use lib.ListN.{length-set}
-use lib.Seq.{getD-set-same, getD-set-other}
+use lib.{ListN.length-set, Seq.getD-set-same, Seq.getD-set-other}
 use borrow.Author.Needs.{needs}
 use Rattle.layout.proofs.measure.note.Statement.{statement}
 use Rattle.layout.proofs.measure.note.Tie as tie
-
-mul-meets : tie.Need-mul-meets
-mul-meets c = search needs
-
-element-write-meets : tie.Need-element-write-meets
-element-write-meets c = search needs
 
 returns : tie.Need-returns
 returns c =
@@ -19,8 +12,5 @@ returns c =
       others = λ j n. getD-set-other (a .meets .now) (a .k) j (a .tick) 0 n;
     }
 
-returns-2 : tie.Need-returns-2
-returns-2 c = search needs
-
 pub note-spec : {M : Type 1} → statement M
-note-spec = tie.close (tie.spec mul-meets element-write-meets returns returns-2)
+note-spec = tie.close (tie.spec (search needs) (search needs) returns (search needs))

@@ -4,12 +4,6 @@ use Rattle.layout.proofs.IdleLoops.{idle-start, idle-late, idle-laying,
 use Rattle.layout.proofs.skips.measure_idle.Statement.{statement}
 use Rattle.layout.proofs.skips.measure_idle.Tie as tie
 
-settings-in-requires : tie.Need-settings-in-requires
-settings-in-requires c κs = search needs
-
-filled-requires : tie.Need-filled-requires
-filled-requires c κs = idle-start (c .settings-in .ensures) (c .before .pre)
-
 returns : tie.Need-returns
 returns c = idle-late (c .before .before .before .before .settings-in .ensures) (c .before .before .before .before .before .pre) (c .before .before .before .filled .ensures) (c .if1 .taken)
 
@@ -24,4 +18,4 @@ returns-2 c =
 
 pub measure-idle-spec : {M : Type 1} → statement M
 measure-idle-spec =
-    tie.close (tie.spec settings-in-requires filled-requires returns stepped-requires returns-2)
+    tie.close (tie.spec (search needs) (λ c κs. idle-start (c .settings-in .ensures) (c .before .pre)) returns stepped-requires returns-2)

@@ -5,9 +5,6 @@ use Rattle.layout.proofs.IdleLoops.{skips-laying, check-left, idle-chec
 use Rattle.layout.proofs.skips.write_idle.Statement.{statement}
 use Rattle.layout.proofs.skips.write_idle.Tie as tie
 
-returns : tie.Need-returns
-returns c = record { skips = λ h. c .before .before .before .before .put-skips .ensures; check = λ h. absurd (h (c .if1 .taken)) }
-
 written-requires : tie.Need-bytes-between-requires
 written-requires c κs = writing-upto (check-left (c .before .before .before .before .before .before .before .pre .check (c .if1 .left)) (c .before .before .before .before .put-skips .ensures))
 
@@ -42,5 +39,6 @@ returns-2 c =
 
 pub write-idle-spec : {M : Type 1} → statement M
 write-idle-spec =
-    tie.close (tie.spec (λ c κs. let F = c .before .before .pre in (F .laying, F .within, F .room)) (search needs) returns written-requires
-    (search needs) sub-put-step part-put-step-start (search needs) put-step-requires (search needs) returns-2)
+    tie.close (tie.spec (λ c κs. let F = c .before .before .pre in (F .laying, F .within, F .room)) (search needs)
+    (λ c. record { skips = λ h. c .before .before .before .before .put-skips .ensures; check = λ h. absurd (h (c .if1 .taken)) })
+    written-requires (search needs) sub-put-step part-put-step-start (search needs) put-step-requires (search needs) returns-2)

@@ -11,9 +11,6 @@ use Rattle.model.specs.Records.{kindAt}
 use Rattle.reading.specs.Closing.{closesBlock}
 use Rattle.reading.proofs.Standing.{told}
 use Rattle.reading.proofs.Walking.{kind-there, count-there, if-at}
-use Rattle.layout.proofs.PassingSteps.{step-short}
-use Rattle.layout.proofs.PassingRounds.{opened, at-end}
-use Rattle.layout.proofs.WritingSteps.{act-fits, act-laid}
 use Rattle.layout.proofs.IdleLoops.{skips-fit, skips-laid, no-skip}
 use Rattle.layout.proofs.WritingBlocks.{WritingBlock, block-start, block-closed, block-ended, statement-fits, block-on, block-next}
 use Rattle.layout.proofs.WritingRounds.{WritingLoop, loop, loop-start, body-fits, rounds-next, check-fits, rounds-laid}
@@ -186,9 +183,6 @@ write-branch-element-copy-out-end t c =
     let start = c .before .before .before .before .before .before .before in
     table-at ((start .pre) .1 .0) ((start .pre) .1 .2) ((start .pre) .1 .1) ((c .before .before .before .put-step) .ensures) .0
 
-write-branch-add-write-side : (t : ℕ) → write-branch-lts.Need-add-write-side (write-branch-claims t) (write-branch-at t) write-branch.Post
-write-branch-add-write-side t c = omega (arith, (c .before .before .before .before .before .before .before .before .pre) .1 .0 .statement .here .early)
-
 write-branch-add-write-side-2 : (t : ℕ) → write-branch-lts.Need-add-write-side-2 (write-branch-claims t) (write-branch-at t) write-branch.Post
 write-branch-add-write-side-2 t c =
     let start = c .before .before .before .before .before .before .before .before in
@@ -307,9 +301,6 @@ write-rounds-Inv-loop s i to r n from ifs meets out₀ body last state₀ next�
 abbrev write-rounds-μ-loop : write-rounds-lts.MeasureT-loop
 write-rounds-μ-loop s i to r n from ifs meets out₀ body last state₀ next₀ k₀ round₀ out state next k round = last - round
 
-write-rounds-add-body : (t : ℕ) → write-rounds-lts.Need-add-body (write-rounds-claims t) (write-rounds-at t) write-rounds.Post write-rounds-Inv-loop write-rounds-μ-loop
-write-rounds-add-body t c = omega (arith, (c .before .before .pre) .1 .0 .statement .here .early, (c .before .before .pre) .1 .0 .statement .here .file .inside)
-
 write-rounds-loop-holds : (t : ℕ) → write-rounds-lts.Need-loop-holds (write-rounds-claims t) (write-rounds-at t) write-rounds.Post write-rounds-Inv-loop write-rounds-μ-loop
 write-rounds-loop-holds t c =
     let p = c .before .before .pre .1 in
@@ -322,9 +313,6 @@ write-rounds-write-block-requires t c κs =
       omega (arith, (start .pre) .0, (start .pre) .1 .0 .statement .here .early),
       body-fits ((at-loop .loop) .inv .loop-fits) ((at-loop .loop) .inv .turn) ((c .before .before .loop-test) .taken) ((c .before .bytes-between) .ensures),
     )
-
-write-rounds-add-round : (t : ℕ) → write-rounds-lts.Need-add-round (write-rounds-claims t) (write-rounds-at t) write-rounds.Post write-rounds-Inv-loop write-rounds-μ-loop
-write-rounds-add-round t c = omega (arith, c .before .before .before .before .before .before .before .before .before .before .good .1 .1 .1 .0)
 
 write-rounds-loop-again : (t : ℕ) → write-rounds-lts.Need-loop-again (write-rounds-claims t) (write-rounds-at t) write-rounds.Post write-rounds-Inv-loop write-rounds-μ-loop
 write-rounds-loop-again t c =
@@ -355,9 +343,6 @@ write-rounds-add-t27 t c =
       c .before .before .before .before .before .before .before .before .before .before .good .0 .0,
     )
 
-write-rounds-same-length : (t : ℕ) → write-rounds-lts.Need-same-length (write-rounds-claims t) (write-rounds-at t) write-rounds.Post write-rounds-Inv-loop write-rounds-μ-loop
-write-rounds-same-length t c = (c .before .out2) .given .1 ∙ part-length ((c .before .before .before .before .before .before .before .loop) .inv .turn .writing .part)
-
 write-rounds-returns : (t : ℕ) → write-rounds-lts.Need-returns (write-rounds-claims t) (write-rounds-at t) write-rounds.Post write-rounds-Inv-loop write-rounds-μ-loop
 write-rounds-returns t c =
     let at-loop-test = c .before .before .before .before .before .before in
@@ -365,9 +350,6 @@ write-rounds-returns t c =
     rounds-laid ((at-loop .loop) .inv .loop-fits) ((at-loop .loop) .inv .turn) ((at-loop-test .loop-test) .left)
     (c .before .before .before .before .check-of .ensures ∙ ap checkRec (at-loop .before .before .before .pre .1 .1))
     ((c .before .before .before .before .before .bytes-between2) .ensures) ((c .before .before .put-step) .ensures)
-
-write-side-written-requires : (t : ℕ) → write-side-lts.Need-bytes-between-requires (write-side-claims t) (write-side-at t) write-side.Post
-write-side-written-requires t c κs = side-upto ((c .before .before .before .before .before .before .before .pre) .1) ((c .before .before .before .write-block) .ensures)
 
 write-side-sub-close-side : (t : ℕ) → write-side-lts.Need-sub-close-side (write-side-claims t) (write-side-at t) write-side.Post
 write-side-sub-close-side t c =
@@ -395,9 +377,6 @@ write-side-returns t c =
     let at-write-block = c .before .before .before .before .before .before .before .before in
     side-laid ((at-write-block .before .before .before .before .pre) .1) ((at-write-block .write-block) .ensures) ((c .before .before .before .before .bytes-between) .ensures)
     ((c .before .before .close-side) .ensures)
-
-write-statement-record-at-requires : (t : ℕ) → write-statement-lts.Need-record-at-requires (write-statement-claims t) (write-statement-at t) write-statement.Post
-write-statement-record-at-requires t c κs = omega (arith, (c .before .before .pre) .1 .statement .here .early, (c .before .before .pre) .1 .statement .here .file .inside)
 
 write-statement-write-branch-requires : (t : ℕ) → write-statement-lts.Need-write-branch-requires (write-statement-claims t) (write-statement-at t) write-statement.Post
 write-statement-write-branch-requires t c κs =
@@ -473,27 +452,33 @@ pub +write-block+write-branch+write-rounds+write-side+write-statement-spec : {M 
     (write-block-write-statement-requires t) (write-block-loop-less t) (write-block-loop-again t)
     (λ c. part-length ((c .before .loop) .inv .writing .part)) (λ c. block-ended ((c .before .loop) .inv) ((c .loop-test) .left)))
     (λ t. write-branch-lts.spec (write-branch-claims t) (write-branch-at t) write-branch.Post (write-branch-put-step-requires t)
-    (write-branch-written-requires t) (write-branch-mul-end t) (write-branch-element-copy-out-end t) (write-branch-add-write-side t)
+    (write-branch-written-requires t) (write-branch-mul-end t) (write-branch-element-copy-out-end t)
+    (λ c. omega (arith, (c .before .before .before .before .before .before .before .before .pre) .1 .0 .statement .here .early))
     (write-branch-add-write-side-2 t) (write-branch-sub-write-side t) (write-branch-part-write-side-start t) (search needs)
     (write-branch-write-side-requires t) (write-branch-written-requires-2 t) (write-branch-add-write-side-3 t) (search needs)
     (write-branch-sub-write-side-2 t) (write-branch-part-write-side-start-2 t) (search needs) (write-branch-write-side-requires-2 t)
     (write-branch-add-t24 t) (write-branch-same-length t) (write-branch-returns t))
     (λ t. write-rounds-lts.spec (write-rounds-claims t) (write-rounds-at t) write-rounds.Post write-rounds-Inv-loop write-rounds-μ-loop
-    (write-rounds-add-body t) (write-rounds-loop-holds t) (λ c κs. writing-upto ((c .before .loop) .inv .turn .writing))
+    (λ c. omega (arith, (c .before .before .pre) .1 .0 .statement .here .early, (c .before .before .pre) .1 .0 .statement .here .file .inside))
+    (write-rounds-loop-holds t) (λ c κs. writing-upto ((c .before .loop) .inv .turn .writing))
     (λ c. rw (c .bytes-between .ensures) (writing-at ((c .before .before .loop) .inv .turn .writing)))
     (λ c. rw (c .bytes-between .ensures) (writing-at ((c .before .before .loop) .inv .turn .writing))) (search needs)
-    (write-rounds-write-block-requires t) (write-rounds-add-round t) (omega arith) (write-rounds-loop-again t)
-    (λ c κs. writing-upto ((c .before .loop) .inv .turn .writing)) (search needs)
+    (write-rounds-write-block-requires t)
+    (λ c. omega (arith, c .before .before .before .before .before .before .before .before .before .before .good .1 .1 .1 .0)) (omega arith)
+    (write-rounds-loop-again t) (λ c κs. writing-upto ((c .before .loop) .inv .turn .writing)) (search needs)
     (λ c. rw (c .before .bytes-between2 .ensures) (writing-at ((c .before .before .before .loop) .inv .turn .writing)))
     (λ c. rw (c .before .bytes-between2 .ensures) (writing-at ((c .before .before .before .loop) .inv .turn .writing))) (search needs)
-    (write-rounds-put-step-requires t) (write-rounds-add-t27 t) (write-rounds-same-length t) (write-rounds-returns t))
+    (write-rounds-put-step-requires t) (write-rounds-add-t27 t)
+    (λ c. (c .before .out2) .given .1 ∙ part-length ((c .before .before .before .before .before .before .before .loop) .inv .turn .writing .part))
+    (write-rounds-returns t))
     (λ t. write-side-lts.spec (write-side-claims t) (write-side-at t) write-side.Post
-    (λ c κs. (omega arith, side-fits ((c .before .before .before .pre) .1))) (write-side-written-requires t) (write-side-sub-close-side t)
-    (write-side-part-close-side-start t) (search needs) (write-side-close-side-requires t) (write-side-same-length t)
-    (write-side-returns t))
+    (λ c κs. (omega arith, side-fits ((c .before .before .before .pre) .1)))
+    (λ c κs. side-upto ((c .before .before .before .before .before .before .before .pre) .1) ((c .before .before .before .write-block) .ensures))
+    (write-side-sub-close-side t) (write-side-part-close-side-start t) (search needs) (write-side-close-side-requires t)
+    (write-side-same-length t) (write-side-returns t))
     λ t. write-statement-lts.spec (write-statement-claims t) (write-statement-at t) write-statement.Post
-    (write-statement-record-at-requires t) (write-statement-write-branch-requires t) (search needs)
-    (λ c. (c .before .before .write-branch) .ensures) (write-statement-idle-at-requires t) (write-statement-write-idle-requires t)
-    (search needs) (write-statement-returns-2 t) (write-statement-write-rounds-requires t) (search needs)
-    (λ c. c .before .before .write-rounds .ensures) (search needs) (write-statement-put-step-requires t) (write-statement-add-next t)
-    (search needs) (write-statement-returns-4 t)
+    (λ c κs. omega (arith, (c .before .before .pre) .1 .statement .here .early, (c .before .before .pre) .1 .statement .here .file .inside))
+    (write-statement-write-branch-requires t) (search needs) (λ c. (c .before .before .write-branch) .ensures)
+    (write-statement-idle-at-requires t) (write-statement-write-idle-requires t) (search needs) (write-statement-returns-2 t)
+    (write-statement-write-rounds-requires t) (search needs) (λ c. c .before .before .write-rounds .ensures) (search needs)
+    (write-statement-put-step-requires t) (write-statement-add-next t) (search needs) (write-statement-returns-4 t)

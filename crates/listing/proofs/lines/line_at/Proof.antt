@@ -2,17 +2,10 @@ use native.Mathlib.Omega.{arith}
 use mathlib.Core.Path.{ap, _∙_}
 use lib.ListN.{getD}
 use borrow.Author.Needs.{needs}
-use Rattle.model.specs.declared.Line.{Line}
-use Rattle.model.specs.declared.Shown.{Shown}
 use Rattle.model.specs.Listing.{lineOf}
 use Rattle.listing.proofs.LineLaws.{line-there, line-past-file, line-past-table}
 use Rattle.listing.proofs.lines.line_at.Statement.{statement}
 use Rattle.listing.proofs.lines.line_at.Tie as tie
-
-returns : tie.Need-returns
-returns c =
-    let a = c .before .before .before .args in
-    line-past-file (a .laid .now) (a .starts .now) (a .i) (omega (arith, c .if1 .taken))
 
 returns-2 : tie.Need-returns-2
 returns-2 c =
@@ -28,4 +21,6 @@ returns-3 c =
 
 pub line-at-spec : {M : Type 1} → statement M
 line-at-spec =
-    tie.close (tie.spec returns returns-2 (search needs) (search needs) (search needs) (search needs) returns-3)
+    tie.close (tie.spec
+    (λ c. let a = c .before .before .before .args in line-past-file (a .laid .now) (a .starts .now) (a .i) (omega (arith, c .if1 .taken)))
+    returns-2 (search needs) (search needs) (search needs) (search needs) returns-3)

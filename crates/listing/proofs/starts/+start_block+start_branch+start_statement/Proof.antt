@@ -73,19 +73,6 @@ start-branch-claims t = (start-block-below t, start-block.Post, later-reads.Aske
 abbrev start-statement-claims : ℕ → start-statement-lts.Claims
 start-statement-claims t = (record-at-reads.Asked, record-at-reads.Learnt, start-branch-below t, start-branch.Post, step-ticks-reads.Asked, step-ticks-reads.Learnt)
 
-start-block-kind-at-requires : (t : ℕ)
-    → start-block-lts.Need-kind-at-requires (start-block-claims t) (start-block-at t) start-block.Post start-block-Inv-loop start-block-μ-loop
-start-block-kind-at-requires t c κs = omega (arith, c .before .loop .inv .all .file .inside)
-
-start-block-closes-requires : (t : ℕ)
-    → start-block-lts.Need-closes-requires (start-block-claims t) (start-block-at t) start-block.Post start-block-Inv-loop start-block-μ-loop
-start-block-closes-requires t c κs = search needs
-
-start-block-same-length : (t : ℕ) → start-block-lts.Need-same-length (start-block-claims t) (start-block-at t) start-block.Post start-block-Inv-loop start-block-μ-loop
-start-block-same-length t c =
-    let w = c .before .before .before .before in
-    omega (arith, w .loop .inv .kept)
-
 -- the next record closes no block
 goes-on : (t : ℕ) (c : start-block-lts.Else1 (start-block-claims t) (start-block-at t) start-block.Post start-block-Inv-loop start-block-μ-loop) →
     let a = c .before .before .before .before .before .before .before .args in
@@ -115,15 +102,6 @@ start-block-loop-again t c =
     let w = c .before .before .before .before in
     let v = w .before .before .before in
     starting-next (v .before .loop .inv) (v .loop-test .taken) (goes-on t w) (c .before .before .start-statement .ensures)
-
-start-block-same-length-2 : (t : ℕ)
-    → start-block-lts.Need-same-length-2 (start-block-claims t) (start-block-at t) start-block.Post start-block-Inv-loop start-block-μ-loop
-start-block-same-length-2 t c = omega (arith, c .before .loop .inv .kept)
-
-start-branch-start-block-requires : (t : ℕ) → start-branch-lts.Need-start-block-requires (start-branch-claims t) (start-branch-at t) start-branch.Post
-start-branch-start-block-requires t c κs =
-    let w = c .before .before .before in
-    (omega (arith, w .pre .0, w .pre .1 .0 .here .early), one-entered (w .pre .1 .0) (w .pre .1 .1))
 
 start-branch-mul-out-2 : (t : ℕ) → start-branch-lts.Need-mul-out-2 (start-branch-claims t) (start-branch-at t) start-branch.Post
 start-branch-mul-out-2 t c =
@@ -184,25 +162,10 @@ start-statement-start-branch-requires t c κs =
     let w = c .before .before .before .before .before .before in
     (omega (arith, w .pre .0), (w .pre .1, ap (λ (x : Rec). x .kind) (sym (c .before .before .before .record-at .ensures)) ∙ c .before .if1 .taken))
 
-start-statement-mul-out : (t : ℕ) → start-statement-lts.Need-mul-out (start-statement-claims t) (start-statement-at t) start-statement.Post
-start-statement-mul-out t c =
-    let w = c .before .before .before .before .before in
-    omega (arith, w .pre .1 .here .early, w .pre .1 .room)
-
-start-statement-slice-write-out : (t : ℕ) → start-statement-lts.Need-slice-write-out (start-statement-claims t) (start-statement-at t) start-statement.Post
-start-statement-slice-write-out t c =
-    let w = c .before .before .before .before .before in
-    omega (arith, w .pre .1 .here .early, w .pre .1 .room)
-
 start-statement-add-t14 : (t : ℕ) → start-statement-lts.Need-add-t14 (start-statement-claims t) (start-statement-at t) start-statement.Post
 start-statement-add-t14 t c =
     let w = c .before .before .before .before .before .before in
     omega (arith, step-early (w .pre .1) (c .before .before .before .record-at .ensures) (c .before .if1 .left) (c .step-ticks .ensures))
-
-start-statement-add-t11 : (t : ℕ) → start-statement-lts.Need-add-t11 (start-statement-claims t) (start-statement-at t) start-statement.Post
-start-statement-add-t11 t c =
-    let w = c .before .before .before .before .before .before in
-    omega (arith, w .pre .1 .here .early, w .pre .1 .room)
 
 start-statement-returns-2 : (t : ℕ) → start-statement-lts.Need-returns-2 (start-statement-claims t) (start-statement-at t) start-statement.Post
 start-statement-returns-2 t c =
@@ -211,21 +174,26 @@ start-statement-returns-2 t c =
 
 pub +start-block+start-branch+start-statement-spec : {M : Type 1} → statement M
 +start-block+start-branch+start-statement-spec =
-    close μ-start-block μ-start-branch μ-start-statement (λ t. start-block-lts.spec (start-block-claims t) (start-block-at t)
-    start-block.Post start-block-Inv-loop start-block-μ-loop (λ c. starting-start (c .before .before .pre .1))
-    (start-block-kind-at-requires t) (start-block-closes-requires t) (start-block-same-length t) (start-block-returns t)
-    (start-block-start-statement-requires t) (start-block-loop-less t) (start-block-loop-again t) (start-block-same-length-2 t)
-    (λ c. starting-ended (c .before .loop .inv) (c .loop-test .left)))
+    close μ-start-block μ-start-branch μ-start-statement
+    (λ t. start-block-lts.spec (start-block-claims t) (start-block-at t) start-block.Post start-block-Inv-loop start-block-μ-loop
+    (λ c. starting-start (c .before .before .pre .1)) (λ c κs. omega (arith, c .before .loop .inv .all .file .inside)) (search needs)
+    (λ c. let w = c .before .before .before .before in omega (arith, w .loop .inv .kept)) (start-block-returns t)
+    (start-block-start-statement-requires t) (start-block-loop-less t) (start-block-loop-again t)
+    (λ c. omega (arith, c .before .loop .inv .kept)) (λ c. starting-ended (c .before .loop .inv) (c .loop-test .left)))
     (λ t. start-branch-lts.spec (start-branch-claims t) (start-branch-at t) start-branch.Post
     (λ c. omega (arith, sides-early (c .before .before .pre .1 .0) (c .before .before .pre .1 .1)))
     (λ c. omega (arith, c .before .before .pre .1 .0 .here .early, c .before .before .pre .1 .0 .room))
     (λ c. omega (arith, c .before .before .pre .1 .0 .here .early, c .before .before .pre .1 .0 .room))
     (λ c. omega (arith, c .before .before .pre .1 .0 .here .early, c .before .before .pre .1 .0 .room))
-    (start-branch-start-block-requires t) (start-branch-mul-out-2 t) (start-branch-slice-write-out-2 t) (start-branch-add-start-block-2 t)
-    (start-branch-start-block-requires-2 t) (search needs) (start-branch-mul-out-3 t) (start-branch-slice-write-out-3 t)
-    (start-branch-add-t13 t) (start-branch-same-length t) (start-branch-returns t))
+    (λ c κs. let w = c .before .before .before in (omega (arith, w .pre .0, w .pre .1 .0 .here .early), one-entered (w .pre .1 .0) (w .pre .1 .1)))
+    (start-branch-mul-out-2 t) (start-branch-slice-write-out-2 t) (start-branch-add-start-block-2 t) (start-branch-start-block-requires-2 t)
+    (search needs) (start-branch-mul-out-3 t) (start-branch-slice-write-out-3 t) (start-branch-add-t13 t) (start-branch-same-length t)
+    (start-branch-returns t))
     λ t. start-statement-lts.spec (start-statement-claims t) (start-statement-at t) start-statement.Post
     (λ c κs. omega (arith, c .before .before .pre .1 .here .early, c .before .before .pre .1 .here .file .inside))
-    (start-statement-start-branch-requires t) (search needs) (λ c. c .before .before .start-branch .ensures) (start-statement-mul-out t)
-    (start-statement-slice-write-out t) (search needs) (start-statement-add-t14 t) (start-statement-add-t11 t) (λ c. simp length-set)
-    (start-statement-returns-2 t)
+    (start-statement-start-branch-requires t) (search needs) (λ c. c .before .before .start-branch .ensures)
+    (λ c. let w = c .before .before .before .before .before in omega (arith, w .pre .1 .here .early, w .pre .1 .room))
+    (λ c. let w = c .before .before .before .before .before in omega (arith, w .pre .1 .here .early, w .pre .1 .room)) (search needs)
+    (start-statement-add-t14 t)
+    (λ c. let w = c .before .before .before .before .before .before in omega (arith, w .pre .1 .here .early, w .pre .1 .room))
+    (λ c. simp length-set) (start-statement-returns-2 t)

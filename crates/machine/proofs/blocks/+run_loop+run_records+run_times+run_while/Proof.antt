@@ -8,9 +8,7 @@ use Rattle.records.specs.Records.{recordOf}
 use Rattle.reading.specs.Closing.{opensBlock}
 use Rattle.timing.specs.Times.{settingsIn}
 use Rattle.machine.specs.Contracts.{Running}
-use Rattle.machine.proofs.Behind.{loop-goes-on, loop-times}
 use Rattle.machine.proofs.Running.{running-start, running-inside, running-ended, running-ran, running-then, statement-next, past-ran}
-use Rattle.machine.proofs.RunningSteps.{test-there, kind-there}
 use Rattle.machine.proofs.RunningLoops.{Looping, loop-last, loop-entered, loop-halted, loop-next}
 use Rattle.machine.proofs.RunningLoops.{spinning, spinning-start, spinning-cut, spinning-over, spinning-turned, turning, turning-start, turning-turned, times-empty}
 use borrow.Fn.Kinds.{In}
@@ -119,11 +117,6 @@ run-while-claims t = (
   run-last-test-reads.Learnt,
 )
 
-run-loop-record-at-requires : (t : ℕ) → run-loop-lts.Need-record-at-requires (run-loop-claims t) (run-loop-at t) run-loop.Post
-run-loop-record-at-requires t c κs =
-    let w = c .before .before .before .before in
-    omega (arith, w .pre .1 .0 .at .early)
-
 run-loop-run-while-requires : (t : ℕ) → run-loop-lts.Need-run-while-requires (run-loop-claims t) (run-loop-at t) run-loop.Post
 run-loop-run-while-requires t c κs =
     let w = c .before .before .before .before .before .before .before .before in
@@ -140,11 +133,6 @@ run-records-Inv-loop s from to ends table inputs limit tick cells₀ at₀ next�
 
 abbrev run-records-μ-loop : run-records-lts.MeasureT-loop
 run-records-μ-loop s from to ends table inputs limit tick cells₀ at₀ next₀ cells at next = to - next
-
-run-records-loop-holds : (t : ℕ) → run-records-lts.Need-loop-holds (run-records-claims t) (run-records-at t) run-records.Post run-records-Inv-loop run-records-μ-loop
-run-records-loop-holds t c =
-    let w = c .before .before .before .before in
-    running-start (w .pre .1)
 
 run-records-returns : (t : ℕ) → run-records-lts.Need-returns (run-records-claims t) (run-records-at t) run-records.Post run-records-Inv-loop run-records-μ-loop
 run-records-returns t c =
@@ -210,13 +198,7 @@ run-times-Inv-loop s i ends r table inputs limit tick cells₀ body to next at�
     Looping s i ends (recordOf r) (settingsIn table) inputs limit at₀ cells₀ cells at to (r .count) round next (turning i)
 
 abbrev run-times-μ-loop : run-times-lts.MeasureT-loop
-run-times-μ-loop s i ends r table inputs limit tick cells₀ body to next at₀ round₀ cells at round =
-    r .count - round
-
-run-times-add-body : (t : ℕ) → run-times-lts.Need-add-body (run-times-claims t) (run-times-at t) run-times.Post run-times-Inv-loop run-times-μ-loop
-run-times-add-body t c =
-    let w = c .before .before .before .before in
-    omega (arith, w .pre .1 .0 .at .early, w .pre .1 .0 .given .few)
+run-times-μ-loop s i ends r table inputs limit tick cells₀ body to next at₀ round₀ cells at round = r .count - round
 
 run-times-last-requires : (t : ℕ) → run-times-lts.Need-last-requires (run-times-claims t) (run-times-at t) run-times.Post run-times-Inv-loop run-times-μ-loop
 run-times-last-requires t c κs =
@@ -264,23 +246,12 @@ run-times-run-last-test-requires-2 t c κs =
     let fits = test-there (w .pre .1 .0) (w .pre .1 .1) (ap opensBlock (w .pre .1 .2)) in
     (c .before .before .before .loop .inv .lent, fits, c .before .before .before .loop .inv .early)
 
-run-times-returns-3 : (t : ℕ) → run-times-lts.Need-returns-3 (run-times-claims t) (run-times-at t) run-times.Post run-times-Inv-loop run-times-μ-loop
-run-times-returns-3 t c =
-    let w = c .before .before .before .before in
-    loop-last (w .loop .inv) (c .before .before .if2 .left) (c .run-last-test2 .ensures)
-
 abbrev run-while-Inv-loop : run-while-lts.InvT-loop
 run-while-Inv-loop s i ends r table inputs limit tick cells₀ body to next at₀ round₀ cells at round =
     Looping s i ends (recordOf r) (settingsIn table) inputs limit at₀ cells₀ cells at to (r .count) round next (spinning i)
 
 abbrev run-while-μ-loop : run-while-lts.MeasureT-loop
-run-while-μ-loop s i ends r table inputs limit tick cells₀ body to next at₀ round₀ cells at round =
-    r .count - round
-
-run-while-add-body : (t : ℕ) → run-while-lts.Need-add-body (run-while-claims t) (run-while-at t) run-while.Post run-while-Inv-loop run-while-μ-loop
-run-while-add-body t c =
-    let w = c .before .before .before .before in
-    omega (arith, w .pre .1 .0 .at .early, w .pre .1 .0 .given .few)
+run-while-μ-loop s i ends r table inputs limit tick cells₀ body to next at₀ round₀ cells at round = r .count - round
 
 run-while-last-requires : (t : ℕ) → run-while-lts.Need-last-requires (run-while-claims t) (run-while-at t) run-while.Post run-while-Inv-loop run-while-μ-loop
 run-while-last-requires t c κs =
@@ -337,28 +308,29 @@ run-while-run-last-test-requires t c κs =
     let fits = test-there (w .pre .1 .0) (w .pre .1 .1) (ap opensBlock (w .pre .1 .2)) in
     (c .before .before .before .loop .inv .lent, fits, c .before .before .before .loop .inv .early)
 
-run-while-returns-4 : (t : ℕ) → run-while-lts.Need-returns-4 (run-while-claims t) (run-while-at t) run-while.Post run-while-Inv-loop run-while-μ-loop
-run-while-returns-4 t c =
-    let w = c .before .before .before .before in
-    loop-last (w .loop .inv) (c .before .before .if1 .left) (c .run-last-test .ensures)
-
 pub +run-loop+run-records+run-times+run-while-spec : {M : Type 1} → statement M
 +run-loop+run-records+run-times+run-while-spec =
-    close μ-run-loop μ-run-records μ-run-times μ-run-while (λ t. run-loop-lts.spec (run-loop-claims t) (run-loop-at t) run-loop.Post
-    (run-loop-record-at-requires t) (run-loop-run-while-requires t) (search needs) (λ c. (c .before .before .run-while) .ensures)
-    (run-loop-run-times-requires t) (search needs) (λ c. (c .before .before .run-times) .ensures))
+    close μ-run-loop μ-run-records μ-run-times μ-run-while
+    (λ t. run-loop-lts.spec (run-loop-claims t) (run-loop-at t) run-loop.Post
+    (λ c κs. let w = c .before .before .before .before in omega (arith, w .pre .1 .0 .at .early)) (run-loop-run-while-requires t)
+    (search needs) (λ c. (c .before .before .run-while) .ensures) (run-loop-run-times-requires t) (search needs)
+    (λ c. (c .before .before .run-times) .ensures))
     (λ t. run-records-lts.spec (run-records-claims t) (run-records-at t) run-records.Post run-records-Inv-loop run-records-μ-loop
-    (run-records-loop-holds t) (λ c κs. (c .before .before .loop) .inv .rest) (search needs) (search needs) (run-records-returns t)
-    (search needs) (search needs) (run-records-returns-2 t) (run-records-run-loop-requires t) (search needs) (search needs)
-    (run-records-returns-3 t) (run-records-loop-less t) (run-records-loop-again t) (search needs) (search needs)
+    (λ c. let w = c .before .before .before .before in running-start (w .pre .1)) (λ c κs. (c .before .before .loop) .inv .rest)
+    (search needs) (search needs) (run-records-returns t) (search needs) (search needs) (run-records-returns-2 t)
+    (run-records-run-loop-requires t) (search needs) (search needs) (run-records-returns-3 t) (run-records-loop-less t)
+    (run-records-loop-again t) (search needs) (search needs)
     (λ c. running-ended ((c .before .before .loop) .inv) ((c .before .loop-test) .left) ((c .going2) .ensures)))
-    (λ t. run-times-lts.spec (run-times-claims t) (run-times-at t) run-times.Post run-times-Inv-loop run-times-μ-loop (run-times-add-body t)
+    (λ t. run-times-lts.spec (run-times-claims t) (run-times-at t) run-times.Post run-times-Inv-loop run-times-μ-loop
+    (λ c. let w = c .before .before .before .before in omega (arith, w .pre .1 .0 .at .early, w .pre .1 .0 .given .few))
     (run-times-last-requires t) (λ c. record { fits = omega (arith, (c .last) .ensures .1) }) (run-times-run-last-test-requires t)
     (search needs) (run-times-returns t) (run-times-loop-holds t) (run-times-run-records-requires t) (search needs) (search needs)
     (run-times-returns-2 t) (search needs) (search needs) (run-times-loop-again t) (run-times-run-last-test-requires-2 t) (search needs)
-    (run-times-returns-3 t))
-    λ t. run-while-lts.spec (run-while-claims t) (run-while-at t) run-while.Post run-while-Inv-loop run-while-μ-loop (run-while-add-body t)
+    (λ c. let w = c .before .before .before .before in loop-last (w .loop .inv) (c .before .before .if2 .left) (c .run-last-test2 .ensures)))
+    λ t. run-while-lts.spec (run-while-claims t) (run-while-at t) run-while.Post run-while-Inv-loop run-while-μ-loop
+    (λ c. let w = c .before .before .before .before in omega (arith, w .pre .1 .0 .at .early, w .pre .1 .0 .given .few))
     (run-while-last-requires t) (λ c. record { fits = omega (arith, (c .last) .ensures .1) }) (run-while-loop-holds t) (search needs)
     (search needs) (run-while-returns t) (search needs) (run-while-test-holds-requires t) (search needs) (search needs)
     (run-while-returns-2 t) (run-while-run-records-requires t) (search needs) (search needs) (run-while-returns-3 t) (search needs)
-    (search needs) (run-while-loop-again t) (run-while-run-last-test-requires t) (search needs) (run-while-returns-4 t)
+    (search needs) (run-while-loop-again t) (run-while-run-last-test-requires t) (search needs)
+    (λ c. let w = c .before .before .before .before in loop-last (w .loop .inv) (c .before .before .if1 .left) (c .run-last-test .ensures))

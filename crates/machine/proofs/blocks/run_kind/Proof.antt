@@ -7,22 +7,10 @@ use Rattle.machine.proofs.RunningSteps.{lasting}
 use Rattle.machine.proofs.blocks.run_kind.Statement.{statement}
 use Rattle.machine.proofs.blocks.run_kind.Tie as tie
 
-settings-in-requires : tie.Need-settings-in-requires
-settings-in-requires c κs = search needs
-
-kind-ticks-requires : tie.Need-kind-ticks-requires
-kind-ticks-requires c κs = search needs
-
-run-step-requires : tie.Need-run-step-requires
-run-step-requires c κs = search needs
-
-same-length : tie.Need-same-length
-same-length c = search needs
-
 returns : tie.Need-returns
 returns c =
     let w = c .before .before .before .before in
     lasting (w .kind-ticks .ensures ∙ ap (λ (σ : Settings). stepTicks σ (recordOf (w .before .before .before .before .args .r))) (w .before .settings-in .ensures)) (c .before .before .run-step .ensures)
 
 pub run-kind-spec : {M : Type 1} → statement M
-run-kind-spec = tie.close (tie.spec settings-in-requires kind-ticks-requires run-step-requires same-length returns)
+run-kind-spec = tie.close (tie.spec (search needs) (search needs) (λ c κs. search needs) (search needs) returns)

@@ -15,11 +15,6 @@ Inv-loop s from to ends table inputs limit tick cells₀ at₀ next₀ cells at 
 abbrev μ-loop : tie.MeasureT-loop
 μ-loop s from to ends table inputs limit tick cells₀ at₀ next₀ cells at next = to - next
 
-loop-holds : tie.Need-loop-holds Inv-loop μ-loop
-loop-holds c =
-    let w = c .before .before .before .before in
-    running-start ((w .pre))
-
 returns : tie.Need-returns Inv-loop μ-loop
 returns c =
     let w = c .before .before .before .before .before in
@@ -57,12 +52,9 @@ loop-again c =
     let one = w .run-one .ensures .past _ (v .before .loop .inv .rest) (v .loop-test .taken) in
     running-then (v .before .loop .inv) (one .moved .goes (sym (c .before .halted .ensures) ∙ c .if2 .left))
 
-returns-3 : tie.Need-returns-3 Inv-loop μ-loop
-returns-3 c =
-    steps-going ((c .before .before .loop) .inv) ((c .going2) .ensures) (λ l. absurd (omega (arith, (c .before .loop-test) .left)))
-
 pub run-steps-spec : {M : Type 1} → statement M
 run-steps-spec =
-    tie.close (tie.spec Inv-loop μ-loop loop-holds (λ c κs. omega (arith, running-inside ((c .before .loop) .inv .rest))) (search needs)
-    (search needs) (search needs) returns run-one-requires (search needs) (search needs) returns-2 loop-less loop-again (search needs)
-    (search needs) returns-3)
+    tie.close (tie.spec Inv-loop μ-loop (λ c. let w = c .before .before .before .before in running-start ((w .pre)))
+    (λ c κs. omega (arith, running-inside ((c .before .loop) .inv .rest))) (search needs) (search needs) (search needs) returns
+    run-one-requires (search needs) (search needs) returns-2 loop-less loop-again (search needs) (search needs)
+    (λ c. steps-going ((c .before .before .loop) .inv) ((c .going2) .ensures) (λ l. absurd (omega (arith, (c .before .loop-test) .left)))))

@@ -4,12 +4,8 @@ use Rattle.machine.proofs.Files.{file-few}
 use Rattle.machine.proofs.tables.run_from.Statement.{statement}
 use Rattle.machine.proofs.tables.run_from.Tie as tie
 
-run-by-requires-2 : tie.Need-run-by-requires-2
-run-by-requires-2 c κs =
-    let w = c .before .before .before .before .before .before in
-    ((w .pre), omega (arith, file-few (w .pre .sound)))
-
 pub run-from-spec : {M : Type 1} → statement M
 run-from-spec =
-    tie.close (tie.spec (search needs) (λ c κs. search needs) (search needs) (λ c. search needs) (search needs) run-by-requires-2 (search needs)
-    (λ c. search needs))
+    tie.close (tie.spec (search needs) (λ c κs. search needs) (search needs) (λ c. search needs) (search needs)
+    (λ c κs. let w = c .before .before .before .before .before .before in ((w .pre), omega (arith, file-few (w .pre .sound))))
+    (search needs) (λ c. search needs))

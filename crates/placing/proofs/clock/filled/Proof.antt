@@ -10,9 +10,6 @@ Inv-loop n count s₀ k₀ s k = Skipping n count s₀ s k
 abbrev μ-loop : tie.MeasureT-loop
 μ-loop n count s₀ k₀ s k = n .period + 1 - s .tick
 
-sub-k : tie.Need-sub-k Inv-loop μ-loop
-sub-k c = omega (arith, skipping-more ((c .before .before .before .before .before .loop) .inv) ((c .before .if1) .taken))
-
 loop-less : tie.Need-loop-less Inv-loop μ-loop
 loop-less c = skipping-less ((c .before .before .before .before .before .before .loop) .inv) ((c .before .before .if1) .taken) ((c .commanded) .ensures .0) ((c .commanded) .ensures .1)
 
@@ -38,6 +35,7 @@ returns-2 c =
 
 pub filled-spec : {M : Type 1} → statement M
 filled-spec =
-    tie.close (tie.spec Inv-loop μ-loop (λ c. skipping-start (c .pre)) sub-k
+    tie.close (tie.spec Inv-loop μ-loop (λ c. skipping-start (c .pre))
+    (λ c. omega (arith, skipping-more ((c .before .before .before .before .before .loop) .inv) ((c .before .if1) .taken)))
     (λ c κs. skipping-laying ((c .before .before .before .before .before .loop) .inv) ((c .before .if1) .taken)) loop-less loop-again
     (λ c. skipping-late ((c .before .before .before .before .before .before .before .loop) .inv) (c .if2 .taken)) idled-requires returns-2)

@@ -2,18 +2,12 @@
 use borrow.Author.Needs.{needs}
 use native.Mathlib.Omega.{arith}
 use Prim.Native.Nat.{ℕ, _+_, _-_, _≤_}
-use mathlib.Core.Path.{sym, subst}
-use mathlib.Core.List.{_++_}
 use Rattle.model.specs.declared.Settings.{Settings}
 use Rattle.model.specs.Records.{Rec, rec, recordBytes}
-use Rattle.model.specs.Trees.{Block}
-use Rattle.model.specs.Layout.{fill}
 use Rattle.records.specs.Blocks.{skipBytes}
 use Rattle.records.proofs.Over.{Part, back, part-at, part-room, part-fits, part-fits-last, part-last}
 use Rattle.records.proofs.Laying.{wrote-next}
 use Rattle.placing.specs.declared.clock.State.{State}
-use Rattle.placing.specs.Placed.{closingBytes}
-use Rattle.placing.specs.Placed.{Closed}
 use Rattle.placing.proofs.PieceBytes.{lays-wrote, piece-fits, piece-laid, settled-few, closing-few, closing}
 use Rattle.placing.proofs.pieces.close_side.Statement.{statement}
 use Rattle.placing.proofs.pieces.close_side.Tie as tie
@@ -64,9 +58,6 @@ put-filling-requires c κs =
       },
     )
 
-put-skip-requires : tie.Need-put-skip-requires
-put-skip-requires c κs = let w = c .before in part-fits (skipBytes (w .before .before .before .put-filling .result .wait)) _ (filled w)
-
 -- the records laid, with the one that waits
 few : (c : tie.After-struct-known2) → (c .before .before .before .before .before .before .before .before .before .before .before .before .before .before .put-filling) .result .records + c .before .skip-records .result ≤ 5461
 few c =
@@ -89,6 +80,7 @@ returns c =
 pub close-side-spec : {M : Type 1} → statement M
 close-side-spec =
     tie.close (tie.spec put-filling-requires (search needs) (λ c. part-at (filled c)) (λ c. part-at (filled c)) (search needs)
-    put-skip-requires (λ c. omega (arith, part-room (waited (c .before .before)))) (λ c. part-at (waited (c .before .before)))
+    (λ c κs. let w = c .before in part-fits (skipBytes (w .before .before .before .put-filling .result .wait)) _ (filled w))
+    (λ c. omega (arith, part-room (waited (c .before .before)))) (λ c. part-at (waited (c .before .before)))
     (λ c. part-at (waited (c .before .before))) (search needs) (λ c κs. part-fits-last (waited (c .before .before .before))) (search needs)
     (search needs) (λ c. omega (arith, few c)) (λ c. omega (arith, few c)) (search needs) (search needs) returns)

@@ -8,17 +8,13 @@ put-commands-requires c κs =
     let s = c .before .before .before .before in
     (s .pre .0, before-fits (s .pre .0) _ (c .before .if1 .taken) (s .pre .2) (s .args .out .now) (s .pre .3))
 
-same-length : tie.Need-same-length
-same-length c = search needs
-
 returns : tie.Need-returns
 returns c =
     let i = c .before .before .before .before in
     let p = i .before .before .before .pre in
     before-written (p .0) _ (i .if1 .taken) (p .2) (c .before .before .put-commands .ensures)
 
-returns-2 : tie.Need-returns-2
-returns-2 c = let s = c .before .before .before in before-nothing (s .pre .0) _ (s .pre .1) (c .if1 .left) (s .args .out .now)
-
 pub put-before-spec : {M : Type 1} → statement M
-put-before-spec = tie.close (tie.spec put-commands-requires same-length returns returns-2)
+put-before-spec =
+    tie.close (tie.spec put-commands-requires (search needs) returns
+    (λ c. let s = c .before .before .before in before-nothing (s .pre .0) _ (s .pre .1) (c .if1 .left) (s .args .out .now)))

@@ -2,8 +2,6 @@
 use borrow.Author.Needs.{needs}
 use native.Mathlib.Omega.{arith}
 use Prim.Native.Nat.{_+_}
-use mathlib.Core.Path.{refl}
-use mathlib.Core.List.{_++_}
 use Rattle.model.specs.Records.{recordBytes}
 use Rattle.model.specs.Trees.{beat, save, actRec}
 use Rattle.records.proofs.Over.{Part, back, part-at, part-room, part-fits, part-fits-last, part-lent}
@@ -37,9 +35,6 @@ saving : (c : tie.Else1) →
     (back (k .put-skip .last .0) (k .put-skip .result) (b .put-bare .last .0)) (k .put-skip .result + 12)
 saving c = let b = c .before .before .before .before in save-due _ (beaten b) (c .if1 .left)
 
-returns-2 : tie.Need-returns-2
-returns-2 c = wrote-last (saving (c .before .before .before .before)) (record-wrote (actRec (save 0)) (c .before .before .put-bare2 .ensures))
-
 pub put-commands-spec : {M : Type 1} → statement M
 put-commands-spec =
     tie.close (tie.spec (search needs) (λ c κs. let s = c .before .before .before in due-fits (s .pre .0) (s .args .out .now) (s .pre .1))
@@ -48,4 +43,5 @@ put-commands-spec =
     (λ c. omega (arith, part-room (beaten (c .before .before)))) (search needs)
     (λ c. save-none _ (beaten (c .before .before .before .before)) (c .if1 .taken)) (λ c. part-at (saving c)) (λ c. part-at (saving c))
     (search needs) (λ c κs. part-fits-last (saving (c .before)))
-    (λ c. omega (arith, part-room (saving (c .before .before .before .before)))) (search needs) returns-2)
+    (λ c. omega (arith, part-room (saving (c .before .before .before .before)))) (search needs)
+    (λ c. wrote-last (saving (c .before .before .before .before)) (record-wrote (actRec (save 0)) (c .before .before .put-bare2 .ensures))))

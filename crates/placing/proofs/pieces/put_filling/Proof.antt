@@ -38,9 +38,6 @@ idled-requires c κs =
     let w = (c .before .before .before .before .loop) .inv .can in
     omega (arith, (c .before .if1) .left, w .reaches, w .upto, w .laying .settings .short, w .laying .shows .waited)
 
-returns : tie.Need-returns Inv-loop μ-loop
-returns c = filling-laid ((c .before .before .before .before .before .loop) .inv) ((c .before .before .if1) .left) (c .idled .ensures)
-
 pub put-filling-spec : {M : Type 1} → statement M
 put-filling-spec =
     tie.close (tie.spec Inv-loop μ-loop (λ c. filling-start ((c .before .pre) .0) ((c .before .pre) .1))
@@ -49,4 +46,5 @@ put-filling-spec =
     (λ c. filling-at ((c .before .before .before .before .before .loop) .inv) ((c .before .bytes-between) .ensures))
     (λ c. filling-at ((c .before .before .before .before .before .loop) .inv) ((c .before .bytes-between) .ensures)) (search needs)
     put-commands-requires loop-less loop-again (λ c. (c .before .before .before .before .loop) .inv .can .reaches) idled-requires
-    (λ c. part-length ((c .before .before .before .before .before .loop) .inv .writing .part)) returns)
+    (λ c. part-length ((c .before .before .before .before .before .loop) .inv .writing .part))
+    (λ c. filling-laid ((c .before .before .before .before .before .loop) .inv) ((c .before .before .if1) .left) (c .idled .ensures)))

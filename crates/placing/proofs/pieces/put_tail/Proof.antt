@@ -3,9 +3,6 @@ use native.Mathlib.Omega.{arith}
 use lib.ListN.{length-append}
 use borrow.Author.Needs.{needs}
 use Prim.Native.Nat.{_+_}
-use Rattle.model.specs.Records.{recordBytes}
-use Rattle.model.specs.Trees.{beat, actRec}
-use Rattle.model.specs.Layout.{lastValue}
 use Rattle.records.specs.Blocks.{skipBytes}
 use Rattle.records.proofs.Over.{Part, part-first, part-at, part-fits-last}
 use Rattle.placing.specs.Placed.{tailBytes}

@@ -16,5 +16,4 @@ returns c =
     (at-put-lines .put-lines .ensures) (at-put-number .put-number .ensures) (at-put-text .put-text .ensures)
 
 pub put-listing-spec : {M : Type 1} → statement M
-put-listing-spec =
-    tie.close (tie.spec (search needs) (search needs) (search needs) (search needs) (search needs) returns)
+put-listing-spec = tie.close (tie.spec (search needs) (search needs) (search needs) (search needs) (search needs) returns)

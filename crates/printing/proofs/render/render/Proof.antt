@@ -28,11 +28,7 @@ put-listing-requires c κs =
     let at-list-task = at-r2 .before .before in
     let at-args = at-list-task .before .before .before .before .before in
     let m = listed-in (at-args .args .settings .now) (at-args .args .task .now) (at-r2 .r2 .given .1) (at-list-task .list-task .ensures) in
-    record {
-      file = omega (arith, m .inside, m .laid-room);
-      starts = omega (arith, m .few, m .table-room);
-      lines = omega (arith, m .few);
-    }
+    record { file = omega (arith, m .inside, m .laid-room); starts = omega (arith, m .few, m .table-room); lines = omega (arith, m .few) }
 
 returns : tie.Need-returns
 returns c =

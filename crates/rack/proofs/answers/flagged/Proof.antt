@@ -3,14 +3,5 @@ use borrow.Author.Needs.{needs}
 use Rattle.rack.proofs.answers.flagged.Statement.{statement}
 use Rattle.rack.proofs.answers.flagged.Tie as tie
 
-add-result : tie.Need-add-result
-add-result c = search needs
-
-returns : tie.Need-returns
-returns c = rw (c .if1 .taken) (omega arith)
-
-returns-2 : tie.Need-returns-2
-returns-2 c = rw (c .if1 .left) (omega arith)
-
 pub flagged-spec : {M : Type 1} → statement M
-flagged-spec = tie.close (tie.spec add-result returns returns-2)
+flagged-spec = tie.close (tie.spec (search needs) (λ c. rw (c .if1 .taken) (omega arith)) (λ c. rw (c .if1 .left) (omega arith)))

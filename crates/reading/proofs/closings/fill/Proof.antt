@@ -9,18 +9,12 @@ Inv-loop s to ends₀ i₀ ends i = Filled s i to ends₀ ends
 abbrev μ-loop : tie.MeasureT-loop
 μ-loop s to ends₀ i₀ ends i = i
 
-mul-ends : tie.Need-mul-ends Inv-loop μ-loop
-mul-ends c = record { fits = omega (arith, c .before .before .before .loop .inv .fillable .few, c .before .before .before .loop .inv .low) }
-
-slice-write-ends : tie.Need-slice-write-ends Inv-loop μ-loop
-slice-write-ends c = omega (arith, c .before .before .before .loop .inv .fillable .room, c .before .before .before .loop .inv .low)
-
-loop-again : tie.Need-loop-again Inv-loop μ-loop
-loop-again c = filled-next (c .before .before .before .loop .inv) (c .before .before .loop-test .taken) (c .closing-of .result) (c .closing-of .ensures)
-
 pub fill-spec : {M : Type 1} → statement M
 fill-spec =
     tie.close (tie.spec Inv-loop μ-loop (λ c. record { fits = omega (arith, c .before .before .pre .few) })
     (λ c. filled-start (c .before .before .pre)) (omega arith)
-    (λ c κs. filled-asks (c .before .before .loop .inv) (c .before .loop-test .taken)) mul-ends slice-write-ends (omega arith) loop-again
+    (λ c κs. filled-asks (c .before .before .loop .inv) (c .before .loop-test .taken))
+    (λ c. record { fits = omega (arith, c .before .before .before .loop .inv .fillable .few, c .before .before .before .loop .inv .low) })
+    (λ c. omega (arith, c .before .before .before .loop .inv .fillable .room, c .before .before .before .loop .inv .low)) (omega arith)
+    (λ c. filled-next (c .before .before .before .loop .inv) (c .before .before .loop-test .taken) (c .closing-of .result) (c .closing-of .ensures))
     (λ c. c .before .loop .inv .same) (λ c. filled-all (c .before .loop .inv) (omega (arith, c .loop-test .left))))

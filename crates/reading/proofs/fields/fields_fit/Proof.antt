@@ -15,9 +15,6 @@ returns-2 : tie.Need-returns-2
 unfolding fieldsFit
 returns-2 c = rw (c .before .match .keys2) (c .set-fits .ensures)
 
-returns-3 : tie.Need-returns-3
-returns-3 c = test-kind (recordOf (c .before .before .before .args .r)) _ (c .before .before .match .keys3) (c .before .test-fits .ensures)
-
 returns-4 : tie.Need-returns-4
 returns-4 c = loop-kind (recordOf (c .before .before .before .before .args .r)) _ (c .before .before .before .match .keys4) (c .before .before .test-fits2 .ensures)
 
@@ -42,4 +39,6 @@ returns-7 c =
 pub fields-fit-spec : {M : Type 1} → statement M
 fields-fit-spec =
     tie.close (tie.spec (search needs) (search needs) (search needs) (search needs) (search needs) (search needs) (search needs) returns
-    returns-2 returns-3 returns-4 returns-5 returns-6 returns-7)
+    returns-2
+    (λ c. test-kind (recordOf (c .before .before .before .args .r)) _ (c .before .before .match .keys3) (c .before .test-fits .ensures))
+    returns-4 returns-5 returns-6 returns-7)

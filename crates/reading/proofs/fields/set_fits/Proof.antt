@@ -4,15 +4,9 @@ use lib.Dec.{eqb}
 use Rattle.reading.proofs.fields.set_fits.Statement.{statement}
 use Rattle.reading.proofs.fields.set_fits.Tie as tie
 
-op-fits-requires : tie.Need-op-fits-requires
-op-fits-requires c κs = search needs
-
-left-fits-requires : tie.Need-left-fits-requires
-left-fits-requires c κs = search needs
-
 returns : tie.Need-returns
 returns c =
     rw (c .before .before .before .op-fits .ensures, c .before .left-fits .ensures, and-true (eqb (c .before .before .before .before .args .r .count) 0))
 
 pub set-fits-spec : {M : Type 1} → statement M
-set-fits-spec = tie.close (tie.spec op-fits-requires left-fits-requires returns)
+set-fits-spec = tie.close (tie.spec (search needs) (search needs) returns)

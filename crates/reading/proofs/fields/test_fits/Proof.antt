@@ -3,11 +3,5 @@ use borrow.Author.Needs.{needs}
 use Rattle.reading.proofs.fields.test_fits.Statement.{statement}
 use Rattle.reading.proofs.fields.test_fits.Tie as tie
 
-op-fits-requires : tie.Need-op-fits-requires
-op-fits-requires c κs = search needs
-
-returns : tie.Need-returns
-returns c = rw (c .before .before .op-fits .ensures, and-true)
-
 pub test-fits-spec : {M : Type 1} → statement M
-test-fits-spec = tie.close (tie.spec op-fits-requires returns)
+test-fits-spec = tie.close (tie.spec (search needs) (λ c. rw (c .before .before .op-fits .ensures, and-true)))

@@ -1,14 +1,8 @@
 -- Settings of another length are bad, and of 12 bytes the range test decides.
-use borrow.Author.Needs.{needs}
-use borrow.Author.Tests.{eq-eqb, ne-eqb}
 use native.Mathlib.Omega.{arith}
 use mathlib.Core.Path.{_≡_, sym, _∙_}
-use mathlib.Core.Bool.{true, false}
-use mathlib.Core.List.{List}
 use Prim.Native.Nat.{ℕ, _≤_}
 use lib.ListN.{length}
-use Rattle.model.specs.declared.Settings.{Settings}
-use Rattle.model.specs.declared.Refusal.{Refusal}
 use Rattle.model.specs.Settings.{settingsOf, outOfRange, badSettings}
 use Rattle.records.specs.Decoded.{Decodes}
 use Rattle.records.specs.declared.settings.Decoded.the-variants.{Valid, Refused}
@@ -35,12 +29,6 @@ returns : tie.Need-returns
 unfolding badSettings
 returns c = refused-bad _ (rw (ne-eqb _ _ (c .if1 .taken)))
 
-numbers-requires : tie.Need-numbers-requires
-numbers-requires c κs = search needs
-
-out-of-range-requires : tie.Need-out-of-range-requires
-out-of-range-requires c κs = search needs
-
 returns-2 : tie.Need-returns-2
 returns-2 c =
     refused-bad _ (of-twelve _ _ (c .before .before .before .if1 .left) (c .before .before .numbers .ensures .0) ∙ sym (c .before .out-of-range .ensures) ∙ c .if2 .taken)
@@ -51,5 +39,4 @@ returns-3 c =
     valid-good _ _ (of-twelve _ _ (c .before .before .before .if1 .left) (is .0) ∙ sym (c .before .out-of-range .ensures) ∙ c .if2 .left) is
 
 pub decode-spec : {M : Type 1} → statement M
-decode-spec =
-    tie.close (tie.spec returns numbers-requires out-of-range-requires returns-2 returns-3)
+decode-spec = tie.close (tie.spec returns (search needs) (search needs) returns-2 returns-3)

@@ -1,8 +1,7 @@
 -- Four stores from index 0 on lay four bytes over the front.
 use borrow.Author.Needs.{needs}
 use native.Mathlib.Omega.{arith}
-use lib.ListN.{length-set}
-use lib.Seq.{sets-eq}
+use lib.{ListN.length-set, Seq.sets-eq}
 use Rattle.model.specs.Records.{wordBytes}
 use Rattle.records.proofs.words.put_word.Statement.{statement}
 use Rattle.records.proofs.words.put_word.Tie as tie

@@ -14,11 +14,9 @@ abbrev μ-loop : tie.MeasureT-loop
 returns : tie.Need-returns Inv-loop μ-loop
 returns c = equal-differ (c .before .before .before .before .before .pre) (c .before .before .before .before .loop .inv) (search needs) (c .if1 .taken)
 
-loop-again : tie.Need-loop-again Inv-loop μ-loop
-loop-again c = equal-step (c .before .before .before .before .before .pre) (c .before .before .before .before .loop .inv) (search needs) (c .if1 .left)
-
 pub same-words-spec : {M : Type 1} → statement M
 same-words-spec =
     tie.close (tie.spec Inv-loop μ-loop (λ c. equal-start (c .args .a .now) (c .args .b .now)) (search needs) (search needs) (search needs)
-    (search needs) returns (search needs) (search needs) loop-again
+    (search needs) returns (search needs) (search needs)
+    (λ c. equal-step (c .before .before .before .before .before .pre) (c .before .before .before .before .loop .inv) (search needs) (c .if1 .left))
     (λ c. equal-end (c .before .before .pre) (c .before .loop .inv) (search needs)))

@@ -19,7 +19,7 @@ returns-2 c =
     let u = v .before .before .before .before .before .before .before .before in
     let a = u .args in
     resumed-ended (endIn (a .first)) (a .total) (a .settings .now) (a .file .now) (a .inputs .now) (outputsIn (a .left)) (a .stop) (a .left .image)
-    (c .before .before .before .r2 .given .1) (w .resume .ensures .0) (w .resume .ensures .1) (c .before .alike .ensures) (v .word-at .ensures) (c .beyond .ensures)
+    (c .before .before .before .r2 .given .1) (w .resume .ensures .0) (w .resume .ensures .1) (c .before .alike .ensures) (v .word-at .ensures) (c .excess .ensures)
 
 pub resumed-spec : {M : Type 1} → statement M
 resumed-spec =

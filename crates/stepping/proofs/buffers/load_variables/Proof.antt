@@ -6,18 +6,6 @@ use Rattle.stepping.proofs.BufferLaws.{held-variables}
 use Rattle.stepping.proofs.buffers.load_variables.Statement.{statement}
 use Rattle.stepping.proofs.buffers.load_variables.Tie as tie
 
-slice-relend-prefix-copy : tie.Need-slice-relend-prefix-copy
-slice-relend-prefix-copy c = search needs
-
-slice-aggregate-copy : tie.Need-slice-aggregate-copy
-slice-aggregate-copy c = sym (length-take-le 16 (c .before .before .before .args .cells .now) (omega arith))
-
-copy-requires : tie.Need-copy-requires
-copy-requires c κs = omega (arith, length-take-le 16 (c .before .before .before .args .cells .now) (omega arith))
-
-same-length : tie.Need-same-length
-same-length c = search needs
-
 returns : tie.Need-returns
 returns c =
     let s = c .before .before .before .before .before .before in
@@ -25,4 +13,5 @@ returns c =
 
 pub load-variables-spec : {M : Type 1} → statement M
 load-variables-spec =
-    tie.close (tie.spec slice-relend-prefix-copy slice-aggregate-copy copy-requires same-length returns)
+    tie.close (tie.spec (search needs) (λ c. sym (length-take-le 16 (c .before .before .before .args .cells .now) (omega arith)))
+    (λ c κs. omega (arith, length-take-le 16 (c .before .before .before .args .cells .now) (omega arith))) (search needs) returns)

@@ -6,9 +6,6 @@ use Rattle.stepping.specs.Machines.{held}
 use Rattle.stepping.proofs.buffers.store.Statement.{statement}
 use Rattle.stepping.proofs.buffers.store.Tie as tie
 
-copy-requires : tie.Need-copy-requires
-copy-requires c κs = omega (arith, length-take-le 16 (c .before .before .before .before .before .before .args .cells .now) (omega arith))
-
 store-marks-requires : tie.Need-store-marks-requires
 unfolding held
 store-marks-requires c κs = (search needs, c .before .before .before .before .before .before .before .before .before .before .before .before .before .before .before .before .pre .1)
@@ -25,5 +22,6 @@ returns c =
 pub store-spec : {M : Type 1} → statement M
 store-spec =
     tie.close (tie.spec (λ c. sym (length-take-le 16 (c .before .before .before .before .before .args .cells .now) (omega arith)))
-    copy-requires (search needs) (search needs) (search needs) (search needs) (search needs) (search needs) (search needs)
-    store-marks-requires (search needs) (search needs) (search needs) returns)
+    (λ c κs. omega (arith, length-take-le 16 (c .before .before .before .before .before .before .args .cells .now) (omega arith)))
+    (search needs) (search needs) (search needs) (search needs) (search needs) (search needs) (search needs) store-marks-requires
+    (search needs) (search needs) (search needs) returns)

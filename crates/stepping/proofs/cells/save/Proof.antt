@@ -1,8 +1,7 @@
 use borrow.Author.Needs.{needs}
 use mathlib.Core.Path.{sym, _∙_}
 use native.Mathlib.Omega.{arith}
-use lib.ListN.{length-set}
-use lib.Seq.{length-take-le}
+use lib.{ListN.length-set, Seq.length-take-le}
 use Rattle.stepping.proofs.CellLaws.{held-save}
 use Rattle.stepping.proofs.cells.save.Statement.{statement}
 use Rattle.stepping.proofs.cells.save.Tie as tie

@@ -4,9 +4,6 @@ use Rattle.stepping.proofs.StepLaws.{result-copy, result-add, result-su
 use Rattle.stepping.proofs.steps.compute.Statement.{statement}
 use Rattle.stepping.proofs.steps.compute.Tie as tie
 
-returns-2 : tie.Need-returns-2
-returns-2 c = let s = c .before .before in result-add (s .args .op) (s .args .a) (s .args .b) (c .before .match .keys2) (c .wrapping-add-u32 .ensures)
-
 returns-3 : tie.Need-returns-3
 returns-3 c =
     let s = c .before .before in
@@ -21,4 +18,6 @@ returns-4 c =
 pub compute-spec : {M : Type 1} → statement M
 compute-spec =
     tie.close (tie.spec (search needs) (search needs) (search needs)
-    (λ c. result-copy (c .before .args .op) (c .before .args .a) (c .before .args .b) (c .match .keys1)) returns-2 returns-3 returns-4)
+    (λ c. result-copy (c .before .args .op) (c .before .args .a) (c .before .args .b) (c .match .keys1))
+    (λ c. let s = c .before .before in result-add (s .args .op) (s .args .a) (s .args .b) (c .before .match .keys2) (c .wrapping-add-u32 .ensures))
+    returns-3 returns-4)

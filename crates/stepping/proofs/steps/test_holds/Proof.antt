@@ -5,22 +5,13 @@ use Rattle.stepping.proofs.StepLaws.{test-left, test-relation, test-rig
 use Rattle.stepping.proofs.steps.test_holds.Statement.{statement}
 use Rattle.stepping.proofs.steps.test_holds.Tie as tie
 
-cast-variable : tie.Need-cast-variable
-cast-variable c = search needs
-
-variable-requires : tie.Need-variable-requires
-variable-requires c κs = (c .before .before .pre .0, test-left (recordOf (c .before .before .args .r)) (c .before .before .pre .1))
-
-right-value-requires : tie.Need-right-value-requires
-right-value-requires c κs = (c .before .before .before .pre .0, test-right (recordOf (c .before .before .before .args .r)) (c .before .before .before .pre .1))
-
-compare-requires : tie.Need-compare-requires
-compare-requires c κs = let start = c .before .before .before .before .before in test-relation (recordOf (start .args .r)) (start .pre .1)
-
 returns : tie.Need-returns
 unfolding holds
 returns c = rw (c .compare .ensures, c .before .before .right-value .ensures, c .before .before .before .variable .ensures)
 
 pub test-holds-spec : {M : Type 1} → statement M
 test-holds-spec =
-    tie.close (tie.spec cast-variable variable-requires right-value-requires compare-requires returns)
+    tie.close (tie.spec (search needs)
+    (λ c κs. (c .before .before .pre .0, test-left (recordOf (c .before .before .args .r)) (c .before .before .pre .1)))
+    (λ c κs. (c .before .before .before .pre .0, test-right (recordOf (c .before .before .before .args .r)) (c .before .before .before .pre .1)))
+    (λ c κs. let start = c .before .before .before .before .before in test-relation (recordOf (start .args .r)) (start .pre .1)) returns)

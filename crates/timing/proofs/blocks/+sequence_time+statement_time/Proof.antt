@@ -3,8 +3,6 @@ use Prim.Native.Nat.{ℕ, _+_, _*_, _-_, _<_}
 use native.Mathlib.Omega.{arith}
 use mathlib.Core.Path.{_≡_, ap, sym, _∙_}
 use mathlib.Core.Bool.{false}
-use borrow.Author.Needs.{needs}
-use borrow.Author.Tests.{not-true, not-false}
 use Rattle.reading.proofs.Standing.{told}
 use Rattle.model.specs.declared.Settings.{Settings}
 use Rattle.model.specs.Records.{kindAt}
@@ -99,18 +97,12 @@ sequence-time-returns-2 t c =
     let w = c .before .before .before in
     counted-over (w .before .before .before .before .loop .inv) (w .before .before .before .loop-test .taken) (goes-on t w) (c .before .before .statement-time .ensures) (c .enum-told .given .1)
 
-sequence-time-sub-if2 : (t : ℕ) → sequence-time-lts.Need-sub-if2 (sequence-time-claims t) (sequence-time-at t) sequence-time.Post sequence-time-Inv-loop sequence-time-μ-loop
-sequence-time-sub-if2 t c = omega (arith, period (c .before .before .before .before .before .before .before .before .before .before .settings-in .ensures))
-
 sequence-time-returns-3 : (t : ℕ) → sequence-time-lts.Need-returns-3 (sequence-time-claims t) (sequence-time-at t) sequence-time.Post sequence-time-Inv-loop sequence-time-μ-loop
 sequence-time-returns-3 t c =
     let w = c .before .before .before .before .before in
     let k = w .before in
     counted-past (k .before .before .before .before .loop .inv) (k .before .before .before .loop-test .taken) (goes-on t k) (w .statement-time .ensures) (c .before .before .before .time .given .1)
     (omega (arith, c .if2 .taken, period (c .before .before .before .before .before .before .before .before .before .before .before .settings-in .ensures)))
-
-sequence-time-add-sum : (t : ℕ) → sequence-time-lts.Need-add-sum (sequence-time-claims t) (sequence-time-at t) sequence-time.Post sequence-time-Inv-loop sequence-time-μ-loop
-sequence-time-add-sum t c = omega (arith, period (c .before .before .before .before .before .before .before .before .before .before .before .settings-in .ensures))
 
 sequence-time-loop-again : (t : ℕ) → sequence-time-lts.Need-loop-again (sequence-time-claims t) (sequence-time-at t) sequence-time.Post sequence-time-Inv-loop sequence-time-μ-loop
 sequence-time-loop-again t c =
@@ -161,11 +153,14 @@ statement-time-returns-6 t c =
 
 pub +sequence-time+statement-time-spec : {M : Type 1} → statement M
 +sequence-time+statement-time-spec =
-    close μ-sequence-time μ-statement-time (λ t. sequence-time-lts.spec (sequence-time-claims t) (sequence-time-at t) sequence-time.Post
-    sequence-time-Inv-loop sequence-time-μ-loop (search needs) (λ c. counted-start (c .before .before .pre .1)) (omega arith) (search needs)
+    close μ-sequence-time μ-statement-time
+    (λ t. sequence-time-lts.spec (sequence-time-claims t) (sequence-time-at t) sequence-time.Post sequence-time-Inv-loop
+    sequence-time-μ-loop (search needs) (λ c. counted-start (c .before .before .pre .1)) (omega arith) (search needs)
     (sequence-time-returns t) (search needs) (search needs) (search needs) (sequence-time-returns-2 t)
-    (sequence-time-sub-if2 t) (sequence-time-returns-3 t) (sequence-time-add-sum t) (omega arith) (sequence-time-loop-again t)
-    (λ c. counted-all (c .before .loop .inv) (c .loop-test .left)))
+    (λ c. omega (arith, period (c .before .before .before .before .before .before .before .before .before .before .settings-in .ensures)))
+    (sequence-time-returns-3 t)
+    (λ c. omega (arith, period (c .before .before .before .before .before .before .before .before .before .before .before .settings-in .ensures)))
+    (omega arith) (sequence-time-loop-again t) (λ c. counted-all (c .before .loop .inv) (c .loop-test .left)))
     λ t. statement-time-lts.spec (statement-time-claims t) (statement-time-at t) statement-time.Post (search needs) (omega arith)
     (search needs) (search needs) (search needs) (search needs) (omega arith) (statement-time-returns t)
     (λ c. flat-times (open-there t (c .before)) (c .if2 .taken)) (omega arith) (omega arith) (omega arith)

@@ -1,6 +1,4 @@
 use mathlib.Core.Path.{_∙_}
-use borrow.Author.Tests.{ne-eqb}
-use borrow.Author.Needs.{needs}
 use Rattle.timing.proofs.ticks.kind_ticks.Statement.{statement}
 use Rattle.timing.proofs.ticks.kind_ticks.Tie as tie
 

@@ -1,6 +1,4 @@
-use native.Mathlib.Omega.{arith}
 use mathlib.Core.Path.{subst}
-use native.Mathlib.Nat.{mul-le-mul-left}
 use Rattle.timing.specs.Times.{Gives}
 use Rattle.timing.proofs.Given.{loop-over, loop-all}
 use borrow.Author.Needs.{needs}
@@ -9,11 +7,6 @@ use Rattle.timing.proofs.ticks.loop_time.Tie as tie
 
 enum-told : tie.Need-enum-told
 enum-told c = search needs
-
-returns : tie.Need-returns
-returns c = λ o t g.
-    let r = c .before .before .args .r in
-    loop-over _ (r .kind) (r .count) t o (subst (Gives _ t) (c .enum-told .given .1) g)
 
 mul-up-to : tie.Need-mul-within
 mul-up-to c = omega (arith, c .struct-known .given, mul-le-mul-left (c .before .before .before .before .before .args .r .count) (c .before .round-ticks .ensures .1))
@@ -28,4 +21,6 @@ returns-2 c = λ o t g.
 
 pub loop-time-spec : {M : Type 1} → statement M
 loop-time-spec =
-    tie.close (tie.spec (search needs) enum-told returns (search needs) (search needs) mul-up-to add-up-to (search needs) returns-2)
+    tie.close (tie.spec (search needs) enum-told
+    (λ c. λ o t g. let r = c .before .before .args .r in loop-over _ (r .kind) (r .count) t o (subst (Gives _ t) (c .enum-told .given .1) g))
+    (search needs) (search needs) mul-up-to add-up-to (search needs) returns-2)
