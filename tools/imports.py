@@ -64,7 +64,7 @@ def run(path):
         alias = re.match(r"(?:ghost )?use \S+ as (\S+?);?$", line)
         if several:
             names = [n.strip() for n in several.group(2).split(",") if n.strip()]
-            kept = [n for n in names if uses(n.split(" as ")[-1], rest)]
+            kept = [n for n in names if uses(n.split(" as ")[-1].split(".")[-1], rest)]
             if not kept:
                 continue
             line = line if kept == names else several.group(1) + "{" + ", ".join(kept) + "}" + several.group(3)

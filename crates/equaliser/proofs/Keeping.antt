@@ -11,6 +11,7 @@ use Rattle.model.specs.declared.Settings.{Settings}
 use Rattle.model.specs.declared.Form.the-variants.{Task}
 use Rattle.model.specs.Records.{Rec, kindAt}
 use Rattle.model.specs.Trees.{Block, nil, skip, act, branch, while, times}
+use Rattle.reading.specs.{Closing.opensBlock, Closing.closesBlock, Ranges.Stands}
 use Rattle.reading.proofs.Standing.{stands-once, stands-closed}
 use Rattle.equaliser.specs.Pads.{Entry, Kept, Same, Below, Keeps}
 

@@ -2,15 +2,20 @@
 use Prim.Native.Nat.{ℕ, _+_, _-_, _^_, _≤_, _<_}
 use native.Mathlib.Omega.{arith}
 use mathlib.Core.Path.{_≡_, refl, ap, sym, subst, _∙_}
+use mathlib.Core.{Bool.true, Bool.false, List.List}
 use lib.ListN.{length}
 use Rattle.model.specs.declared.Settings.{Settings}
 use Rattle.model.specs.declared.Form.the-variants.{Task}
+use Rattle.model.specs.{Records.kindAt, Times.time}
 use Rattle.model.specs.Trees.{Block, nil, size}
+use Rattle.reading.specs.{Closing.closesBlock, Ranges.InFile, Ranges.afterFirst, Walks.Walk}
 use Rattle.reading.proofs.Walking.{every, walk-start, none-closed, none-ended, walk-end, walk-at, walk-on, walk-next}
 use Rattle.timing.specs.declared.ticks.Time.the-variants.{Ticks, OverPeriod}
+use Rattle.timing.specs.{Times.Gives, Blocks.firstTime}
 use Rattle.timing.proofs.Given.{gives-ticks, gives-over, was-ticks, was-over}
 use Rattle.timing.proofs.Firsts.{time-first}
 use Rattle.equaliser.specs.declared.measure.Extent.{Extent}
+use Rattle.equaliser.specs.{Merged.padded, Pads.Kept, Pads.Below}
 use Rattle.equaliser.specs.Sizes.{BlockAsks, IsBlock, BlockSize, StatementAsks, IsStatement, StatementDone, StatementSize}
 use Rattle.equaliser.proofs.Keeping.{below-none, below-on, kept-none, kept-same, kept-on}
 use Rattle.equaliser.proofs.Merged.{waits-less, size-first as padded-size, padded-small}

@@ -1,5 +1,6 @@
 -- An equalised block statement by statement: what is written for each, and how many records.
 use Prim.Native.Nat.{ℕ, _+_, _*_, _-_, _≤_}
+use native.Mathlib.{Nat.add-zero, Nat.zero-add, Omega.arith}
 use mathlib.Core.Path.{_≡_, refl, ap, sym, _∙_}
 use Rattle.model.specs.declared.Settings.{Settings}
 use Rattle.model.specs.Trees.{Block, nil, skip, act, branch, while, times, _⧺_, size}

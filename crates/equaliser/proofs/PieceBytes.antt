@@ -1,5 +1,6 @@
 -- The bytes of the pieces of a loop: of what comes before its body, and of what follows it.
 use Prim.Native.Nat.{ℕ, _+_, _≤_}
+use mathlib.Core.{Path._≡_, Path.refl, List.List, List._++_}
 use lib.ListN.{length}
 use Rattle.model.specs.Records.{Rec, IF, TIMES, recordBytes, over}
 use Rattle.model.specs.Trees.{testRec, elseRec, endRec}

@@ -6,7 +6,9 @@ use mathlib.Core.Bool.{Bool, true, false}
 use mathlib.Core.List.{List, [], _∷_}
 use lib.{ListN.length, Dec.ltb}
 use borrow.Author.Tests.{lt-ltb, le-ltb, ltb-false}
+use Rattle.model.specs.declared.{Settings.Settings, Refusal.Refusal, Equalised.Equalised}
 use Rattle.model.specs.declared.Form.the-variants.{Task}
+use Rattle.model.specs.{Records.bytes, Records.over, Times.time, Equalising.equalise, Settings.settingsOf}
 use Rattle.model.specs.Trees.{Block, size, linearise, fileTree}
 use Rattle.model.specs.Answers.{Verdict, finished, refusal, equalised, kept as kept-by}
 use Rattle.model.specs.Replies.{turnDown, noRoom, equaliseRows, equalisedTree, equaliseReply, equaliseOut}
@@ -14,12 +16,16 @@ use Rattle.model.proofs.Sound.{sound-file}
 use Rattle.reading.specs.declared.Checked.the-variants.{Valid, Refused}
 use Rattle.records.specs.Blocks.{blockBytes, skipRecords}
 use Rattle.records.proofs.Blocks.{length-block}
+use Rattle.reading.specs.{Answers.Reads, Ranges.SoundFile}
+use Rattle.reading.proofs.{Entry.read-sound, Walking.whole-file}
 use Rattle.timing.specs.declared.ticks.Time.the-variants.{Ticks, OverPeriod}
 use Rattle.timing.specs.Times.{Gives}
 use Rattle.timing.proofs.Given.{was-over}
 use Rattle.equaliser.specs.declared.measure.Extent.{Extent}
 use Rattle.equaliser.specs.declared.write.Written.{Written}
+use Rattle.equaliser.specs.{Merged.padded, Pads.Kept, Written.BlockFits, Written.BlockWritten, Answers.EqualisesSound}
 use Rattle.equaliser.specs.Sizes.{Small, BlockAsks, BlockDone, IsBlock, BlockSize}
+use Rattle.equaliser.proofs.{Merged.equalise-padded, StatementSizes.told}
 
 -- A TASK THAT WAS READ
 

@@ -3,6 +3,7 @@ use Prim.Native.Nat.{ℕ, _+_, _-_, _≤_, _<_, max}
 use native.Mathlib.Omega.{arith}
 use mathlib.Core.Path.{_≡_, refl, ap, sym, subst, _∙_}
 use mathlib.Core.Bool.{Bool, true, false}
+use mathlib.Core.{Logic.inl, List.List}
 use lib.{Dec.eqb, ListN.length}
 use borrow.Author.Tests.{eqb-true, eqb-false}
 use Rattle.model.specs.declared.Settings.{Settings}
@@ -11,11 +12,14 @@ use Rattle.model.specs.Records.{Rec, kindAt, recordAt, SKIP, IF, WHILE}
 use Rattle.model.specs.Trees.{Block, nil, act, branch, while, size}
 use Rattle.model.specs.Times.{time}
 use Rattle.records.specs.declared.Record.{Record}
+use Rattle.records.specs.{Records.recordOf, Blocks.skipRecords}
 use Rattle.records.proofs.Blocks.{size-waiting}
+use Rattle.reading.specs.{Closing.opensBlock, Walks.StatementAt}
 use Rattle.reading.specs.Ranges.{Stands, firstSize, firstPart, secondPart, afterFirst, testOf}
 use Rattle.reading.proofs.Walking.{every, block, skip-at, act-at, if-at, open-at, first-in, second-in, task-while}
 use Rattle.timing.specs.declared.ticks.Time.{Time}
 use Rattle.timing.specs.declared.ticks.Time.the-variants.{Ticks, OverPeriod}
+use Rattle.timing.specs.{Times.Gives, Times.loopTicks, Blocks.firstTime}
 use Rattle.timing.proofs.Given.{gives-over, was-ticks, was-over}
 use Rattle.timing.proofs.Firsts.{loop-count, parts-time, plain-at}
 use Rattle.equaliser.specs.declared.measure.Extent.{Extent}

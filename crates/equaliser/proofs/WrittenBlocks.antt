@@ -1,17 +1,21 @@
 -- A block written statement by statement: what is laid, what waits and what is left, turn by turn.
 use Prim.Native.Nat.{ℕ, _+_, _^_, _≤_, _<_}
 use native.Mathlib.Omega.{arith}
+use mathlib.Core.{Path._≡_, Path.subst, Bool.true, Bool.false, List.List, List._++_}
 use mathlib.Core.Logic.{_⊎_, inl, inr}
 use lib.ListN.{length}
 use Rattle.model.specs.declared.Settings.{Settings}
+use Rattle.model.specs.{Records.kindAt, Trees.Block, Trees.nil, Times.time}
 use Rattle.records.specs.Blocks.{blockBytes, skipBytes, Wrote}
 use Rattle.records.proofs.Over.{Part, lent, back, part-start, part-fits, part-fits-last}
 use Rattle.records.proofs.Laying.{wrote-next, wrote-room, wrote-last}
+use Rattle.reading.specs.{Closing.closesBlock, Ranges.afterFirst, Walks.Walk}
 use Rattle.reading.proofs.Walking.{walk-start, none-closed, none-ended, walk-end, walk-at, walk-on, walk-next}
 use Rattle.timing.proofs.Firsts.{time-first}
 use Rattle.equaliser.specs.declared.write.Written.{Written}
 use Rattle.equaliser.specs.Merged.{padded, firstOut, firstWaits}
 use Rattle.equaliser.specs.Written.{BlockFits, WritesBlock, StatementFits, WritesStatement, StatementWritten}
+use Rattle.equaliser.proofs.{Merged.waits-less, WrittenBytes.first-bytes}
 
 -- of the block at `from`, with k ticks of SKIP at its end: what stands at i is left, and w ticks of SKIP wait
 pub record Writing {s : List ℕ} {from to k : ℕ} {pads old : List ℕ} (F : BlockFits s from to k pads old) (new : List ℕ) (at w i : ℕ) : Type 0 where

@@ -10,12 +10,15 @@ use Rattle.model.specs.Records.{Rec, kindAt, recordAt, recordBytes, IF, over}
 use Rattle.model.specs.Trees.{Block, branch, size, testRec, elseRec, endRec}
 use Rattle.model.specs.Times.{time}
 use Rattle.records.specs.declared.Record.{Record}
+use Rattle.records.specs.{Records.recordOf, Blocks.blockBytes, Blocks.Wrote}
 use Rattle.records.proofs.Over.{Part, lent, back, part-first, part-fits, part-fits-last}
 use Rattle.records.proofs.Laying.{record-wrote, wrote-next, wrote-last}
 use Rattle.records.proofs.Blocks.{branch-bytes}
 use Rattle.reading.specs.Ranges.{Stands, firstPart, secondPart, afterFirst, testOf}
+use Rattle.reading.specs.{Closing.opensBlock, Walks.StatementAt}
 use Rattle.reading.proofs.Walking.{block, if-at, first-in, second-in}
 use Rattle.equaliser.specs.declared.write.Written.{Written}
+use Rattle.equaliser.specs.{Merged.padded, Merged.firstOut, Pads.Entry}
 use Rattle.equaliser.specs.Written.{BlockFits, BlockWritten, StatementFits, WritesStatement}
 use Rattle.equaliser.proofs.WrittenBytes.{branchBytes}
 use Rattle.equaliser.proofs.WrittenParts.{block-fits, block-laid, block-goes}

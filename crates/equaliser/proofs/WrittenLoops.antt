@@ -2,6 +2,7 @@
 use Prim.Native.Nat.{ℕ, _+_, _^_, _≤_, _<_}
 use native.Mathlib.Omega.{arith}
 use mathlib.Core.Path.{_≡_, refl, ap, sym, subst, _∙_}
+use mathlib.Core.{Bool.true, List.List, List._++_}
 use lib.ListN.{length, getD}
 use Rattle.model.specs.declared.Settings.{Settings}
 use Rattle.model.specs.declared.Form.the-variants.{Task}
@@ -9,12 +10,15 @@ use Rattle.model.specs.Records.{Rec, kindAt, recordAt, IF, over}
 use Rattle.model.specs.Trees.{Block, while, size}
 use Rattle.model.specs.Times.{time}
 use Rattle.records.specs.declared.Record.{Record}
+use Rattle.records.specs.{Records.recordOf, Blocks.blockBytes, Blocks.Wrote}
 use Rattle.records.proofs.Over.{Part, lent, back, part-first, part-fits-last}
 use Rattle.records.proofs.Laying.{wrote-room, wrote-last}
+use Rattle.reading.specs.{Closing.opensBlock, Walks.StatementAt}
 use Rattle.reading.specs.Ranges.{firstPart, afterFirst, testOf}
 use Rattle.reading.proofs.Walking.{block, open-at, first-in, task-while}
 use Rattle.timing.proofs.Firsts.{parts-time, time-first}
 use Rattle.equaliser.specs.declared.write.Written.{Written}
+use Rattle.equaliser.specs.{Merged.padded, Merged.firstOut, Pads.Entry}
 use Rattle.equaliser.specs.Written.{loopHead, loopTail, BlockFits, BlockWritten, StatementFits, WritesStatement}
 use Rattle.equaliser.proofs.WrittenBytes.{loopBytes, loop-bytes}
 use Rattle.equaliser.proofs.WrittenParts.{block-fits, block-laid, block-goes}

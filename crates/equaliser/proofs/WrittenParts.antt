@@ -1,13 +1,16 @@
 -- A block inside a loop or an IF, laid over what is lent, as a step of Part.
 use Prim.Native.Nat.{ℕ, _+_, _^_, _≤_, _<_}
 use native.Mathlib.Omega.{arith}
+use mathlib.Core.{Path._≡_, List.List, List._++_}
 use Rattle.model.specs.declared.Settings.{Settings}
 use Rattle.model.specs.declared.Form.the-variants.{Task}
+use Rattle.model.specs.{Trees.size, Times.time}
 use Rattle.records.specs.Blocks.{blockBytes}
 use Rattle.records.proofs.Over.{Part, lent, back, part-fits}
 use Rattle.records.proofs.Laying.{wrote-next}
 use Rattle.reading.specs.Ranges.{InFile}
 use Rattle.equaliser.specs.declared.write.Written.{Written}
+use Rattle.equaliser.specs.{Merged.padded, Pads.Kept, Written.BlockFits, Written.BlockWritten}
 
 -- it comes next, with l ticks of SKIP at its end
 module _ {s : List ℕ} {i to : ℕ} (T : InFile Task s i to) (few : to ≤ 256) {σ : Settings} {pads : List ℕ} (K : Kept σ s to pads 0 to)

@@ -2,6 +2,7 @@
 use Prim.Native.Nat.{ℕ, _+_, _^_, _≤_, _<_}
 use native.Mathlib.Omega.{arith}
 use mathlib.Core.Path.{_≡_, refl, ap, sym, subst, _∙_}
+use mathlib.Core.{Bool.true, Bool.false, List.List, List._++_}
 use lib.ListN.{length, length-append}
 use Rattle.model.specs.declared.Settings.{Settings}
 use Rattle.model.specs.declared.Form.the-variants.{Task}
@@ -14,6 +15,7 @@ use Rattle.records.specs.Blocks.{blockBytes, skipBytes, Wrote}
 use Rattle.records.proofs.Over.{Part, lent, back, part-first, part-room, part-fits-last}
 use Rattle.records.proofs.Laying.{record-wrote, wrote-room, wrote-last}
 use Rattle.records.proofs.Blocks.{waiting-bytes, act-bytes}
+use Rattle.reading.specs.{Closing.opensBlock, Walks.StatementAt}
 use Rattle.reading.specs.Ranges.{Stands, firstSize, afterFirst}
 use Rattle.reading.proofs.FirstKinds.{IsAct, shut}
 use Rattle.reading.proofs.Walking.{block, some, skip-at, act-at}

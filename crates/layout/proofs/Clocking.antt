@@ -3,13 +3,16 @@ use Prim.Native.Nat.{ℕ, _+_, _≤_, _<_, min}
 use native.Mathlib.Omega.{arith}
 use mathlib.Core.Path.{_≡_, refl, ap, sym, subst, _∙_}
 use mathlib.Core.Bool.{Bool, true, false, _||_}
+use mathlib.Core.{Logic.⊎-elim, List.List}
 use lib.{Dec.eqb, ListN.length}
 use borrow.Author.Tests.{eqb-true, eqb-false}
 use Rattle.model.specs.declared.Settings.{Settings}
 use Rattle.model.specs.Records.{Rec, kindAt, recordAt, SKIP, IF, TIMES}
+use Rattle.model.specs.{Trees.check, Trees.size, Times.longest}
 use Rattle.model.proofs.Shapes.{or-cases, neither}
 use Rattle.records.specs.declared.Record.{Record}
 use Rattle.records.specs.Records.{recordOf}
+use Rattle.reading.specs.{Closing.closesBlock, Ranges.firstPart, Ranges.secondPart}
 use Rattle.timing.specs.Times.{stepTicks, settingsIn}
 use Rattle.placing.specs.declared.clock.State.{State}
 use Rattle.placing.specs.States.{Laying, Stepped, Skipped, backTo}
@@ -19,6 +22,8 @@ use Rattle.layout.specs.Idling.{AllIdle, IdleEnds}
 use Rattle.layout.specs.Meetings.{Noting, BlockMeasured, StatementMeasured}
 use Rattle.layout.specs.Lent.{loaded, placeIn, passage, Stored, Placed}
 use Rattle.layout.specs.Clocked.{StepStarts, StepEnds, BlockLent, StatementLent, BlockClocked, StatementClocked}
+use Rattle.layout.proofs.{Lending.passage-is, Passing.statement-next, Passing.passing-on, PassingRounds.Loop}
+use Rattle.layout.proofs.{IdleLoops.idle-measured, PassingBranches.Tested}
 use Rattle.layout.proofs.PassingSteps.{step-short, is-act, act-lasts}
 use Rattle.layout.proofs.PassingRounds as loops
 use Rattle.layout.proofs.PassingBranches as ifs

@@ -1,5 +1,6 @@
 -- Loops whose bodies have SKIPs alone: single ticks of SKIP compose, the scan of such a body, and the loop as it is measured and written.
 use Prim.Native.Nat.{ℕ, zero, suc, _+_, _*_, _≤_, _<_, min}
+use native.Mathlib.{Omega.arith, Nat.add-zero}
 use mathlib.Core.Path.{_≡_, refl, ap, ap₂, sym, subst, _∙_}
 use mathlib.Core.Bool.{Bool, true, false, false≢true}
 use mathlib.Core.List.{List, []}
@@ -9,21 +10,29 @@ use Rattle.model.specs.declared.Form.the-variants.{Equalised}
 use Rattle.model.specs.declared.Settings.{Settings}
 use Rattle.model.specs.Records.{Rec, kindAt, recordAt, SKIP, TIMES}
 use Rattle.model.specs.Trees.{Test, check, Block, nil, skip, act, _⧺_, size}
+use Rattle.model.specs.{Times.time, Placement.Fits}
 use Rattle.model.specs.Layout.{before, idle, idles}
+use Rattle.model.proofs.{Sound.OfForm, Trees.⧺-nil, Trees.⧺-assoc}
+use Rattle.theory.proofs.{Times.time-⧺, Windows.Free, Windows.idles-longer}
 use Rattle.records.specs.declared.Record.{Record}
 use Rattle.records.specs.Records.{recordOf}
 use Rattle.records.proofs.Over.{lent, back}
+use Rattle.reading.specs.{Closing.closesBlock, Walks.Walk}
 use Rattle.reading.specs.Ranges.{InFile, Ranged, firstSize, afterFirst, testOf}
 use Rattle.reading.proofs.FirstKinds.{kind-is}
 use Rattle.reading.proofs.Walking.{kind-there, skip-at, walk-start, none-closed, walk-end, walk-at, walk-next}
 use Rattle.placing.specs.declared.clock.State.{State}
 use Rattle.placing.specs.States.{Laying, After, Stepped, Skipped}
 use Rattle.placing.specs.Placed.{Room, Lays, stepBytes, StepLaid}
+use Rattle.placing.proofs.{Going.after-⧺, Settling.alike-eq}
 use Rattle.placing.proofs.Writing.{laidBytes, Writing, first-room, writing-first, writing-same, writing-room, writing-next, writing-end}
 use Rattle.layout.specs.declared.skips.Idle.{Idle}
 use Rattle.layout.specs.Idling.{IdleBody, AllIdle, IdleLoop, IdleAt, SkipsFit, SkipsLaid, checked, checkRec, IdleEnds, IdleFits, IdleLaid}
+use Rattle.layout.specs.{Ranges.only, Measured.laid, Meetings.meetings, Meetings.StatementMeasured}
 use Rattle.layout.specs.Written.{LaidFits, StatementFits, StatementLaid}
 use Rattle.layout.proofs.Unrolled.{rounds, rounds-none, rounds-first, laid-nil, laid-free}
+use Rattle.layout.proofs.{Noting.plain-checked, Noting.noted-plain, Passing.laying-on, PassingSteps.LaidAs, PassingSteps.answered}
+use Rattle.layout.proofs.{PassingRounds.Loop, Measuring.noted-as}
 use Rattle.layout.proofs.PassingRounds as loops
 use Rattle.layout.proofs.WritingSteps.{fits-as, answered-as, step-fits, step-lays, skip-fits, skip-laid}
 

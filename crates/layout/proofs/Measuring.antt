@@ -2,6 +2,7 @@
 use Prim.Native.Nat.{ℕ, _+_, _≤_, _<_, min}
 use native.Mathlib.Omega.{arith}
 use mathlib.Core.Path.{_≡_, refl, ap, sym, subst}
+use mathlib.Core.{Bool.true, Bool.false, List.List, List._++_}
 use lib.ListN.{length, length-append}
 use Rattle.model.specs.declared.Form.the-variants.{Equalised}
 use Rattle.model.specs.declared.Settings.{Settings}
@@ -10,6 +11,7 @@ use Rattle.model.specs.Trees.{check, Block, nil, act, _⧺_}
 use Rattle.model.specs.Layout.{before}
 use Rattle.records.specs.declared.Record.{Record}
 use Rattle.records.specs.Records.{recordOf}
+use Rattle.reading.specs.{Closing.closesBlock, Ranges.Stands}
 use Rattle.timing.specs.Times.{stepTicks}
 use Rattle.placing.specs.declared.clock.State.{State}
 use Rattle.layout.specs.declared.measure.Passage.{Passage}
@@ -19,6 +21,7 @@ use Rattle.layout.specs.Measured.{laid, Meets, Entered, Statement, Block
 use Rattle.layout.specs.Meetings.{meetings, Noting, Noted, Notes, BlockMeasured, StatementMeasured}
 use Rattle.reading.proofs.Walking.{every, none-closed, none-ended}
 use Rattle.layout.proofs.Noting.{notes-++, notes-first, plain-step, plain-idles, noted-plain, noted-⧺}
+use Rattle.layout.proofs.{Unrolled.rounds, Unrolled.rounds-none, PassingRounds.PassingRounds, PassingBranches.Tested}
 use Rattle.layout.proofs.Passing.{in-time, Passing, passing-start, left, all-done, passing-done, one, passing-late, passing-next}
 use Rattle.layout.proofs.PassingSteps.{LaidAs, laid-every, skip-as, skip-passed, is-act, act-as, act-passed}
 use Rattle.layout.proofs.PassingRounds as loops

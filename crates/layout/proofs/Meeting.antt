@@ -4,6 +4,7 @@ use native.Mathlib.Omega.{arith}
 use mathlib.Core.Path.{_≡_, refl, ap, ap₂, sym, subst, _∙_}
 use Rattle.model.specs.declared.Settings.{Settings}
 use Rattle.model.specs.Trees.{Block, _⧺_, size}
+use Rattle.model.specs.{Times.time, Equalising.merge, Layout.fill, Layout.filled}
 use Rattle.records.specs.Blocks.{skipRecords}
 use Rattle.placing.specs.declared.clock.State.{State}
 use Rattle.placing.specs.Merging.{settled, waits}

@@ -1,5 +1,6 @@
 -- The meetings of one block after another, and how they are noted in the table and read from it.
 use Prim.Native.Nat.{ℕ, zero, suc, _+_, _*_, _-_, _%_, _≤_, _<_, min, max}
+use native.Mathlib.{Omega.arith, Nat.add-zero, Nat.add-assoc}
 use mathlib.Core.Path.{_≡_, refl, ap, ap₂, sym, subst, _∙_}
 use mathlib.Core.Bool.{Bool, true, false}
 use mathlib.Core.List.{List, [], _∷_, _++_, append-assoc}
@@ -8,7 +9,9 @@ use lib.{Seq.getD-append-add, Dec.eqb, Dec.ltb}
 use borrow.Author.Tests.{ltb-true, ltb-false}
 use Rattle.model.specs.declared.Settings.{Settings}
 use Rattle.model.specs.Trees.{Test, Act, check, save, Block, nil, skip, act, branch, while, times, _⧺_, size}
+use Rattle.model.specs.{Times.ticks, Times.time, Equalising.merge}
 use Rattle.model.specs.Layout.{commands, left, before, idle, idles, fill}
+use Rattle.theory.proofs.{Sequences.either, Windows.round}
 use Rattle.records.proofs.Blocks.{size-waiting}
 use Rattle.layout.specs.Idling.{checked}
 use Rattle.layout.specs.Meetings.{meetings, Noting, Notes, Noted, Holds}

@@ -7,10 +7,12 @@ use Rattle.model.specs.declared.Settings.{Settings}
 use Rattle.model.specs.declared.Form.the-variants.{Equalised}
 use Rattle.model.specs.Records.{kindAt, recordAt, IF}
 use Rattle.model.specs.Trees.{Test, check, Block, nil, act, branch, _⧺_, size}
+use Rattle.model.specs.{Times.time, Equalising.merge, Placement.Fits}
 use Rattle.model.specs.Layout.{before, fill, filled}
 use Rattle.theory.proofs.Times.{time-⧺}
 use Rattle.theory.proofs.Windows.{Free, later, free-tested, free-later}
 use Rattle.records.proofs.Blocks.{size-waiting}
+use Rattle.reading.specs.{Closing.opensBlock, Walks.IfAt}
 use Rattle.reading.specs.Ranges.{InFile, firstPart, secondPart, afterFirst, testOf}
 use Rattle.placing.specs.declared.clock.State.{State}
 use Rattle.layout.specs.declared.measure.Passage.{Passage}
@@ -18,6 +20,7 @@ use Rattle.placing.specs.Merging.{waits}
 use Rattle.placing.specs.States.{cap, After, Stepped, backTo}
 use Rattle.layout.specs.Measured.{laid, Passes, Met, Meeting, Meets, Ready, Entered, Statement, BlockPassed, StatementPassed}
 use Rattle.layout.specs.Meetings.{meetings}
+use Rattle.placing.proofs.{Settling.waits-⧺, Settling.size-settled, Moves.shows-on}
 use Rattle.reading.proofs.Walking.{first-in, if-at, second-in}
 use Rattle.layout.proofs.Noting.{meetings-⧺, plain-before, plain-fill}
 use Rattle.layout.proofs.Unrolled.{laid-branch, laid-free, filled-ends}

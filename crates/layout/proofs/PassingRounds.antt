@@ -1,12 +1,16 @@
 -- Measuring a loop: round after round of its body, and then its CHECK.
 use Prim.Native.Nat.{ℕ, zero, suc, _+_, _-_, _≤_, _<_}
+use native.Mathlib.{Omega.arith, Nat.add-zero}
 use mathlib.Core.Path.{_≡_, refl, ap, sym, subst, _∙_}
 use mathlib.Core.List.{List}
 use Rattle.model.specs.declared.Settings.{Settings}
 use Rattle.model.specs.declared.Form.the-variants.{Equalised}
 use Rattle.model.specs.Records.{kindAt, recordAt, TIMES}
 use Rattle.model.specs.Trees.{Test, check, Block, nil, act, times, _⧺_, size}
+use Rattle.model.specs.{Times.time, Layout.before, Placement.Fits}
 use Rattle.model.proofs.Sound.{OfForm}
+use Rattle.theory.proofs.{Times.time-⧺, Windows.Free}
+use Rattle.reading.specs.{Closing.opensBlock, Walks.OpenAt}
 use Rattle.reading.specs.Ranges.{firstPart, afterFirst, testOf}
 use Rattle.placing.specs.declared.clock.State.{State}
 use Rattle.layout.specs.declared.measure.Passage.{Passage}

@@ -2,11 +2,14 @@
 use Prim.Native.Nat.{ℕ, _+_, _≤_, _%_}
 use native.Mathlib.Omega.{arith}
 use mathlib.Core.Path.{_≡_, refl, ap, sym, subst, _∙_}
+use mathlib.Core.{Bool.false≢true, List.List}
 use lib.Dec.{eqb}
 use Rattle.model.specs.declared.Settings.{Settings}
 use Rattle.model.specs.declared.Form.the-variants.{Equalised}
 use Rattle.model.specs.Records.{recordAt, SKIP, IF, TIMES}
 use Rattle.model.specs.Trees.{Act, set, read, write, check, beat, save, Block, nil, skip, act, _⧺_, actRec}
+use Rattle.model.specs.{Times.ticks, Times.longest, Layout.before, Layout.idles}
+use Rattle.model.proofs.{Shapes.Fit, Sound.OfForm}
 use Rattle.theory.proofs.Sequences.{either}
 use Rattle.records.specs.declared.Record.{Record}
 use Rattle.records.specs.Records.{recordOf}
@@ -20,6 +23,7 @@ use Rattle.placing.specs.States.{Layable, Stepped, Skipped}
 use Rattle.layout.specs.Ranges.{only}
 use Rattle.layout.specs.Measured.{laid, Passes, Statement, StatementPassed}
 use Rattle.reading.proofs.Walking.{every, kind-there, count-there, skip-at}
+use Rattle.layout.proofs.{Standing.act-at, Unrolled.laid-skip, Unrolled.laid-act, Passing.passed}
 
 -- the acts of an equalised file take at least a tick, and at most the longest
 pub act-short : {σ : Settings} → Layable σ → (p : Act) → Fit Equalised (actRec p) → (1 ≤ ticks σ p) × (ticks σ p ≤ longest σ)

@@ -6,7 +6,9 @@ use mathlib.Core.Bool.{Bool, true, false, _||_, or-true}
 use mathlib.Core.List.{List, [], _∷_}
 use lib.{ListN.length, Dec.ltb}
 use borrow.Author.Tests.{ltb-true, ltb-false, lt-ltb, le-ltb}
+use Rattle.model.specs.declared.{Settings.Settings, Refusal.Refusal, LaidOut.LaidOut}
 use Rattle.model.specs.declared.Form.the-variants.{Equalised}
+use Rattle.model.specs.{Records.bytes, Records.over, Times.time, Times.longest, Settings.settingsOf, Placement.Positive}
 use Rattle.model.specs.Trees.{Block, size, linearise, fileTree}
 use Rattle.model.specs.Layout.{unroll, opened, layout, total}
 use Rattle.model.specs.Answers.{Verdict, finished, refusal, laidOut, kept}
@@ -16,8 +18,11 @@ use Rattle.theory.proofs.Laid.{total-longer}
 use Rattle.reading.specs.declared.Checked.the-variants.{Valid, Refused}
 use Rattle.records.specs.Blocks.{blockBytes, skipRecords}
 use Rattle.records.proofs.Blocks.{one-skip, length-block}
+use Rattle.reading.specs.{Answers.Reads, Ranges.SoundFile}
+use Rattle.reading.proofs.{Entry.read-settings, Entry.read-sound, Standing.stands-file}
 use Rattle.placing.specs.declared.clock.State.{State}
 use Rattle.placing.specs.States.{Layable, After, started}
+use Rattle.layout.specs.{Measured.FilePassed, Meetings.FileMeasured, Written.FileFits, Answers.InRange, Answers.LaysOutSound}
 use Rattle.layout.proofs.Whole.{few-ifs, opened-total, total-is, size-is}
 
 -- ROWS

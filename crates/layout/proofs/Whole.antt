@@ -1,5 +1,6 @@
 -- The whole file: from the commands of tick 0 over the laid block to the last BEAT.
 use Prim.Native.Nat.{ℕ, _+_, _*_, _-_, _%_, _/_, _≤_, _<_}
+use native.Mathlib.{Omega.arith, Nat.zero-mod, Nat.zero-add}
 use mathlib.Core.Path.{_≡_, refl, ap, ap₂, sym, subst, _∙_}
 use mathlib.Core.Bool.{Bool, true, false, cond}
 use mathlib.Core.List.{List, _++_, append-assoc}
@@ -8,6 +9,7 @@ use borrow.Author.Tests.{eqb-true, eqb-false, eq-eqb, ne-eqb}
 use Rattle.model.specs.declared.Form.the-variants.{Equalised}
 use Rattle.model.specs.declared.Settings.{Settings}
 use Rattle.model.specs.Trees.{beat, save, Block, nil, skip, act, _⧺_, size, fileTree}
+use Rattle.model.specs.{Times.time, Equalising.waiting, Equalising.merge, Records.over}
 use Rattle.model.specs.Layout.{unroll, commands, left, lay, opened, body, lastValue, layout, total}
 use Rattle.model.proofs.Trees.{⧺-assoc}
 use Rattle.theory.proofs.Times.{time-⧺}
@@ -25,7 +27,9 @@ use Rattle.layout.specs.Meetings.{meetings, Holds, BlockMeasured, FileMe
 use Rattle.placing.specs.Placed.{bytesOf, Lays, tailBytes}
 use Rattle.layout.specs.Written.{BlockFits, BlockLaid, FileFits}
 use Rattle.placing.proofs.Settling.{settled-⧺, waits-⧺, merge-settled, Alike, alike-eq, alike-sym, alike-trans, alike-skip}
+use Rattle.placing.proofs.{Going.after-⧺, Going.after-alike, Ticking.left-is}
 use Rattle.layout.proofs.Noting.{holds-notes, meetings-⧺, few-meetings}
+use Rattle.reading.proofs.{Standing.stands-file, Walking.whole-file}
 
 -- TICK 0
 

@@ -6,9 +6,11 @@ use mathlib.Core.List.{List}
 use lib.ListN.{length}
 use Rattle.model.specs.declared.Form.the-variants.{Equalised}
 use Rattle.model.specs.declared.Settings.{Settings}
+use Rattle.model.specs.{Trees.skip, Layout.commands}
 use Rattle.reading.specs.Ranges.{SoundFile}
 use Rattle.placing.specs.declared.clock.State.{State}
 use Rattle.placing.specs.States.{Layable, Laying, After, started}
+use Rattle.layout.specs.{Measured.Entered, Meetings.BlockMeasured, Meetings.FileMeasured, Clocked.BlockLent, Clocked.BlockClocked}
 use Rattle.timing.specs.Times.{settingsIn}
 use Rattle.layout.specs.Lent.{loaded, placeIn, passage, Stored}
 use Rattle.layout.proofs.Whole.{opening, laying-start, after-opening, file-entered, file-late, file-measured}

@@ -2,17 +2,22 @@
 use Prim.Native.Nat.{ℕ, _+_, _≤_, _<_}
 use native.Mathlib.Omega.{arith}
 use mathlib.Core.Path.{_≡_, ap, sym, subst, _∙_}
+use mathlib.Core.{Bool.true, Bool.false, List.List, List._++_}
 use lib.ListN.{length, length-append}
 use Rattle.model.specs.declared.Settings.{Settings}
+use Rattle.model.specs.{Records.kindAt, Times.time}
 use Rattle.model.specs.Trees.{Block, nil, _⧺_, size}
 use Rattle.theory.proofs.Times.{time-⧺}
 use Rattle.records.proofs.Over.{lent, back}
+use Rattle.reading.specs.{Closing.closesBlock, Ranges.firstSize, Ranges.afterFirst}
 use Rattle.placing.specs.declared.clock.State.{State}
 use Rattle.layout.specs.declared.measure.Passage.{Passage}
+use Rattle.layout.specs.{Measured.laid, Meetings.meetings, Meetings.Holds}
 use Rattle.layout.specs.Written.{BlockFits, StatementFits, LaysTo, BlockLaid, StatementLaid}
 use Rattle.placing.proofs.Settling.{alike-eq}
 use Rattle.reading.proofs.Walking.{every, none-closed, none-ended, walk-end}
 use Rattle.layout.proofs.Noting.{holds-left, holds-right, meetings-⧺}
+use Rattle.layout.proofs.{Unrolled.laid-nil, WritingSteps.laid-passed}
 use Rattle.placing.proofs.Writing.{laidBytes, Writing, writing-start, writing-same, writing-room, writing-next, writing-end}
 use Rattle.layout.proofs.Passing.{Passing, passing-start, left, all-done, statement-next, one, two, first, passing-on, passing-next}
 

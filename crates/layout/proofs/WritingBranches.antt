@@ -8,6 +8,7 @@ use Rattle.model.specs.declared.Form.the-variants.{Equalised}
 use Rattle.model.specs.declared.Settings.{Settings}
 use Rattle.model.specs.Records.{Rec, recordBytes, kindAt, recordAt, IF, over}
 use Rattle.model.specs.Trees.{Test, check, Block, nil, act, branch, _⧺_, size, testRec, elseRec, endRec}
+use Rattle.model.specs.{Times.time, Equalising.waiting, Equalising.merge, Layout.before, Layout.filled}
 use Rattle.model.proofs.Stands.{At}
 use Rattle.records.specs.Blocks.{blockBytes, skipRecords, skipBytes}
 use Rattle.records.proofs.Blocks.{waiting-bytes, branch-bytes, size-waiting, length-block}
@@ -16,12 +17,15 @@ use Rattle.reading.specs.Closing.{opensBlock}
 use Rattle.reading.specs.Ranges.{InFile, firstPart, secondPart, afterFirst, testOf}
 use Rattle.placing.specs.declared.clock.State.{State}
 use Rattle.layout.specs.declared.measure.Passage.{Passage}
+use Rattle.placing.specs.{Merging.settled, Merging.waits, States.cap, States.backTo}
 use Rattle.layout.specs.Measured.{laid, Met, Statement}
 use Rattle.layout.specs.Meetings.{meetings, Holds}
 use Rattle.placing.specs.Placed.{bytesOf, stepBytes, StepLaid}
 use Rattle.layout.specs.Written.{LaidFits, SideFits, SideLays, SideLaid, StatementFits, StatementLaid}
+use Rattle.placing.proofs.{Settling.size-settled, Settling.bytes-settled, Writing.laidBytes}
 use Rattle.reading.proofs.Walking.{first-in, if-at, second-in}
 use Rattle.layout.proofs.Noting.{holds-first, holds-rest, holds-left, holds-right}
+use Rattle.layout.proofs.{Unrolled.laid-branch, Unrolled.filled-ends, PassingSteps.laid-as, PassingSteps.block}
 use Rattle.layout.proofs.PassingBranches.{branch-after, Tested, sides, one, two, tested, test-wait, end, whole, branch-as, first-free, second-free, end-free}
 use Rattle.layout.proofs.PassingBranches.{whole-meetings, not-before, ready, ready-again}
 use Rattle.layout.proofs.WritingSteps.{fits-as, holds-as, answered-as}

@@ -1,16 +1,19 @@
 -- Writing a loop: round after round of its body, and then its CHECK.
 use Prim.Native.Nat.{ℕ, suc, _+_, _-_, _≤_, _<_}
+use native.Mathlib.{Omega.arith, Nat.sub-zero}
 use mathlib.Core.Path.{_≡_, refl, ap, sym, subst, _∙_}
 use mathlib.Core.List.{List, _++_, append-nil}
 use lib.ListN.{length, length-append}
 use Rattle.model.specs.declared.Settings.{Settings}
 use Rattle.model.specs.Records.{Rec, kindAt, recordAt, TIMES}
 use Rattle.model.specs.Trees.{check, Block, nil, act, _⧺_, size, actRec}
+use Rattle.model.specs.{Times.time, Layout.before}
 use Rattle.model.proofs.Trees.{⧺-nil, ⧺-assoc}
 use Rattle.theory.proofs.Times.{time-⧺}
 use Rattle.records.proofs.Over.{lent, back}
 use Rattle.placing.specs.declared.clock.State.{State}
 use Rattle.layout.specs.declared.measure.Passage.{Passage}
+use Rattle.layout.specs.{Measured.laid, Measured.BlockPassed, Meetings.meetings, Meetings.Holds}
 use Rattle.placing.specs.Placed.{stepBytes, StepLaid}
 use Rattle.layout.specs.Written.{LaidFits, StatementFits, BlockFits, BlockLaid, LaysTo, StatementLaid}
 use Rattle.placing.proofs.Settling.{alike-eq}

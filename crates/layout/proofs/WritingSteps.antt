@@ -7,16 +7,20 @@ use lib.ListN.{length}
 use Rattle.model.specs.declared.Settings.{Settings}
 use Rattle.model.specs.Records.{Rec, recordAt, SKIP, IF, TIMES, over}
 use Rattle.model.specs.Trees.{Act, Block, nil, act, _⧺_, actRec}
+use Rattle.model.specs.{Times.ticks, Layout.before, Layout.idles}
 use Rattle.records.specs.declared.Record.{Record}
+use Rattle.records.specs.{Records.recordOf, Blocks.skipBytes}
 use Rattle.records.proofs.Blocks.{waiting-bytes, act-bytes}
 use Rattle.reading.proofs.FirstKinds.{IsAct}
 use Rattle.timing.specs.Times.{stepTicks}
 use Rattle.placing.specs.declared.clock.State.{State}
 use Rattle.layout.specs.declared.measure.Passage.{Passage}
 use Rattle.placing.specs.Merging.{waits}
+use Rattle.layout.specs.{Measured.StatementPassed, Meetings.meetings, Meetings.Holds}
 use Rattle.placing.specs.Placed.{bytesOf, Room, Lays, stepBytes, StepLaid}
 use Rattle.layout.specs.Written.{LaidFits, StatementFits, LaysTo, StatementLaid}
 use Rattle.placing.proofs.Settling.{bytes-settled}
+use Rattle.layout.proofs.{Noting.plain-idles, Noting.plain-step, Passing.passed}
 use Rattle.layout.proofs.PassingSteps.{LaidAs, laid-every, skip-as, is-act, act-lasts, act-as}
 
 -- A STEP

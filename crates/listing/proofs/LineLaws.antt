@@ -8,6 +8,7 @@ use mathlib.Core.List.{List, [], _∷_}
 use lib.ListN.{length, getD, take}
 use lib.Dec.{eqb}
 use borrow.Author.Tests.{ne-eqb, eqb-true, eqb-false, lt-ltb, le-ltb}
+use Rattle.model.specs.declared.{Line.Line, Shown.Shown}
 use Rattle.model.specs.Records.{Rec, recordAt, SKIP, SET, READ, WRITE, IF, CHECK, BEAT}
 use Rattle.model.specs.Listing.{numbersOf, lineOf, lineAt, counted}
 

@@ -7,10 +7,14 @@ use mathlib.Core.List.{List, [], _∷_, append-nil}
 use lib.ListN.{length, getD, drop, length-append, length-drop}
 use lib.Seq.{sets}
 use Rattle.model.specs.declared.Form.the-variants.{Laid}
+use Rattle.model.specs.declared.{Refusal.Refusal, LaidOut.LaidOut, Settings.Settings}
+use Rattle.model.specs.{Settings.settingsOf, Settings.badSettings, Times.time, Records.over, Limits.fileLength}
 use Rattle.model.specs.Trees.{Block, size, linearise}
 use Rattle.model.specs.Answers.{finished, refusal, laidOut}
 use Rattle.model.specs.Replies.{equaliseReply, laidTotal, layOutReply, equalisedOf, prepareReply, prepareOut}
 use Rattle.model.specs.Listing.{startTicks, laidFrom, listStarts}
+use Rattle.model.proofs.{Bytes.recordsAt, Bytes.first-bytes, Trees.length-linearise, Passes.length-file, Stands.At, Stands.begins}
+use Rattle.model.proofs.{Sound.OfForm, Sound.sound-file}
 use Rattle.records.specs.declared.settings.Decoded.the-variants.{Refused}
 use Rattle.records.specs.Decoded.{Decodes}
 use Rattle.records.proofs.Stores.{stored-over}

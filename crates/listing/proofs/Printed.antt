@@ -5,9 +5,12 @@ use mathlib.Core.Path.{_≡_, refl, ap, ap₂, sym, subst, _∙_}
 use mathlib.Core.List.{List, [], _∷_, _++_}
 use lib.ListN.{length, getD, drop}
 use lib.Seq.{length-sets, drop-cons}
+use Rattle.model.specs.declared.{Line.Line, Shown.Shown, Refusal.Refusal}
+use Rattle.model.specs.{Settings.settingsOf, Trees.Block, Trees.linearise, Limits.fileLength, Replies.prepareReply, Replies.prepareOut}
 use Rattle.model.specs.Records.{Rec, recordAt, firstRecords, over}
 use Rattle.model.specs.Answers.{finished, row, refusal}
 use Rattle.model.specs.Listing.{lineOf, startTicks, linesOf, laidFrom, listStarts, lineAt, listed, turnedDown, printed}
+use Rattle.model.proofs.{Bytes.recordsAt, Bytes.recordsAt-suc, Trees.length-linearise}
 use Rattle.listing.specs.Lines.{linesIn}
 use Rattle.listing.proofs.LineLaws.{line-there}
 use Rattle.listing.proofs.Listings.{accepted, count, total, ticks-count, table-filled, records-there, laid-length}

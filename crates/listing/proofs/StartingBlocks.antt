@@ -8,10 +8,13 @@ use lib.{ListN.length, ListN.set as setAt, Seq.sets, Seq.length-sets}
 use Rattle.model.specs.declared.Form.the-variants.{Laid}
 use Rattle.model.specs.declared.Settings.{Settings}
 use Rattle.model.specs.Records.{Rec, kindAt, recordAt, IF}
+use Rattle.model.specs.{Limits.mostTicks, Times.time, Listing.startTicks}
 use Rattle.model.specs.Trees.{Block, nil, skip, act, branch, while, times, size}
+use Rattle.reading.specs.{Closing.closesBlock, Walks.Walk}
 use Rattle.reading.specs.Ranges.{Stands, firstSize, afterFirst}
 use Rattle.reading.proofs.FirstKinds.{kind-is}
 use Rattle.reading.proofs.Walking.{every, every-of, block, some, walk-start, none-closed, none-ended, walk-end, walk-at, walk-on, walk-next}
+use Rattle.timing.specs.{Times.stepTicks, Blocks.firstTime}
 use Rattle.timing.proofs.Firsts.{time-first, act-ticks}
 use Rattle.listing.specs.declared.starts.Place.{Place}
 use Rattle.listing.specs.Starts.{firstStarts, Stored, Entered, Statement, BlockStarted, StatementStarted}

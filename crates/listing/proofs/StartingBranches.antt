@@ -8,12 +8,15 @@ use lib.Seq.{sets, length-sets}
 use Rattle.model.specs.declared.Form.the-variants.{Laid}
 use Rattle.model.specs.declared.Settings.{Settings}
 use Rattle.model.specs.Records.{kindAt, recordAt, IF}
+use Rattle.model.specs.{Limits.mostTicks, Times.time, Listing.startTicks}
 use Rattle.model.specs.Trees.{Block, branch, size}
+use Rattle.reading.specs.{Closing.opensBlock, Walks.IfAt}
 use Rattle.reading.specs.Ranges.{InFile, firstPart, secondPart, afterFirst, testOf}
 use Rattle.reading.proofs.Walking.{block, first-in, if-at, second-in}
 use Rattle.listing.specs.declared.starts.Place.{Place}
 use Rattle.listing.specs.Starts.{firstStarts, Stored, Entered, Statement, BlockStarted, StatementStarted}
 use Rattle.records.proofs.Stores.{stored-on}
+use Rattle.listing.proofs.{Starting.starts-length, StartingBlocks.place, StartingBlocks.told}
 
 module _ {s : List ℕ} {i to : ℕ} {σ : Settings} {t : ℕ} {out : List ℕ} (S : Statement s i to σ t out) (k : kindAt s i ≡ IF) where
   abbrev one : Block

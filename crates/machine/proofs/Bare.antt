@@ -8,6 +8,7 @@ use Rattle.model.specs.declared.Settings.{Settings}
 use Rattle.model.specs.Trees.{Block, _⧺_, size}
 use Rattle.model.specs.Runs.{Step, step, Run, run}
 use Rattle.model.specs.Stopping.{none}
+use Rattle.theory.proofs.{Sequences.run-⧺, Unindexed.unindexed}
 use Rattle.theory.proofs.Views.{see, Alike, alike-refl, alike-sym, alike-trans, alike-eq, alike-⊳, alike-move}
 use Rattle.stepping.specs.Machines.{Machine, machine, acted, cutOff, turn, does, runs}
 use Rattle.machine.specs.Contracts.{passed, after, ahead}

@@ -1,6 +1,7 @@
 -- What is behind a block, and what the kind of a record says.
 use Prim.Native.Nat.{ℕ, _+_}
 use mathlib.Core.Path.{_≡_, ap, sym, _∙_}
+use mathlib.Core.{Bool.true, Bool.false, Logic.⊎-elim, List.List}
 use native.Mathlib.Omega.{arith}
 use lib.{Dec.eqb, ListN.getD}
 use borrow.Author.Tests.{eqb-true, eq-eqb, ne-eqb}

@@ -1,10 +1,12 @@
 -- The machine on lists of steps: one list after another, a run that goes on or has halted, tests, and what the model's runs say of it.
 use Prim.Native.Nat.{ℕ, zero, suc, _+_, _-_, _≤_, _<_}
+use native.Mathlib.{Omega.arith, Nat.add-zero, Nat.add-assoc}
 use mathlib.Core.Path.{_≡_, refl, ap, sym, subst, _∙_}
 use mathlib.Core.Bool.{Bool, true, false, cond, _||_, or-false, or-assoc}
 use mathlib.Core.List.{List, [], _∷_, _++_, append-nil}
 use lib.Dec.{leb, ltb}
 use borrow.Author.Tests.{leb-true, leb-false, le-leb, lt-leb, le-ltb, lt-ltb, ltb-true, ltb-false}
+use Rattle.model.specs.{Trees.Test, Stopping.upto, Stopping.lastImage}
 use Rattle.model.specs.Runs.{nothing, isOverrun, Step, step, duration, variablesAfter, outputsAfter, level, mark, overran, holds, Run, _⊳_, choose, spin, rounds}
 use Rattle.theory.proofs.Accepted.{neither}
 use Rattle.stepping.specs.Machines.{Held, affect, Machine, machine, acted, cutOff, turn, does, runs}

@@ -1,10 +1,13 @@
 -- A sound file: its records are one block, and the table of their closings has room.
 use Prim.Native.Nat.{ℕ, _≤_, _<_}
 use native.Mathlib.Omega.{arith}
+use mathlib.Core.{Path._≡_, List.List}
 use lib.ListN.{length}
 use Rattle.model.specs.declared.Form.{Form}
 use Rattle.model.specs.Trees.{size, fileTree}
 use Rattle.model.proofs.Sound.{Sound, sound-file}
+use Rattle.reading.specs.{Closing.Closings, Ranges.SoundFile, Ranges.Fillable}
+use Rattle.reading.proofs.{Scanning.most-records, Walking.whole-file}
 use Rattle.machine.specs.Contracts.{extent, Started, Begun}
 
 module _ {f : Form} {s : List ℕ} (S : SoundFile f s) where

@@ -6,7 +6,11 @@ use mathlib.Core.Bool.{Bool, true, false}
 use mathlib.Core.List.{List, [], _∷_}
 use lib.Dec.{leb}
 use borrow.Author.Tests.{le-leb, lt-leb, leb-true, leb-false}
+use Rattle.model.specs.declared.{Form.Form, Settings.Settings}
 use Rattle.model.specs.Trees.{Test, Block, nil, skip, act, branch, while, times, _⧺_, size}
+use Rattle.model.specs.{Times.time, Stopping.rest, Placement.LoopFree}
+use Rattle.model.proofs.{Stands.At, Sound.OfForm, Trees.⧺-assoc}
+use Rattle.theory.proofs.{Times.time-⧺, Left.rest-0}
 use Rattle.reading.specs.Ranges.{Stands}
 use Rattle.reading.proofs.Standing.{stands-last, stands-one, stands-two}
 use Rattle.machine.specs.Contracts.{extent, Pending, Chain}

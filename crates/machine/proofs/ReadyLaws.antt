@@ -6,6 +6,8 @@ use mathlib.Core.Bool.{Bool, true, false}
 use mathlib.Core.List.{List}
 use lib.ListN.{length}
 use borrow.Author.Tests.{lt-ltb, le-ltb}
+use Rattle.model.specs.declared.{Form.Form, Settings.Settings, Refusal.Refusal}
+use Rattle.model.specs.{Settings.settingsOf, Trees.fileTree, Times.time, Answers.Verdict, Answers.refusal}
 use Rattle.model.specs.Replies.{reading, above, fileTime, readyRows}
 use Rattle.model.proofs.Sound.{sound-file}
 use Rattle.theory.proofs.Accepted.{in-range}
@@ -16,6 +18,7 @@ use Rattle.reading.proofs.Filled.{fills-file}
 use Rattle.reading.proofs.Entry.{none, read-sound, read-settings}
 use Rattle.timing.specs.declared.ticks.Time.{Time}
 use Rattle.timing.specs.declared.ticks.Time.the-variants.{Ticks, OverPeriod}
+use Rattle.timing.specs.{Times.Gives, Blocks.BlockTimes}
 use Rattle.timing.proofs.Given.{was-over, was-ticks}
 use Rattle.machine.specs.Calls.{Readies}
 

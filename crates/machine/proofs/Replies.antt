@@ -5,11 +5,14 @@ use mathlib.Core.Path.{_≡_, refl, ap, ap₂, sym, subst, _∙_}
 use mathlib.Core.Bool.{Bool, false, not, _||_}
 use mathlib.Core.List.{List, [], _∷_}
 use lib.{Dec.eqb, ListN.length, ListN.replicate}
+use Rattle.model.specs.declared.{Form.Form, Settings.Settings, Refusal.Refusal, Ran.Ran, Stopped.Stopped}
+use Rattle.model.specs.{Settings.settingsOf, Trees.Block, Trees.fileTree}
 use Rattle.model.specs.Runs.{Step, duration, leave, cleared, run}
 use Rattle.model.specs.Stopping.{upto, none, lastImage, imageOf, start, takeUp}
 use Rattle.model.specs.Answers.{Verdict, finished, bit, ran, stopped, kept}
 use Rattle.model.specs.Replies.{reading, Loan, badLengths, readyRows, ready, ended, stepsOf, runReply, runBuffers, imageAt, stopReply, stopBuffers, imageOver, stopImage, buffersOf, loan}
 use Rattle.model.specs.Replies.{stopRows, takenUp, takenBuffers, resumeReply, resumeBuffers, restartReply, restartBuffers}
+use Rattle.theory.proofs.{Accepted.neither, Left.rest-0}
 use Rattle.reading.specs.declared.Checked.{Checked}
 use Rattle.reading.specs.declared.Checked.the-variants.{Valid, Refused}
 use Rattle.reading.specs.Answers.{checked}

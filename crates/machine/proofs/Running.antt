@@ -1,5 +1,6 @@
 -- Records run one after another: what is done, what is left, and what an answer that has halted says.
 use Prim.Native.Nat.{ℕ, _+_, _≤_, _<_}
+use native.Mathlib.{Omega.arith, Nat.add-zero}
 use mathlib.Core.Path.{_≡_, refl, ap, sym, subst, _∙_}
 use mathlib.Core.Bool.{Bool, true, false, cond, _||_, false≢true}
 use mathlib.Core.List.{List, [], _++_}
@@ -8,6 +9,9 @@ use Rattle.model.specs.declared.Settings.{Settings}
 use Rattle.model.specs.Records.{kindAt}
 use Rattle.model.specs.Trees.{Block, nil, skip, act, branch, while, times, size}
 use Rattle.model.specs.Runs.{Step, overran, variablesAfter, Run, _⊳_, run}
+use Rattle.theory.proofs.{Accepted.neither, Sequences.⊳-assoc}
+use Rattle.reading.specs.{Closing.closesBlock, Ranges.firstSize, Ranges.afterFirst, Walks.StatementAt}
+use Rattle.reading.proofs.{Filled.size-first, Filled.fills-none, Standing.stands-closed, Walking.some, Walking.behind}
 use Rattle.stepping.specs.declared.progress.Progress.{Progress}
 use Rattle.stepping.specs.Machines.{Machine, does, runs}
 use Rattle.stepping.specs.Steps.{going, reached, halted, Ran}

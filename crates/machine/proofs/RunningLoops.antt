@@ -1,5 +1,6 @@
 -- The loops run round by round: what is left of one, and what its tests say.
 use Prim.Native.Nat.{ℕ, suc, _+_, _-_, _≤_, _<_}
+use native.Mathlib.{Nat.sub-zero, Omega.arith}
 use mathlib.Core.Path.{_≡_, refl, ap, sym, subst, _∙_}
 use mathlib.Core.Bool.{Bool, true, false, cond, not}
 use mathlib.Core.List.{List, [], _++_}
@@ -20,6 +21,7 @@ use Rattle.stepping.specs.Steps.{going, halted, Ran}
 use Rattle.machine.specs.Contracts.{closing, at-end, Chain, firstRun, Begun, Statement, RecordsRan, StatementRan}
 use Rattle.machine.proofs.Doing.{spin-cut, spin-end, spin-round, rounds-nothing}
 use Rattle.machine.proofs.Running.{runs-same, given-at, onward, cutAt, never, ran-early, ran-on, ran-halted, ran-from}
+use Rattle.machine.proofs.{RunningSteps.block, RunningSteps.told, Sides.closing-is}
 
 -- A LOOP AND ITS BODY
 

@@ -7,6 +7,7 @@ use mathlib.Core.Logic.{⊎-elim}
 use mathlib.Core.List.{List, [], _∷_}
 use lib.Dec.{eqb}
 use borrow.Author.Tests.{eqb-true, eqb-false}
+use Rattle.model.specs.declared.{Form.Form, Settings.Settings}
 use Rattle.model.specs.Records.{Rec, kindAt, recordAt, SKIP, IF, WHILE, TIMES}
 use Rattle.model.specs.Trees.{Act, set, read, write, check, beat, save, Block, nil, skip, act, branch, while, times, actRec}
 use Rattle.model.specs.Times.{ticks}
@@ -20,6 +21,7 @@ use Rattle.reading.proofs.Walking.{some, skip-at, act-at}
 use Rattle.timing.specs.Times.{stepTicks}
 use Rattle.timing.proofs.Firsts.{act-ticks}
 use Rattle.stepping.specs.declared.progress.Progress.{Progress}
+use Rattle.stepping.specs.{Machines.runs, Machines.recordEffect, Steps.going, Steps.Ran}
 use Rattle.machine.specs.Contracts.{extent, firstRun, Reached, Statement, StatementRan}
 use Rattle.machine.proofs.Running.{runs-same, ran-from}
 

@@ -1,17 +1,21 @@
 -- From a run of the file's records to what the calls answer and leave.
 use Prim.Native.Nat.{ℕ, _+_, _*_, _-_, _/_, _≤_, _<_}
+use native.Mathlib.{Nat.sub-zero, Omega.arith}
 use mathlib.Core.Path.{_≡_, refl, ap, ap₂, sym, subst, _∙_}
 use mathlib.Core.Bool.{Bool, true, false, not, _||_, or-true, false≢true}
 use mathlib.Core.List.{List, [], _∷_}
 use lib.Dec.{eqb, ltb}
 use lib.ListN.{length, getD, take, drop, replicate}
 use borrow.Author.Tests.{not-true, not-false, eqb-true, ltb-true, ltb-false, lt-ltb, le-ltb, le-leb, lt-leb}
+use Rattle.model.specs.declared.{Settings.Settings, Stopped.Stopped, Ran.Ran, Refusal.Refusal}
 use Rattle.model.specs.Trees.{Block, nil, _⧺_, size, fileTree}
 use Rattle.model.specs.Runs.{Step, duration, variablesAfter, outputsAfter, level, mark, overran, Buffers, leave, cleared, run}
 use Rattle.model.specs.Stopping.{upto, Image, Saved, none, lastImage, wordsFrom, imageOf, rest, takeUp}
 use Rattle.model.specs.Replies.{ended, badLengths, isSaved, stopRows, imageOver, afterSave, strayImage, buffersOf}
 use Rattle.model.specs.Answers.{Verdict, finished, refused, bit, kept}
+use Rattle.model.proofs.{Bytes.Bytes, Trees.⧺-nil}
 use Rattle.model.specs.Placement.{LoopFree}
+use Rattle.theory.proofs.{Accepted.neither, Sequences.⊳-nil, Reached.rest-reached, Stops.upto-all, Within.run-within}
 use Rattle.reading.proofs.Walking.{whole-file}
 use Rattle.stepping.specs.declared.progress.Progress.{Progress}
 use Rattle.stepping.specs.Machines.{Held, held, Machine, machine, does, runs}
@@ -19,6 +23,7 @@ use Rattle.stepping.specs.Steps.{going, reached}
 use Rattle.machine.specs.Contracts.{at-end, Chain, along, Started, RecordsRan}
 use Rattle.stepping.specs.Buffers.{withVariables, withOutputs, Stored, StoredImage}
 use Rattle.machine.specs.Calls.{ReadyToRun, steps, RunWhole, StopsSound, againRows, Resumes}
+use Rattle.machine.proofs.{Files.file-sound, Files.file-size, Doing.heldAfter, Doing.does-upto, Marks.marks-bytes, Running.runs-same}
 use Rattle.machine.proofs.Positions.{joined, Position, position, rest-shorter}
 use Rattle.machine.proofs.Bare.{bare, ahead-joined, runs-bare}
 use Rattle.stepping.proofs.ImageLaws.{beyond}

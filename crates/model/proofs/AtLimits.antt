@@ -5,6 +5,7 @@ use mathlib.Core.List.{List, [], _∷_}
 use lib.ListN.{replicate}
 use Rattle.model.specs.declared.Form.the-variants.{Task, Laid}
 use Rattle.model.specs.Records.{firstRecords, records, bytes, SKIP, BEAT, SAVE}
+use Rattle.model.specs.{Settings.settingsOf, Settings.badSettings, Runs.effect, Equalising.equalise, Chain.lend}
 use Rattle.model.specs.Trees.{linearise, stackOf, treeOf, fileTree}
 use Rattle.model.specs.Layout.{before, lastValue, layout, total}
 use Rattle.model.specs.Stopping.{imageBytes, imageOf, takeUp}

@@ -6,6 +6,7 @@ use mathlib.Core.List.{List, [], _∷_, _++_}
 use lib.ListN.{length, getD, take, drop, replicate}
 use Rattle.model.specs.declared.Form.the-variants.{Task}
 use Rattle.model.specs.Records.{firstRecords, records, bytes, SKIP, SET, READ, WRITE, IF, ELSE, WHILE, END, BEAT, SAVE}
+use Rattle.model.specs.{Settings.settingsOf, Settings.badSettings, Equalising.equalise}
 use Rattle.model.specs.Trees.{linearise, stackOf, treeOf, fileTree}
 use Rattle.model.specs.Runs.{Effect, nothing, assigns, outputs, beats, saves, overruns, Buffers, isBeat, isSave, starts, holds, result, effect}
 use Rattle.model.specs.Layout.{before, lastValue, layout, total}

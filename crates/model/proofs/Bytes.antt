@@ -1,5 +1,6 @@
 -- Records as bytes and bytes as records are inverse, and the record with an index is the one that stands there.
 use Prim.Native.Nat.{ℕ, zero, suc, _+_, _*_, _/_, _%_, _≤_, _<_}
+use native.Mathlib.{Nat.add-zero, Nat.add-assoc, Omega.arith}
 use mathlib.Core.Path.{_≡_, refl, ap, ap₂, sym, _∙_}
 use mathlib.Core.List.{List, [], _∷_, _++_, append-nil}
 use lib.ListN.{length, getD, drop, length-drop}

@@ -1,5 +1,6 @@
 -- A checkpoint image is read back from its 72 bytes.
 use Prim.Native.Nat.{ℕ, _+_, _*_}
+use native.Mathlib.{Nat.add-zero, Omega.arith}
 use mathlib.Core.Path.{_≡_, refl, ap, ap₂, sym, subst, _∙_}
 use mathlib.Core.List.{List, [], _∷_, _++_}
 use lib.{ListN.length, ListN.drop, Seq.getD-drop, Seq.drop-drop}

@@ -4,6 +4,8 @@ use mathlib.Core.Path.{_≡_, refl, ap, ap₂, sym, _∙_}
 use mathlib.Core.Bool.{Bool, true, false, cond}
 use mathlib.Core.List.{List}
 use lib.{Dec.eqb, ListN.length, ListN.getD}
+use Rattle.model.specs.declared.{Refusal.Refusal, Timed.Timed, Equalised.Equalised, LaidOut.LaidOut, Ran.Ran, Stopped.Stopped}
+use Rattle.model.specs.declared.{Rehearsed.Rehearsed}
 use Rattle.model.specs.Answers.{Verdict, finished, refused, bit, refusal, timed, equalised, laidOut, ran, stopped, rehearsed}
 
 -- a function that can be undone is injective

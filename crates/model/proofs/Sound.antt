@@ -1,5 +1,6 @@
 -- A file that passes the scan is the bytes of its tree, which stands in it, nests within the form's limit and has only that form's records.
 use Prim.Native.Nat.{ℕ, zero, suc, _+_, _*_, _/_, _%_, _≤_, _<_, max}
+use native.Mathlib.{Nat.add-zero, Nat.zero-add, Omega.arith}
 use mathlib.Core.Path.{_≡_, refl, ap, sym, subst, _∙_}
 use mathlib.Core.Bool.{Bool, true, false, cond, not, _||_}
 use mathlib.Core.List.{List, [], _∷_, _++_, append-assoc, append-nil}
@@ -12,6 +13,7 @@ use Rattle.model.specs.Trees.{size, depth, testRec, skipRec, actRec, els
 use Rattle.model.specs.Refusals.{maxRecords, maxDepth, kindFits, fieldsFit, Open, first, second, loop, Nesting, misplaced, inside, nest}
 use Rattle.model.specs.Refusals.{sound, faulty, deeper, scan, fault}
 use Rattle.model.proofs.Bytes.{Bytes, bytes-records, length-records, recordsAt, recordsAt-suc, records-at}
+use Rattle.model.proofs.{Trees.length-linearise, Trees.treeOf-linearise, Stands.At, Stands.begins}
 use Rattle.model.proofs.Shapes.{by-act, Fit, Shape, is-skip, is-act, is-if, is-while, is-times, is-else, is-end, shape}
 
 -- BLOCKS

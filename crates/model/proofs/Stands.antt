@@ -5,6 +5,7 @@ use mathlib.Core.Path.{_≡_, refl, ap, ap₂, sym, _∙_}
 use mathlib.Core.List.{List, [], _∷_, _++_, append-assoc, append-nil}
 use Rattle.model.specs.Records.{Rec, recordAt, firstRecords, IF, WHILE, TIMES}
 use Rattle.model.specs.Trees.{Test, Block, nil, skip, act, branch, while, times, size, testRec, skipRec, actRec, elseRec, endRec, linearise, treeOf}
+use Rattle.model.proofs.{Bytes.recordsAt, Bytes.recordsAt-suc, Trees.treeOf-linearise}
 
 -- IF at i with m and n records in its sides
 pub record BranchAt (s : List ℕ) (i : ℕ) (q : Test) (m n : ℕ) : Type 0 where

@@ -6,6 +6,7 @@ use lib.ListN.{replicate}
 use Rattle.model.specs.declared.Form.{Form}
 use Rattle.model.specs.declared.Form.the-variants.{Task, Equalised, Laid}
 use Rattle.model.specs.Records.{firstRecords, records, SKIP, SET, READ, IF, ELSE, WHILE, END, TIMES, CHECK, BEAT, SAVE}
+use Rattle.model.specs.{Settings.settingsOf, Settings.badSettings, Answers.Verdict, Replies.reading, Replies.timeReply}
 use Rattle.model.specs.Trees.{stackOf, treeOf, fileTree}
 use Rattle.model.specs.Refusals.{fieldsFit, scan, fault}
 use Rattle.model.proofs.Bench.{row, file, junk, said}

@@ -1,6 +1,8 @@
 -- What a call leaves as it was: every lent buffer at a refusal, the bytes after a result, and the image buffer where no SAVE is finished.
 use Prim.Native.Nat.{ℕ}
+use mathlib.Core.{Path._≡_, Path.refl, List.List}
 use lib.{ListN.length, ListN.drop, Seq.drop-append-seam}
+use Rattle.model.specs.{Stopping.none, Records.over}
 use Rattle.model.specs.Answers.{Verdict, finished, refused, kept}
 use Rattle.model.specs.Replies.{imageAt, equaliseReply, equaliseOut, layOutReply, layOutOut, prepareReply, prepareOut}
 use Rattle.model.specs.Replies.{Loan, runReply, runBuffers, stopReply, stopBuffers, stopImage, resumeReply, resumeBuffers, restartReply, restartBuffers}

@@ -1,5 +1,6 @@
 -- Single ticks of SKIP: how SKIPs and the filling of a side come to the same, and those before which nothing stands.
 use Prim.Native.Nat.{ℕ, zero, suc, _+_, _≤_, _<_}
+use native.Mathlib.{Omega.arith, Nat.add-zero}
 use mathlib.Core.Path.{_≡_, refl, ap, ap₂, sym, _∙_}
 use borrow.Author.Tests.{lt-ltb}
 use Rattle.model.specs.declared.Settings.{Settings}
@@ -11,6 +12,7 @@ use Rattle.theory.proofs.Times.{time-⧺}
 use Rattle.placing.specs.declared.clock.State.{State}
 use Rattle.placing.specs.States.{Layable, Shows}
 use Rattle.placing.proofs.Settling.{Alike, alike-eq, alike-sym, alike-trans, alike-⧺, alike-skip, alike-skips}
+use Rattle.placing.proofs.{Ticking.before-none, Moves.on, Moves.shows-on}
 
 module _ (σ : Settings) where
   -- SKIPs are the filling up to a tick where they have ended

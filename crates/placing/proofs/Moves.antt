@@ -1,9 +1,11 @@
 -- Where the moves of laying out lead: over ticks of SKIP, over a step, and past the commands of a window.
 use Prim.Native.Nat.{ℕ, _+_, _*_, _-_, _%_, _≤_, _<_}
+use native.Mathlib.{Omega.arith, Nat.add-mod-right}
 use mathlib.Core.Path.{_≡_, refl, ap, ap₂, _∙_}
 use borrow.Author.Tests.{eq-eqb, ne-eqb}
 use Rattle.model.specs.declared.Settings.{Settings}
 use Rattle.model.specs.Trees.{Act, beat, save, nil, skip, act}
+use Rattle.model.specs.{Times.ticks, Times.longest, Layout.commands, Layout.before}
 use Rattle.theory.proofs.Windows.{round}
 use Rattle.records.specs.Blocks.{skipRecords}
 use Rattle.records.proofs.Blocks.{size-waiting}

@@ -9,6 +9,7 @@ use borrow.Author.Tests.{eq-eqb, ne-eqb}
 use Rattle.model.specs.declared.Settings.{Settings}
 use Rattle.model.specs.Records.{Rec, rec, recordBytes, bytes, BEAT, over}
 use Rattle.model.specs.Trees.{beat, save, Block, nil, skip, act, actRec, size, linearise}
+use Rattle.model.specs.{Equalising.merge, Layout.commands, Layout.before, Times.longest}
 use Rattle.records.specs.Blocks.{blockBytes, skipRecords, skipBytes, Wrote}
 use Rattle.records.proofs.Blocks.{length-block, waiting-bytes}
 use Rattle.records.proofs.Over.{Part, lent, back, part-first, part-end, part-last}
@@ -16,6 +17,7 @@ use Rattle.placing.specs.declared.clock.State.{State}
 use Rattle.placing.specs.Merging.{settled, waits}
 use Rattle.placing.specs.States.{Laying, After, backTo}
 use Rattle.placing.specs.Placed.{bytesOf, Lays, Closed}
+use Rattle.placing.proofs.{Settling.size-merge, Moves.shows-on, Writing.laidBytes}
 use Rattle.placing.proofs.Ticking.{commands-due, before-waits, before-none}
 
 -- COMMANDS

@@ -1,9 +1,11 @@
 -- Merging from left to right: what is settled of two blocks, and blocks that merge alike.
 use Prim.Native.Nat.{ℕ, _+_}
+use native.Mathlib.{Omega.arith, Nat.add-zero, Nat.add-assoc}
 use mathlib.Core.Path.{_≡_, refl, ap, ap₂, sym, _∙_}
 use mathlib.Core.List.{_++_}
 use Rattle.model.specs.declared.Settings.{Settings}
 use Rattle.model.specs.Trees.{Block, nil, skip, act, branch, while, times, _⧺_, size}
+use Rattle.model.specs.{Times.time, Equalising.waiting, Equalising.merge}
 use Rattle.theory.proofs.Times.{time-⧺}
 use Rattle.records.specs.Blocks.{blockBytes, skipRecords, skipBytes}
 use Rattle.records.proofs.Blocks.{waiting-⧺, size-⧺, bytes-⧺}

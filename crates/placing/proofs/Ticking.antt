@@ -11,6 +11,7 @@ use Rattle.model.specs.Trees.{beat, save, Block, nil, skip, act}
 use Rattle.model.specs.Times.{time, longest}
 use Rattle.model.specs.Layout.{commands, left, before}
 use Rattle.model.proofs.Trees.{⧺-nil}
+use Rattle.theory.proofs.{Times.time-⧺, Sequences.either, Clock.mod-within, Clock.mod-over}
 use Rattle.theory.proofs.Windows.{round, window-pos, round-pos, window-on}
 use Rattle.placing.specs.declared.clock.State.{State}
 use Rattle.placing.specs.States.{Layable, Shows}

@@ -1,12 +1,16 @@
 -- Single ticks of SKIP, so many or up to a tick where a step ends, window by window: those left in a window, and the commands of the next.
 use Prim.Native.Nat.{ℕ, zero, suc, _+_, _-_, _≤_, _<_}
+use native.Mathlib.{Omega.arith, Nat.add-zero}
 use mathlib.Core.Path.{_≡_, refl, ap, sym, subst, _∙_}
 use mathlib.Core.Bool.{Bool, true, false, cond, _&&_, true≢false}
 use lib.Dec.{ltb, leb}
 use borrow.Author.Tests.{ltb-true, ltb-false, le-ltb, leb-true, le-leb}
 use Rattle.model.specs.declared.Settings.{Settings}
 use Rattle.model.specs.Trees.{Block, nil, skip, _⧺_, size}
+use Rattle.model.specs.{Times.time, Times.longest, Equalising.merge}
 use Rattle.model.specs.Layout.{commands, before, idle, idles, fill}
+use Rattle.model.proofs.{Shapes.and-left, Shapes.and-right, Trees.⧺-assoc}
+use Rattle.theory.proofs.{Times.time-⧺, Windows.Free, Windows.commands-before}
 use Rattle.records.specs.Blocks.{skipRecords}
 use Rattle.records.proofs.Blocks.{one-skip}
 use Rattle.placing.specs.declared.clock.State.{State}

@@ -12,6 +12,7 @@ use Rattle.records.specs.Blocks.{blockBytes}
 use Rattle.records.proofs.Blocks.{length-block}
 use Rattle.records.proofs.Over.{Part, lent, back, part-start, part-first, part-at, part-fits, part-lent, part-end}
 use Rattle.placing.specs.declared.clock.State.{State}
+use Rattle.placing.specs.{Merging.settled, Merging.waits, States.Shows, States.After}
 use Rattle.placing.specs.Placed.{bytesOf, Room, Lays}
 use Rattle.placing.proofs.Settling.{bytes-settled, size-settled, Alike, alike-eq, alike-sym, alike-trans, alike-⧺}
 use Rattle.placing.proofs.Going.{after-nil, after-⧺, after-alike}

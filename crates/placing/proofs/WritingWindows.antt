@@ -6,6 +6,7 @@ use mathlib.Core.List.{List}
 use lib.ListN.{length}
 use Rattle.model.specs.declared.Settings.{Settings}
 use Rattle.model.specs.Trees.{Block, nil, skip, _⧺_}
+use Rattle.model.specs.{Times.time, Times.longest, Layout.idles, Layout.fill}
 use Rattle.model.proofs.Trees.{⧺-assoc}
 use Rattle.theory.proofs.Times.{time-⧺}
 use Rattle.records.specs.Blocks.{Wrote}
@@ -14,6 +15,7 @@ use Rattle.placing.specs.declared.clock.State.{State}
 use Rattle.placing.specs.States.{Layable, Laying, After, Idled, Fillable}
 use Rattle.placing.specs.Placed.{bytesOf, Room, Lays}
 use Rattle.placing.proofs.Settling.{Alike, alike-eq, alike-sym, alike-trans}
+use Rattle.placing.proofs.{Going.after-⧺, Ticking.commands-due}
 use Rattle.placing.proofs.Windowing.{toNext, idles-left, idles-next, fill-less, fillable-next, fill-next, fill-last}
 use Rattle.placing.proofs.Writing.{laidBytes, Writing, writing-start, writing-at, writing-same, writing-room, writing-next, writing-end}
 

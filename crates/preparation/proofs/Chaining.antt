@@ -1,6 +1,7 @@
 -- Calls one after another, up to the first that refuses.
 use Prim.Native.Nat.{ℕ}
 use native.Mathlib.Omega.{arith}
+use mathlib.Core.{Path._≡_, Path.refl, Bool.true, List.List}
 use Rattle.model.specs.declared.Refusal.{Refusal}
 use Rattle.model.specs.Answers.{Verdict, finished, refused, refusal, andThen, isFinished}
 

@@ -1,6 +1,7 @@
 -- What was read fits the buffer.
 use Prim.Native.Nat.{ℕ, _+_, _≤_}
 use native.Mathlib.Omega.{arith}
+use mathlib.Core.{Path._≡_, Path.subst, List.List}
 use lib.ListN.{length, replicate, length-replicate}
 use Rattle.records.proofs.Over.{lent, lent-length}
 use Rattle.printing.specs.declared.files.Input.{Input}

@@ -1,8 +1,12 @@
 -- The lines of the records one by one, and the text of what is printed.
 use Prim.Native.Nat.{ℕ, zero, suc, _+_, _/_, _≤_, _<_}
+use native.Mathlib.{Nat.add-zero, Nat.zero-add, Numerals.add-one, Omega.arith}
 use mathlib.Core.Path.{_≡_, ap, sym, subst, _∙_}
 use mathlib.Core.List.{List, [], _∷_, _++_, append-assoc, append-nil}
 use lib.ListN.{length, getD, replicate, length-append, length-replicate}
+use Rattle.model.specs.declared.{Line.Line, Shown.Shown, Refusal.Refusal, LaidOut.LaidOut}
+use Rattle.model.specs.{Records.recordAt, Records.over, Answers.row, Answers.laidOut, Limits.fileLength}
+use Rattle.model.specs.{Replies.prepareReply, Replies.prepareOut}
 use Rattle.model.specs.Listing.{lineOf, lineAt, listStarts, ascii, decimal, lineText, linesText, listed, turnedDown, printed, printedText}
 use Rattle.listing.proofs.LineLaws.{at-most-four, line-there}
 use Rattle.listing.specs.Lines.{linesIn}

@@ -7,11 +7,13 @@ use mathlib.Core.List.{List, [], _∷_}
 use lib.{Dec.leb, ListN.getD}
 use borrow.Author.Tests.{ltb-false, leb-false, not-false}
 use Rattle.model.specs.declared.Form.{Form}
+use Rattle.model.specs.{Settings.settingsOf, Trees.fileTree, Times.time, Refusals.sound, Refusals.fault, Limits.fileLength}
 use Rattle.model.specs.Runs.{Step, duration, overran}
 use Rattle.model.specs.Stopping.{Image, imageOf, start, rest, takeUp}
 use Rattle.model.specs.Answers.{Verdict, finished, bit}
 use Rattle.model.specs.Replies.{turnDown, above, fileTime, timeReply, equaliseReply, layOutReply, equalisedOf, prepareReply}
 use Rattle.model.specs.Replies.{Loan, badBuffers, badImageLength, ready, ended, stepsOf, runReply, stopReply, imageAt, isSaved, takenUp, afterSave, strayImage, resumeReply, restartReply}
+use Rattle.theory.proofs.{Within.run-within, Left.rest-0, Reached.rest-reached}
 use Rattle.theory.proofs.Accepted.{neither, passed, read, in-range, equalise-accepted, lay-out-accepted}
 use Rattle.preparation.proofs.Chaining.{second-done}
 use Rattle.machine.proofs.Positions.{rest-shorter}

@@ -4,6 +4,7 @@ use native.Mathlib.Omega.{arith}
 use mathlib.Core.Path.{_≡_, ap, sym, _∙_}
 use mathlib.Core.List.{List}
 use Rattle.model.specs.declared.Form.{Form}
+use Rattle.model.specs.{Trees.size, Runs.Buffers, Limits.fileLength}
 use Rattle.model.specs.Answers.{Verdict, finished, refused}
 use Rattle.model.specs.Replies.{equalisedTree, equaliseReply, laidTree, layOutReply, equalisedOf, prepareReply}
 use Rattle.preparation.proofs.Chaining.{second-done}

@@ -4,6 +4,8 @@ use native.Mathlib.Omega.{arith}
 use mathlib.Core.Path.{_≡_, refl, sym, subst, _∙_}
 use mathlib.Core.Bool.{Bool, true, false}
 use mathlib.Core.List.{List, []}
+use Rattle.model.specs.declared.{Form.Form, Settings.Settings, Refusal.Refusal}
+use Rattle.model.specs.{Limits.mostTicks, Settings.badSettings, Answers.Verdict, Answers.finished}
 use Rattle.model.specs.Refusals.{Fault, sound, faulty, fault}
 use Rattle.model.specs.Replies.{turnDown, unless, reading}
 use Rattle.records.specs.declared.settings.Decoded.{Decoded}
@@ -11,6 +13,7 @@ use Rattle.records.specs.Decoded.{Decodes}
 use Rattle.reading.specs.declared.Checked.the-variants.{Valid, Refused}
 use Rattle.reading.specs.declared.scan.Scanned.{Scanned}
 use Rattle.reading.specs.declared.scan.Scanned.the-variants.{Sound}
+use Rattle.reading.specs.{Scanning.scanned, Scanning.Scans, Answers.Reads}
 
 -- what is refused was not read
 pub none : {A : Type 0} (x : Refusal) (σ : Settings) → Refused x ≡ Valid σ → A

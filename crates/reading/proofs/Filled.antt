@@ -6,6 +6,7 @@ use mathlib.Core.List.{List}
 use lib.ListN.{length}
 use Rattle.model.specs.declared.Form.{Form}
 use Rattle.model.specs.Trees.{Block, nil, skip, act, branch, while, times, size, depth}
+use Rattle.model.proofs.{Stands.At, Sound.OfForm, Sound.Sound}
 use Rattle.reading.specs.Ranges.{Fills, firstSize, afterFirst}
 use Rattle.reading.proofs.Scanning.{deepest}
 

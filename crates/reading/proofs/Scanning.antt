@@ -6,6 +6,7 @@ use mathlib.Core.Bool.{true, false, not, or-true}
 use mathlib.Core.List.{List, [], _∷_}
 use borrow.Author.Tests.{lt-ltb, le-ltb, eq-eqb, ne-eqb}
 use lib.{Dec.eqb, ListN.length}
+use Rattle.model.specs.declared.{Form.Form, Refusal.Refusal}
 use Rattle.model.specs.declared.Form.the-variants.{Task, Equalised, Laid}
 use Rattle.model.specs.Records.{Rec, recordAt, firstRecords, records}
 use Rattle.model.specs.Refusals.{Open, Nesting, misplaced, inside, nest, maxDepth, maxRecords, kindFits, fieldsFit, Fault, sound, faulty, deeper, scan, fault}
@@ -17,6 +18,7 @@ use Rattle.reading.specs.Nesting.{bits, blocks, nested}
 use Rattle.reading.specs.Scanning.{Scans, ScansRecords, TurnsTo, Turns}
 use Rattle.reading.specs.declared.nesting.Blocks.{Blocks}
 use Rattle.reading.specs.declared.nesting.Nested.the-variants.{Misplaced, Inside}
+use Rattle.reading.specs.declared.scan.{Scanned.Scanned, Turn.Turn}
 use Rattle.reading.proofs.OpenBlocks.{two, depth-is, waiting-is, bits-small}
 
 -- AT A RECORD

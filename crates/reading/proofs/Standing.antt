@@ -12,6 +12,7 @@ use Rattle.model.specs.Trees.{Test, Block, nil, skip, act, branch, while, times
 use Rattle.model.proofs.Stands.{At, LoopAt, stands-once as one-stands}
 use Rattle.model.proofs.Sound.{OfForm, sound-file}
 use Rattle.reading.specs.Closing.{opensBlock, closesBlock, closingIn}
+use Rattle.reading.specs.{Walks.OpenAt, Ranges.SoundFile, Ranges.Stands}
 use Rattle.reading.proofs.BlockEnds.{found, ends-block, ran-out}
 use Rattle.reading.proofs.FirstKinds.{kind-is, act-opens, shut}
 use Rattle.reading.proofs.Filled.{fills-none}

@@ -1,5 +1,6 @@
 -- A block of a file, walked statement by statement: the statement at a place by the kind of its record, the blocks inside it, and the turns of the walk.
 use Prim.Native.Nat.{ℕ, _+_, _/_, _≤_, _<_}
+use native.Mathlib.{Omega.arith, Nat.lt-of-not-le}
 use mathlib.Core.Path.{_≡_, refl, ap, sym, subst, _∙_}
 use mathlib.Core.Bool.{true, false, true≢false}
 use mathlib.Core.List.{List}

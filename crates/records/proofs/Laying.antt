@@ -1,6 +1,7 @@
 -- What callees lay over what they are lent, as steps of Part: a record, any bytes.
 use Prim.Native.Nat.{ℕ, _+_, _≤_}
 use native.Mathlib.Omega.{arith}
+use mathlib.Core.{Path._≡_, Path.refl, List.List, List._++_}
 use lib.ListN.{length}
 use Rattle.model.specs.Records.{Rec, recordBytes, over}
 use Rattle.records.specs.Blocks.{Wrote}

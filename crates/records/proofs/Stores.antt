@@ -1,5 +1,6 @@
 -- Lists stored in a longer list one after another, or by way of a loan of its rest.
 use Prim.Native.Nat.{ℕ, suc, _+_, _-_, _≤_}
+use native.Mathlib.{Nat.zero-add, Omega.arith}
 use mathlib.Core.Path.{_≡_, ap, sym, _∙_}
 use mathlib.Core.List.{List, [], _∷_, _++_, append-assoc, append-nil}
 use lib.ListN.{length, drop, set, length-drop, drop-of-length-le}

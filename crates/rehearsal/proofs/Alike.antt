@@ -4,9 +4,11 @@ use mathlib.Core.Path.{_≡_, refl, sym, ap₂, subst, _∙_}
 use mathlib.Core.Logic.{_↔_}
 use mathlib.Core.Bool.{Bool, true, false, not, Bool·beq, false≢true, and-false, and-eq-true-iff, _&&_}
 use mathlib.Core.List.{List, [], _∷_}
+use native.Mathlib.{Numerals.add-one, Omega.arith}
 use lib.{Dec.eqb, Seq.drop-cons}
 use lib.ListN.{length, getD, drop, drop-of-length-le}
 use borrow.Author.Tests.{eqb-true, eq-eqb, ne-eqb, not-true, not-false}
+use Rattle.model.specs.{Answers.bit, Chain.End, Rehearsal.sameList, Rehearsal.sameEnd}
 use Rattle.rehearsal.specs.declared.ends.Final.{Final}
 use Rattle.rehearsal.specs.Contracts.{endIn}
 

@@ -4,6 +4,8 @@ use mathlib.Core.Path.{_≡_, ap, ap₂, sym, _∙_}
 use mathlib.Core.Bool.{Bool}
 use mathlib.Core.List.{List, [], _∷_}
 use lib.ListN.{replicate}
+use Rattle.model.specs.declared.{Refusal.Refusal, Ran.Ran, Stop.Stop}
+use Rattle.model.specs.{Runs.Buffers, Rehearsal.wholeOf, Rehearsal.stoppedOf}
 use Rattle.model.specs.Answers.{Verdict, finished, bit, refusal, ran, andThen}
 use Rattle.model.specs.Replies.{Loan, runReply, runBuffers}
 use Rattle.model.specs.Chain.{End, endOf, runEnd}

@@ -7,10 +7,12 @@ use mathlib.Core.List.{List, [], _∷_}
 use lib.Dec.{eqb}
 use borrow.Author.Tests.{eqb-true}
 use lib.ListN.{length, getD, take, replicate}
+use Rattle.model.specs.declared.{Refusal.Refusal, Stop.Stop, Rehearsed.Rehearsed}
 use Rattle.model.specs.Answers.{Verdict, finished, refusal, rehearsed, andThen, valueAt}
 use Rattle.model.specs.Replies.{prepareReply, prepareOut, turnDown, layOutOut, runReply}
 use Rattle.model.specs.Chain.{Set, Chain, equalising, equalisedFile, layingOut, laidFile, plainLoan, plainEndOne}
 use Rattle.model.specs.Rehearsal.{room, zeroOutputs, chain, second, badSets, rehearsal, Confirms, Rehearses}
+use Rattle.theory.proofs.{Accepted.lay-out-accepted, Prepared.finish, Preparing.prepares-out, Preparing.prepares-both}
 use Rattle.preparation.proofs.Chaining.{refused-second, first-done, both-done, second-done}
 use Rattle.rehearsal.specs.Contracts.{laidLoan, secondOf}
 use Rattle.rehearsal.proofs.Theorem.{confirms}

@@ -6,6 +6,8 @@ use mathlib.Core.Bool.{Bool, true, false, cond}
 use mathlib.Core.List.{List, [], _∷_}
 use lib.{Dec.eqb, ListN.length, ListN.replicate}
 use Rattle.model.specs.declared.Form.the-variants.{Laid}
+use Rattle.model.specs.declared.{Refusal.Refusal, Ran.Ran, Stopped.Stopped}
+use Rattle.model.specs.{Records.wordAt, Runs.Buffers, Stopping.imageOf}
 use Rattle.model.specs.Answers.{Verdict, finished, bit, refusal, ran, stopped, andThen, valueAt}
 use Rattle.model.specs.Replies.{Loan, runReply, runBuffers, stopReply, stopBuffers, stopImage, resumeReply, resumeBuffers, restartReply, restartBuffers, buffersOf}
 use Rattle.model.specs.Chain.{Outputs, lend, End, endOf}

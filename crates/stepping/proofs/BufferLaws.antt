@@ -2,12 +2,14 @@
 use mathlib.Core.Path.{_≡_, refl, sym, ap, ap₂, subst, _∙_}
 use mathlib.Core.List.{List, [], _∷_, _++_, append-assoc, append-nil}
 use Prim.Native.Nat.{ℕ, zero, suc, _+_, _*_, _-_, _≤_, _<_}
+use native.Mathlib.{Nat.sub-zero, Numerals.add-one, Omega.arith}
 use lib.ListN.{length, getD, take, drop, set, length-append, drop-of-length-le}
 use lib.Seq.{drop-cons, take-at, drop-at, drop-drop, length-take-le}
 use Rattle.model.specs.Records.{wordAt, wordBytes, over}
 use Rattle.model.specs.Stopping.{words, wordsFrom}
 use Rattle.model.proofs.Images.{length-words}
 use Rattle.records.proofs.Over.{Part, part-start, part-put, part-lent, part-end, part-length, lent, back}
+use Rattle.stepping.specs.{Machines.held, Machines.imageIn, Buffers.withVariables, Buffers.withOutputs}
 
 -- a list laid over a buffer of its own length is the whole buffer
 whole : {w old new : List ℕ} {at : ℕ} → length w ≡ length old → Part w [] old new at → new ≡ w

@@ -7,7 +7,9 @@ use native.Mathlib.Omega.{arith}
 use lib.{Dec.eqb, Seq.getD-drop, Seq.take-all}
 use lib.ListN.{length, getD, drop, length-drop, List·getD-eq-default}
 use borrow.Author.Tests.{eq-eqb, ne-eqb}
+use Rattle.model.specs.{Replies.afterSave, Stopping.words, Stopping.imageBytes}
 use Rattle.records.proofs.Over.{lent}
+use Rattle.stepping.specs.{Machines.held, Buffers.StoredImage}
 
 -- AN IMAGE
 

@@ -5,6 +5,7 @@ use mathlib.Core.Bool.{Bool, true, false, cond}
 use mathlib.Core.List.{List}
 use native.Mathlib.Omega.{arith}
 use borrow.Author.Tests.{le-leb, lt-leb}
+use Rattle.model.specs.{Records.Rec, Trees.Test}
 use Rattle.model.specs.Runs.{Effect, nothing, overruns, isOverrun, holds, lastTest, single}
 use Rattle.stepping.specs.declared.progress.Progress.{Progress}
 use Rattle.stepping.specs.Machines.{Held, held, affect, Machine, machine, runs, recordEffect}

@@ -1,5 +1,6 @@
 -- The decimal digits that the library spells are those of the model.
 use Prim.Native.Nat.{ℕ, zero, suc, _+_, _-_, _/_, _%_, _^_, _≤_, _<_}
+use native.Mathlib.{Nat.pow-le-pow-right, Nat.not-suc-le-zero, Omega.arith}
 use mathlib.Core.Path.{_≡_, refl, ap, subst}
 use mathlib.Core.Bool.{Bool, true, false}
 use mathlib.Core.List.{[], _∷_}

@@ -1,5 +1,6 @@
 -- Pieces of text one behind the other, and how long they can be.
 use Prim.Native.Nat.{ℕ, _+_, _≤_, _<_}
+use native.Mathlib.{Numerals.add-one, Omega.arith}
 use mathlib.Core.Path.{_≡_, refl, sym, ap, subst, _∙_}
 use mathlib.Core.Logic.{_≢_}
 use mathlib.Core.List.{List, [], _∷_, _++_, append-assoc, append-nil}
@@ -7,6 +8,7 @@ use lib.ListN.{length, take, drop, getD, length-append}
 use lib.Seq.{take-suc, take-length}
 use borrow.Author.Tests.{ne-eqb}
 use Rattle.model.specs.Listing.{ascii, name, decimal, spaced}
+use Rattle.records.proofs.{Over.lent, Over.back, Stores.stored-on, Stores.stored-lent}
 use Rattle.text.specs.Pieces.{Put}
 
 pub put-same : {a b old new : List ℕ} {at r : ℕ} → a ≡ b → Put a at old new r → Put b at old new r

@@ -7,6 +7,9 @@ use mathlib.Core.List.{List, [], _∷_}
 use lib.Dec.{eqb, leb, ltb}
 use lib.ListN.{length}
 use borrow.Author.Tests.{not-false, leb-false, eqb-true, eqb-false, ltb-false, le-ltb}
+use Rattle.model.specs.{Limits.fileRecords, Limits.imageLength, Times.time, Times.longest, Runs.duration, Chain.Outputs, Chain.lend}
+use Rattle.model.specs.{Placement.Positive, Placement.Fits}
+use Rattle.model.specs.declared.{Settings.Settings, Form.Form}
 use Rattle.model.specs.declared.Form.the-variants.{Task, Equalised}
 use Rattle.model.specs.Settings.{settingsOf, outOfRange, badSettings}
 use Rattle.model.specs.Trees.{Block, size, fileTree}

@@ -5,6 +5,7 @@ use mathlib.Core.Bool.{Bool, true, false}
 use mathlib.Core.List.{List, []}
 use Rattle.model.specs.declared.Settings.{Settings}
 use Rattle.model.specs.Trees.{Test, check, Block, nil, skip, act, branch, while, times, _⧺_, size}
+use Rattle.model.specs.{Times.ticks, Times.time, Layout.copies, Layout.unroll}
 use Rattle.model.specs.Runs.{nothing, holds, lastTest, effect, Run, _⊳_, single, choose, spin, rounds, run}
 use Rattle.model.specs.Equalising.{pad, F, waiting, merge, equalise}
 use Rattle.theory.proofs.Sequences.{⊳-assoc, ⊳-nil, run-⧺}

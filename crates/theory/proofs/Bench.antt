@@ -1,7 +1,9 @@
 -- The lettered bench tasks A to K give what document 01 says, and demand 3 applies to task K: its conditions hold there. The list and the
 -- computation stand in `model`, so that edits of the definitions there are tried against them.
 use native.Mathlib.Omega.{arith}
+use mathlib.Core.{Path._≡_, Path.refl, Bool.true}
 use Rattle.model.specs.Records.{firstRecords, records, bytes}
+use Rattle.model.specs.{Settings.settingsOf, Settings.badSettings, Equalising.equalise, Answers.isFinished, Answers.valueAt}
 use Rattle.model.specs.Trees.{linearise, stackOf, treeOf, fileTree}
 use Rattle.model.specs.Runs.{holds, result, effect}
 use Rattle.model.specs.Layout.{before, lastValue, layout, total}

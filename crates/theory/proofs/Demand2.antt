@@ -5,6 +5,7 @@ use mathlib.Core.List.{List, [], _∷_}
 use lib.ListN.{length}
 use Rattle.model.specs.declared.Settings.{Settings}
 use Rattle.model.specs.declared.Form.the-variants.{Task, Equalised, Laid}
+use Rattle.model.specs.{Records.bytes, Settings.settingsOf, Layout.layout, Layout.total, Answers.finished, Placement.Fits}
 use Rattle.model.specs.Trees.{Block, linearise, fileTree}
 use Rattle.model.specs.Runs.{Step, duration, leave, cleared, run}
 use Rattle.model.specs.Equalising.{F, merge, equalise}
@@ -12,6 +13,8 @@ use Rattle.model.specs.Stopping.{upto, none, lastImage}
 use Rattle.model.specs.Replies.{savedAt, fileTime, equalisedTree, equaliseReply, laidTree, laidTotal, layOutReply}
 use Rattle.model.specs.Replies.{Loan, stepsOf, imageAt, stopReply, stopBuffers, imageOver, stopImage}
 use Rattle.model.specs.Chain.{Outputs, lend, takenUpSteps, imageTick}
+use Rattle.model.proofs.{Sound.OfForm, Sound.sound-file, Passes.length-file}
+use Rattle.theory.proofs.{Times.time-equalise, Lasts.equalised-lasts, TakenUp.laid-again}
 use Rattle.theory.proofs.Laid.{time-laid, placed-laid, total-longer, last-start, laid-lasts}
 use Rattle.theory.proofs.LaidRuns.{Total, LaidFrom, laid-beats, whole-starts, whole-values, whole-saves, cut-values, cut-saves}
 use Rattle.theory.proofs.LaidRuns.{save-follows, no-crossing, laid-total, loop-free, laid-whole}

@@ -2,14 +2,19 @@
 use Prim.Native.Nat.{ℕ, _+_, _*_, _-_, _≤_, _<_}
 use native.Mathlib.Omega.{arith}
 use mathlib.Core.Path.{_≡_, ap, ap₂, sym, _∙_, subst}
+use mathlib.Core.{Bool.true, Bool.false, List.List}
 use lib.ListN.{replicate}
 use Rattle.model.specs.declared.Form.{Form}
 use Rattle.model.specs.declared.Form.the-variants.{Task, Laid}
+use Rattle.model.specs.{Settings.settingsOf, Trees.Block, Trees.fileTree, Equalising.equalise, Layout.layout, Stopping.upto, Stopping.none}
+use Rattle.model.specs.{Timeline.endedBy, Timeline.lastSaveEnd, Answers.isFinished, Answers.valueAt}
 use Rattle.model.specs.Runs.{Step, duration, level, mark, run}
 use Rattle.model.specs.Replies.{savedAt, Loan, badBuffers, stepsOf, runReply, stopReply, ended}
 use Rattle.model.specs.Chain.{Set, Outputs, Chain, LentSet, LentOutputs, Lent, equalising, layingOut, laidFile, lend, plainLoan, preparedLoan, wholeLoan, stoppedLoan}
 use Rattle.model.specs.Chain.{takingUp, imageTick, runTwice, End, endOf, runEnd, plainEndTwo, wholeEnd, stoppedEnd}
 use Rattle.theory.proofs.Views.{see, same-variables, same-outputs, same-overran}
+use Rattle.theory.proofs.{Traces.traced, Twice.saved-tick, Stops.upto-ended, Accepted.Runnable, Files.fileOf}
+use Rattle.theory.proofs.{Prepared.Prepared, Prepared.prepared}
 use Rattle.theory.proofs.Running.{LentLengths, lengths-good, steps, run-answer, run-leaves, stop-answer}
 use Rattle.theory.proofs.StoppedOnce.{endFrom, EndsAs, ends-alike, soon, image-early}
 

@@ -1,6 +1,9 @@
 -- Equalising a task writes records of an equalised file, and nests at most twice as deep.
 use Prim.Native.Nat.{ℕ, zero, suc, _+_, _*_, _≤_, max}
+use native.Mathlib.{Nat.mul-le-mul-right, Omega.arith}
+use mathlib.Core.{Path._≡_, Path.refl, Bool.true, Bool._&&_}
 use borrow.Author.Tests.{le-leb}
+use Rattle.model.specs.declared.{Settings.Settings, Form.Form}
 use Rattle.model.specs.declared.Form.the-variants.{Task, Equalised, Laid}
 use Rattle.model.specs.Records.{SKIP, IF, WHILE, TIMES}
 use Rattle.model.specs.Trees.{Test, Act, set, read, write, check, beat, save, Block, nil, skip, act, branch, while, times, _⧺_}

@@ -3,13 +3,18 @@ use Prim.Native.Nat.{ℕ, zero, suc, _+_, _-_, _%_, _≤_}
 use native.Mathlib.Omega.{arith}
 use native.Mathlib.Nat.{div-eq-of-lt, div-le-of-le-mul, mul-le-mul-right}
 use mathlib.Core.Path.{_≡_, refl, ap, _∙_}
+use mathlib.Core.{Bool.false, List.List}
 use borrow.Author.Tests.{le-leb}
 use Rattle.model.specs.declared.Settings.{Settings}
 use Rattle.model.specs.declared.Form.the-variants.{Equalised, Laid}
 use Rattle.model.specs.Trees.{beat, Block, nil, act, depth, actRec}
+use Rattle.model.specs.{Times.time, Refusals.fieldsFit, Placement.Fits, Placement.Placed}
 use Rattle.model.specs.Runs.{overran, duration, effect, run}
 use Rattle.model.specs.Layout.{unroll, body, ceiling, lastValue, closed, layout, total}
+use Rattle.model.proofs.{Shapes.Fit, Sound.OfForm}
 use Rattle.theory.proofs.Times.{time-⧺, time-merge, time-unroll}
+use Rattle.theory.proofs.{Sequences.run-⧺, Traces.traced, Traces.silent-behind, Agreement.run-merge, Agreement.run-unroll}
+use Rattle.theory.proofs.{Placing.placed-even, Placing.placed-merge, Lasts.even-lasts}
 use Rattle.theory.proofs.Views.{Alike, alike-trans, alike-eq}
 use Rattle.theory.proofs.Forms.{Formed, formed, formed-⧺, merged-of-form, depth-⧺, depth-merge}
 use Rattle.theory.proofs.Unrolling.{unrolled-loop-free, unrolled-command-free, unrolled-formed, depth-unroll}

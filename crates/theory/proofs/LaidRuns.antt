@@ -1,5 +1,6 @@
 -- Steps of a run of a laid file, from its start or from a later tick on: how long they last, and where their BEATs and SAVEs start.
 use Prim.Native.Nat.{ℕ, _+_, _*_, _-_, _%_, _≤_, _<_}
+use native.Mathlib.{Omega.arith, Nat.add-zero, Nat.add-assoc}
 use mathlib.Core.Path.{_≡_, refl, ap, ap₂, sym, _∙_, subst}
 use mathlib.Core.Bool.{Bool, true, false, cond, false≢true}
 use mathlib.Core.List.{List, [], _∷_, _++_, map, map-append, append-nil}
@@ -7,12 +8,16 @@ use lib.Dec.{ltb}
 use borrow.Author.Tests.{lt-ltb, le-ltb}
 use Rattle.model.specs.declared.Settings.{Settings}
 use Rattle.model.specs.declared.Form.the-variants.{Equalised}
+use Rattle.model.specs.{Trees.Block, Times.time}
 use Rattle.model.specs.Runs.{Effect, nothing, assigns, outputs, beats, saves, overruns, isBeat, isSave, isOverrun, Step, step, starts}
 use Rattle.model.specs.Runs.{duration, onVariables, overran, run}
 use Rattle.model.specs.Layout.{unroll, body, ceiling, lastValue, layout, total}
 use Rattle.model.specs.Placement.{Fits, LoopFree, StepsPlaced}
 use Rattle.model.specs.Timeline.{picks, multiples, beatList, EndsInBeat}
 use Rattle.model.proofs.Sound.{OfForm}
+use Rattle.theory.proofs.{Sequences.duration-++, Sequences.overran-++, Forms.formed}
+use Rattle.theory.proofs.{Unrolling.unrolled-loop-free, Unrolling.unrolled-command-free}
+use Rattle.theory.proofs.{Placing.placed-loop-free, Placing.placed-run, Every.Every, Resuming.overrun-last}
 use Rattle.theory.proofs.Starts.{Settled, settled-start, settled-after, step-placed, beat-starts, beat-list, save-list, save-list-cut, uncrossed, after-beat}
 use Rattle.theory.proofs.Laid.{placed-laid, last-start, laid-lasts}
 use Rattle.theory.proofs.Values.{StepsValued, valued-list, one-each, OneStep, LastBeat, last-beat}

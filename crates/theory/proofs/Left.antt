@@ -1,11 +1,13 @@
 -- After each step of a block with no loop, what is left to do: nothing after an overrun, and after a SAVE what taking up does.
 use Prim.Native.Nat.{ℕ, suc, _+_, _-_, _≤_}
+use native.Mathlib.{Omega.arith, Nat.add-zero}
 use mathlib.Core.Path.{_≡_, refl, sym}
 use mathlib.Core.Bool.{true, false, false≢true}
 use mathlib.Core.List.{List, []}
 use borrow.Author.Tests.{lt-leb, le-leb}
 use Rattle.model.specs.declared.Settings.{Settings}
 use Rattle.model.specs.Trees.{Test, Act, set, read, write, check, beat, save, Block, nil, skip, act, branch, while, times, _⧺_, size}
+use Rattle.model.specs.{Times.ticks, Stopping.rest, Placement.LoopFree}
 use Rattle.model.specs.Runs.{Effect, nothing, assigns, outputs, beats, saves, overruns, isSave, isOverrun, Step, step}
 use Rattle.model.specs.Runs.{onVariables, effect, Run, _⊳_, run}
 use Rattle.theory.proofs.Sequences.{⊳-assoc, ⊳-nil, run-⧺}

@@ -9,8 +9,10 @@ use lib.Dec.{ltb}
 use borrow.Author.Tests.{ltb-true, ltb-false, eqb-false}
 use Rattle.model.specs.declared.Settings.{Settings}
 use Rattle.model.specs.Trees.{Act, set, read, write, check, beat, save, Block, nil, skip, act, branch, while, times, size}
+use Rattle.model.specs.{Times.ticks, Times.time, Equalising.waiting, Equalising.merge}
 use Rattle.model.specs.Runs.{Effect, nothing, overruns, isBeat, isSave, Step, duration, variablesAfter, overran, holds, effect, Run, _⊳_, single, choose, run}
 use Rattle.model.specs.Placement.{command, LoopFree, InPlace, StepsPlaced, Placed}
+use Rattle.theory.proofs.{Times.time-merge, Sequences.either, Clock.mod-within, Clock.mod-over}
 use Rattle.theory.proofs.Lasts.{Lasts, lasts-single, lasts-if, Even, even-lasts}
 
 module _ (σ : Settings) where

@@ -2,12 +2,16 @@
 use Prim.Native.Nat.{ℕ}
 use native.Mathlib.Omega.{arith}
 use mathlib.Core.Path.{_≡_, refl, ap, sym, _∙_, subst}
+use mathlib.Core.{Bool.true, List.List}
 use lib.ListN.{length, take}
 use Rattle.model.specs.declared.Form.the-variants.{Task, Laid}
+use Rattle.model.specs.{Settings.settingsOf, Trees.Block, Trees.fileTree, Runs.run, Equalising.equalise, Layout.layout}
+use Rattle.model.specs.{Placement.Fits, Placement.Placed}
 use Rattle.model.specs.Answers.{Verdict, finished, refused, isFinished, valueAt}
 use Rattle.model.specs.Replies.{equalisedTree, laidTree, layOutReply, layOutOut}
 use Rattle.model.specs.Chain.{Chain, equalising, layingOut, laidFile}
 use Rattle.model.proofs.Passes.{tree-back}
+use Rattle.theory.proofs.{Views.Alike, Views.alike-trans, Traces.traced, Agreement.run-equalise, Laid.placed-laid, Laid.run-laid}
 use Rattle.theory.proofs.Accepted.{EqualiseAccepted, equalise-accepted, lay-out-accepted, Runnable}
 use Rattle.theory.proofs.Files.{fileOf, equalised-form, task-runnable, equalised-file, laid-runnable, laid-file}
 

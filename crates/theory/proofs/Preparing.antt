@@ -7,10 +7,12 @@ use mathlib.Core.List.{List, [], _∷_}
 use lib.ListN.{length}
 use borrow.Author.Tests.{le-ltb}
 use Rattle.model.specs.declared.Form.the-variants.{Task}
+use Rattle.model.specs.{Settings.settingsOf, Settings.badSettings, Trees.size, Limits.fileRecords, Limits.fileLength}
 use Rattle.model.specs.Refusals.{Fault, sound, faulty, fault}
 use Rattle.model.specs.Answers.{Verdict, finished, refused, andThen}
 use Rattle.model.specs.Replies.{turnDown, unless, reading, above, noRoom, fileTime, equalisedTree, equaliseReply, layOutReply, layOutOut, equalisedOf, prepareReply, prepareOut}
 use Rattle.model.specs.Chain.{Chain, equalising, equalisedFile, layingOut}
+use Rattle.theory.proofs.{Accepted.reads, Accepted.equalise-accepted, Files.equalised-file}
 
 -- a result that has room has room in the longest file
 full-room : (s task : List ℕ) (room : ℕ) (xs : List ℕ) → equaliseReply s task room ≡ finished xs → equaliseReply s task fileLength ≡ finished xs

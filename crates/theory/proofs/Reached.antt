@@ -8,10 +8,14 @@ use lib.{Dec.eqb, Dec.ltb, ListN.length, ListN.List·getD-eq-default}
 use borrow.Author.Tests.{ltb-true, ltb-false, eqb-true}
 use Rattle.model.specs.declared.Form.{Form}
 use Rattle.model.specs.declared.Form.the-variants.{Task, Equalised, Laid}
+use Rattle.model.specs.{Records.kindAt, Records.SAVE, Settings.settingsOf, Layout.unroll, Layout.layout, Answers.finished}
+use Rattle.model.specs.{Placement.LoopFree}
 use Rattle.model.specs.Trees.{Block, nil, skip, act, branch, while, times, fileTree}
 use Rattle.model.specs.Refusals.{kindFits, sound, fault}
 use Rattle.model.specs.Replies.{laidTree, layOutReply, afterSave}
 use Rattle.model.proofs.Sound.{OfForm, sound-file, sound-kind}
+use Rattle.theory.proofs.{Forms.formed, Unrolling.unrolled-loop-free, Placing.placed-loop-free, Laid.placed-laid}
+use Rattle.theory.proofs.{Accepted.lay-out-accepted}
 
 -- what laying out unrolls
 pub lay-reached : (file : List ℕ) → fault Equalised file ≡ sound → LoopFree (unroll (fileTree file))

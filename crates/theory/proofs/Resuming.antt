@@ -5,9 +5,12 @@ use mathlib.Core.Path.{_≡_, refl, ap, ap₂, sym, _∙_, subst}
 use mathlib.Core.Bool.{Bool, true, false, _||_, false≢true}
 use mathlib.Core.List.{List, [], _∷_, _++_, append-assoc, cons≢nil}
 use Rattle.model.specs.declared.Settings.{Settings}
+use Rattle.model.specs.{Trees.Block, Placement.LoopFree}
 use Rattle.model.specs.Runs.{isOverrun, Step, duration, onVariables, variablesAfter, outputsAfter, overran, Run, run}
 use Rattle.model.specs.Stopping.{upto, Image, Saved, none, saved, lastImage, start, rest, takeUp}
 use Rattle.theory.proofs.Sequences.{duration-++, variables-++, outputs-++, overran-++}
+use Rattle.theory.proofs.{Stops.beyond, Stops.upto-beyond, Outputs.outputs-again, Unindexed.unindexed, Unindexed.same-duration}
+use Rattle.theory.proofs.{Every.Every, Every.every-at, LastImage.made, LastImage.made-within}
 use Rattle.theory.proofs.Views.{see, same-variables, same-outputs, same-overran}
 use Rattle.theory.proofs.Left.{Goes, save-calm, rest-0, goes-run}
 

@@ -6,6 +6,7 @@ use mathlib.Core.List.{List, [], _∷_}
 use lib.{Dec.eqb, ListN.length}
 use borrow.Author.Tests.{not-false, eqb-true, eq-eqb, lt-leb, le-ltb}
 use Rattle.model.specs.declared.Form.{Form}
+use Rattle.model.specs.{Settings.settingsOf, Trees.Block, Trees.fileTree, Answers.finished, Answers.bit, Chain.Outputs, Chain.lend}
 use Rattle.model.specs.Runs.{Step, duration, Buffers, leave, cleared, run}
 use Rattle.model.specs.Stopping.{upto, Image, imageOf, start, takeUp}
 use Rattle.model.specs.Replies.{savedAt, badBuffers, badImageLength, ended, stepsOf, runReply, runBuffers, imageAt, isSaved, stopReply, stopBuffers, imageOver, stopImage}

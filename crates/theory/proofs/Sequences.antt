@@ -1,5 +1,6 @@
 -- One run and then another: what the steps of both leave, and the run of two blocks in a row.
 use Prim.Native.Nat.{ℕ, _+_}
+use native.Mathlib.{Omega.arith, Nat.add-zero}
 use mathlib.Core.Path.{_≡_, refl, ap, sym, _∙_, fun-ext}
 use mathlib.Core.Bool.{Bool, true, false, cond, _||_}
 use mathlib.Core.List.{List, [], _∷_, _++_, append-assoc, append-nil}

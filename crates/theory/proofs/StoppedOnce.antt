@@ -6,12 +6,17 @@ use mathlib.Core.Bool.{Bool, true, false, cond}
 use mathlib.Core.List.{List, _∷_, _++_}
 use lib.ListN.{length, replicate}
 use Rattle.model.specs.declared.Form.the-variants.{Laid}
+use Rattle.model.specs.{Settings.settingsOf, Trees.Block}
 use Rattle.model.specs.Runs.{Step, duration, outputsAfter, level, mark, overran, leave, cleared, run}
 use Rattle.model.specs.Stopping.{upto, Image, Saved, none, saved, imageBytes, imageOf, start, takeUp}
 use Rattle.model.specs.Answers.{bit, valueAt, isFinished}
 use Rattle.model.specs.Replies.{savedAt, Loan, badBuffers, ended, isSaved, imageOver, stopBuffers, stopImage, takenUp, resumeReply, resumeBuffers, restartReply, restartBuffers}
 use Rattle.model.specs.Placement.{Fits, Placed, StepsPlaced}
 use Rattle.model.specs.Chain.{Outputs, lend, hasImage, takingUp, takenUpBuffers, takenUpSteps, imageTick, End, endOf, takenUpEnd}
+use Rattle.model.proofs.{Images.image-length, Images.image-back, Injective.bit-back}
+use Rattle.theory.proofs.{Within.run-within, Placing.placed-loop-free, Placing.placed-run, Twice.savedTick, Twice.few-twice}
+use Rattle.theory.proofs.{Outputs.length-outputs, Resuming.orStart, Resuming.taken-up, Checkpoints.checkpoint, Accepted.Runnable}
+use Rattle.theory.proofs.{Files.fileOf}
 use Rattle.theory.proofs.Stops.{upto-beyond, beyond-late, cut-off}
 use Rattle.theory.proofs.Running.{LentLengths, lengths-good, onward, stop-answer, stop-leaves, stop-image}
 use Rattle.theory.proofs.Running.{taken, restart-answer, restart-leaves, resume-answer, resume-leaves}

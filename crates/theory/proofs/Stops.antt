@@ -6,6 +6,7 @@ use mathlib.Core.Bool.{Bool, true, false, cond}
 use mathlib.Core.List.{List, [], _∷_, _++_, nil≢cons, head-eq-of-cons-eq}
 use lib.Dec.{leb}
 use borrow.Author.Tests.{leb-true, leb-false, le-leb, lt-leb}
+use Rattle.model.specs.{Runs.Step, Runs.duration, Stopping.upto, Timeline.endedBy}
 use Rattle.theory.proofs.Sequences.{duration-++}
 
 -- the steps that the stop cut off

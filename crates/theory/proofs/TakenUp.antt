@@ -1,5 +1,6 @@
 -- The steps of a laid file that a run taken up does are those of the whole run from the image's tick on, in place and of the same values.
 use Prim.Native.Nat.{ℕ, _+_}
+use native.Mathlib.{Omega.arith, Nat.add-zero, Nat.add-assoc}
 use mathlib.Core.Path.{_≡_, refl, sym, _∙_, subst}
 use mathlib.Core.Bool.{true, false, false≢true}
 use mathlib.Core.List.{List, [], _∷_, _++_}
@@ -8,6 +9,9 @@ use Rattle.model.specs.Trees.{Block}
 use Rattle.model.specs.Runs.{Effect, nothing, assigns, outputs, beats, saves, overruns, isBeat, isSave, Step, duration, overran, run}
 use Rattle.model.specs.Stopping.{upto, Saved, none, saved, lastImage, takeUp}
 use Rattle.model.specs.Placement.{Fits, LoopFree, StepsPlaced}
+use Rattle.theory.proofs.{Sequences.duration-++, Sequences.overran-++, Views.see, Views.same-overran}
+use Rattle.theory.proofs.{Unindexed.unindexed, Unindexed.same-duration, Stops.beyond, LastImage.made, LastImage.made-within}
+use Rattle.theory.proofs.{Values.StepsValued, LaidRuns.dueValue, LaidRuns.LaidFrom}
 use Rattle.theory.proofs.Starts.{Settled, settled-start, settled-after, step-placed}
 use Rattle.theory.proofs.Resuming.{orStart, since, parted}
 

@@ -4,6 +4,7 @@ use native.Mathlib.Omega.{arith}
 use mathlib.Core.Path.{_≡_, refl, _∙_}
 use Rattle.model.specs.declared.Settings.{Settings}
 use Rattle.model.specs.Trees.{Block, nil, skip, act, branch, while, times, _⧺_}
+use Rattle.model.specs.{Times.time, Layout.copies, Layout.unroll}
 use Rattle.model.specs.Equalising.{F, waiting, merge, equalise}
 
 module _ (σ : Settings) where

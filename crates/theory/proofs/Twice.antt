@@ -1,5 +1,6 @@
 -- Fewer than K × H ticks are run twice: the first step not done ends at most K × H after the last finished SAVE.
 use Prim.Native.Nat.{ℕ, _+_, _*_, _%_, _≤_, _<_}
+use native.Mathlib.{Omega.arith, Nat.zero-mod, Nat.add-zero}
 use mathlib.Core.Path.{_≡_, refl, ap, _∙_}
 use mathlib.Core.Bool.{Bool, true, false, cond}
 use mathlib.Core.List.{List, [], _∷_, _++_}

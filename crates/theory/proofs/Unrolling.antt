@@ -1,7 +1,9 @@
 -- An equalised file unrolled has no loop and no command, and its records are those of a laid file.
 use Prim.Native.Nat.{ℕ, zero, suc, _≤_}
 use native.Mathlib.Omega.{arith}
+use mathlib.Core.{Path._≡_, Path.refl, Bool.false≢true}
 use Rattle.model.specs.declared.Form.the-variants.{Equalised, Laid}
+use Rattle.model.specs.{Records.IF, Records.TIMES, Runs.nothing, Layout.copies, Layout.unroll}
 use Rattle.model.specs.Trees.{Act, set, read, write, check, beat, save, Block, nil, skip, act, branch, while, times, _⧺_}
 use Rattle.model.specs.Trees.{depth, testRec, actRec}
 use Rattle.model.specs.Refusals.{between, testFits, fieldsFit}

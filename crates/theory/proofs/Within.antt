@@ -1,6 +1,7 @@
 -- No run of a block lasts longer than the block's time, overrun or not.
 use Prim.Native.Nat.{ℕ, zero, suc, _+_, _*_, max, _≤_}
 use native.Mathlib.Omega.{arith}
+use mathlib.Core.{Bool.cond, List.List, List.[]}
 use Rattle.model.specs.declared.Settings.{Settings}
 use Rattle.model.specs.Trees.{Test, Block, nil, skip, act, branch, while, times, size}
 use Rattle.model.specs.Times.{ticks, time}

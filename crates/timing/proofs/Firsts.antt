@@ -1,9 +1,11 @@
 -- The first statement of a block: its time, by the kind of its record, and those of the blocks inside it.
 use Prim.Native.Nat.{ℕ, _+_, _≤_}
+use native.Mathlib.{Nat.mul-le-mul-right, Omega.arith}
 use mathlib.Core.Path.{_≡_, refl, ap, sym, _∙_}
 use mathlib.Core.Bool.{false, _&&_, false≢true}
 use mathlib.Core.Logic.{_⊎_, inl, inr}
 use mathlib.Core.List.{List}
+use Rattle.model.specs.declared.{Form.Form, Settings.Settings}
 use Rattle.model.specs.Records.{kindAt, recordAt, WHILE, TIMES}
 use Rattle.model.specs.Trees.{Test, Act, set, read, write, check, beat, save, Block, nil, skip, act, branch, while, times, actRec, testRec}
 use Rattle.model.specs.Times.{ticks, time}
@@ -12,7 +14,10 @@ use Rattle.model.proofs.Shapes.{and-right, within, Fit}
 use Rattle.model.proofs.Sound.{OfForm}
 use Rattle.records.specs.declared.Record.{Record}
 use Rattle.records.specs.Records.{recordOf}
+use Rattle.reading.specs.{Closing.opensBlock, Walks.StatementAt}
 use Rattle.reading.specs.Ranges.{Stands, firstSize, firstPart, secondPart, afterFirst}
+use Rattle.reading.proofs.{FirstKinds.kind-is, Walking.some, Walking.kind-there}
+use Rattle.timing.specs.{Times.stepTicks, Blocks.firstTime}
 
 -- a block's time is that of its first statement and of what follows it
 pub time-first : (σ : Settings) (b : Block) → time σ b ≡ firstTime σ b + time σ (afterFirst b)

@@ -3,10 +3,14 @@ use Prim.Native.Nat.{ℕ, _/_}
 use mathlib.Core.Path.{_≡_, refl, ap, _∙_}
 use mathlib.Core.List.{List}
 use lib.ListN.{length}
+use Rattle.model.specs.declared.{Form.Form, Settings.Settings, Refusal.Refusal}
+use Rattle.model.specs.{Trees.fileTree, Times.time, Answers.refusal, Replies.timeReply}
 use Rattle.model.proofs.Sound.{sound-file}
 use Rattle.reading.specs.declared.Checked.the-variants.{Valid, Refused}
 use Rattle.reading.specs.Answers.{Reads}
+use Rattle.reading.proofs.{Filled.fills-file, Entry.read-sound}
 use Rattle.timing.specs.declared.ticks.Time.{Time}
+use Rattle.timing.specs.{Times.answered, Times.upTo, Blocks.BlockTimes}
 
 module _ (s : List ℕ) (f : Form) (file : List ℕ) where
   pub refused-reply : (x : Refusal) → Reads s f file (Refused x) → refusal x ≡ timeReply s f file

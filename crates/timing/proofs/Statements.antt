@@ -1,11 +1,15 @@
 -- What a statement's function answers, by the kind of its record and the answers for the blocks inside it.
 use Prim.Native.Nat.{ℕ, _+_, _-_, _≤_, _<_, max}
+use native.Mathlib.{Omega.arith, Nat.lt-of-not-le}
 use mathlib.Core.Path.{_≡_, refl, ap, sym, subst, _∙_}
+use mathlib.Core.{Bool.true, Bool.false, Logic.inl, Logic.inr, List.List}
+use Rattle.model.specs.declared.{Form.Form, Settings.Settings}
 use Rattle.model.specs.Records.{Rec, kindAt, recordAt, IF, WHILE, TIMES}
 use Rattle.model.specs.Trees.{Test, Block, nil, skip, act, branch, while, times, size, depth, testRec}
 use Rattle.model.specs.Times.{time}
 use Rattle.records.specs.declared.Record.{Record}
 use Rattle.records.specs.Records.{recordOf}
+use Rattle.reading.specs.{Closing.opensBlock, Walks.StatementAt}
 use Rattle.reading.specs.Ranges.{Stands, InFile, firstSize, firstPart, secondPart}
 use Rattle.reading.proofs.FirstKinds.{kind-is, act-opens, shut}
 use Rattle.reading.proofs.Walking.{block, some, open-at, first-in, if-at, second-in}

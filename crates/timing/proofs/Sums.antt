@@ -2,6 +2,10 @@
 use Prim.Native.Nat.{ℕ, _+_, _-_, _≤_, _<_}
 use native.Mathlib.Omega.{arith}
 use mathlib.Core.Path.{_≡_, refl, ap, subst}
+use mathlib.Core.{Bool.true, Bool.false, List.List}
+use Rattle.model.specs.declared.{Form.Form, Settings.Settings}
+use Rattle.model.specs.{Records.kindAt, Trees.nil, Trees.depth, Times.time}
+use Rattle.reading.specs.{Closing.closesBlock, Walks.Walk}
 use Rattle.reading.specs.Ranges.{InFile, Ranged, firstSize}
 use Rattle.reading.proofs.Standing.{standing-at}
 use Rattle.reading.proofs.Walking.{walk-start, none-closed, none-ended, walk-end, walk-at, walk-next}

@@ -1,3 +1,4 @@
+use mathlib.Core.{Bool.false, Path.subst}
 use borrow.Author.Needs.{needs}
 use Rattle.machine.specs.Calls.{Readies}
 use Rattle.machine.proofs.Replies.{is-ready, restart-refused, restart-finished}

@@ -3,6 +3,7 @@ use mathlib.Core.Path.{sym}
 use lib.{ListN.take, ListN.replicate, Seq.length-take-le}
 use borrow.Author.Needs.{needs}
 use Rattle.model.specs.Listing.{printed, printedText}
+use Rattle.printing.proofs.{Reading.read-zeros, Rendering.over-fits}
 use Rattle.printing.proofs.print_listing.Statement.{statement}
 use Rattle.printing.proofs.print_listing.Tie as tie
 

@@ -3,6 +3,7 @@ use Prim.Native.Nat.{ℕ, _*_, _≤_, _<_}
 use mathlib.Core.Path.{_≡_, ap, sym, _∙_}
 use mathlib.Core.Bool.{Bool, true, _||_, or-true, or-false}
 use lib.Dec.{ltb}
+use borrow.Author.{Needs.needs, Tests.lt-ltb, Tests.le-ltb}
 use Rattle.model.specs.Replies.{noRoom}
 use Rattle.records.proofs.no_room.Statement.{statement}
 use Rattle.records.proofs.no_room.Tie as tie

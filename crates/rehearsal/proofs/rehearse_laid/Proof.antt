@@ -2,6 +2,7 @@ use Prim.Native.Nat.{ℕ}
 use mathlib.Core.List.{List}
 use borrow.Author.Needs.{needs}
 use Rattle.model.specs.declared.Form.the-variants.{Task}
+use Rattle.model.specs.{Chain.lend, Rehearsal.zeroOutputs}
 use Rattle.rehearsal.specs.Contracts.{laidLoan}
 use Rattle.rehearsal.proofs.First.{first-refused, first-whole, first-stopped}
 use Rattle.rehearsal.proofs.rehearse_laid.Statement.{statement}

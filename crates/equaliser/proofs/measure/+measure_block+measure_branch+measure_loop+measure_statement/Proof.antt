@@ -3,6 +3,7 @@ use Prim.Native.Nat.{ℕ, _+_, _*_, _-_, _<_}
 use native.Mathlib.Omega.{arith}
 use mathlib.Core.Bool.{false}
 use mathlib.Core.Path.{_≡_, ap, sym, _∙_}
+use borrow.Author.{Needs.needs, Tests.not-true, Tests.not-false}
 use Rattle.model.specs.Records.{Rec, kindAt}
 use Rattle.records.proofs.Blocks.{one-skip}
 use Rattle.reading.specs.Closing.{opensBlock, closesBlock}

@@ -1,7 +1,9 @@
 -- Four pieces: the buffer is lent whole to the first, and what is left of it to each of the others. What is laid by then is said once.
 use borrow.Author.Needs.{needs}
 use native.Mathlib.Omega.{arith}
+use mathlib.Core.{Path.refl, List._++_}
 use Prim.Native.Nat.{_+_}
+use Rattle.model.specs.{Records.recordBytes, Trees.endRec}
 use Rattle.records.specs.Blocks.{skipBytes}
 use Rattle.records.proofs.Over.{Part, back, part-at, part-room, part-fits, part-fits-last, part-lent, part-last, part-count}
 use Rattle.equaliser.specs.Written.{loopTail}

@@ -1,4 +1,5 @@
 use Prim.Native.Nat.{_-_, _≤_}
+use native.Mathlib.{Omega.arith, Nat.mul-le-mul-left}
 use mathlib.Core.Path.{refl}
 use borrow.Author.Needs.{needs}
 use Rattle.layout.proofs.IdleLoops.{Scanning, scan-start, scan-next, scan-closed, scan-ended}

@@ -11,6 +11,8 @@ use Rattle.model.specs.Records.{kindAt}
 use Rattle.reading.specs.Closing.{closesBlock}
 use Rattle.reading.proofs.Standing.{told}
 use Rattle.reading.proofs.Walking.{kind-there, count-there, if-at}
+use Rattle.layout.proofs.{PassingSteps.step-short, PassingRounds.opened, PassingRounds.at-end}
+use Rattle.layout.proofs.{WritingSteps.act-fits, WritingSteps.act-laid}
 use Rattle.layout.proofs.IdleLoops.{skips-fit, skips-laid, no-skip}
 use Rattle.layout.proofs.WritingBlocks.{WritingBlock, block-start, block-closed, block-ended, statement-fits, block-on, block-next}
 use Rattle.layout.proofs.WritingRounds.{WritingLoop, loop, loop-start, body-fits, rounds-next, check-fits, rounds-laid}

@@ -3,6 +3,7 @@ use Prim.Native.Nat.{_+_}
 use native.Mathlib.Omega.{arith}
 use mathlib.Core.Path.{sym, subst}
 use borrow.Author.Needs.{needs}
+use Rattle.model.specs.{Trees.fileTree, Layout.layout}
 use Rattle.records.specs.Blocks.{blockBytes}
 use Rattle.records.proofs.Over.{Part, back, part-at, part-room, part-fits-last, part-last}
 use Rattle.placing.specs.States.{Laying, After, started}

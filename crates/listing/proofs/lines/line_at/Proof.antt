@@ -2,6 +2,7 @@ use native.Mathlib.Omega.{arith}
 use mathlib.Core.Path.{ap, _∙_}
 use lib.ListN.{getD}
 use borrow.Author.Needs.{needs}
+use Rattle.model.specs.declared.{Line.Line, Shown.Shown}
 use Rattle.model.specs.Listing.{lineOf}
 use Rattle.listing.proofs.LineLaws.{line-there, line-past-file, line-past-table}
 use Rattle.listing.proofs.lines.line_at.Statement.{statement}

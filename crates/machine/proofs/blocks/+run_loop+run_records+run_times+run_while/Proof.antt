@@ -8,6 +8,7 @@ use Rattle.records.specs.Records.{recordOf}
 use Rattle.reading.specs.Closing.{opensBlock}
 use Rattle.timing.specs.Times.{settingsIn}
 use Rattle.machine.specs.Contracts.{Running}
+use Rattle.machine.proofs.{Behind.loop-goes-on, Behind.loop-times, RunningSteps.test-there, RunningSteps.kind-there}
 use Rattle.machine.proofs.Running.{running-start, running-inside, running-ended, running-ran, running-then, statement-next, past-ran}
 use Rattle.machine.proofs.RunningLoops.{Looping, loop-last, loop-entered, loop-halted, loop-next}
 use Rattle.machine.proofs.RunningLoops.{spinning, spinning-start, spinning-cut, spinning-over, spinning-turned, turning, turning-start, turning-turned, times-empty}

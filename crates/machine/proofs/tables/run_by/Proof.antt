@@ -1,4 +1,5 @@
 use borrow.Author.Needs.{needs}
+use Rattle.machine.proofs.{Files.table-fills, Files.started-begun, Running.ran-settings}
 use Rattle.machine.proofs.tables.run_by.Statement.{statement}
 use Rattle.machine.proofs.tables.run_by.Tie as tie
 

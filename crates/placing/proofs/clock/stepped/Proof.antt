@@ -1,6 +1,7 @@
 use native.Mathlib.Omega.{arith}
 use borrow.Author.Needs.{needs}
 use Rattle.records.proofs.Blocks.{one-skip}
+use Rattle.placing.proofs.{Ticking.before-short, Moves.stepped-on}
 use Rattle.placing.proofs.clock.stepped.Statement.{statement}
 use Rattle.placing.proofs.clock.stepped.Tie as tie
 

@@ -2,12 +2,15 @@
 use borrow.Author.Needs.{needs}
 use native.Mathlib.Omega.{arith}
 use Prim.Native.Nat.{ℕ, _+_, _-_, _≤_}
+use mathlib.Core.{Path.sym, Path.subst, List._++_}
 use Rattle.model.specs.declared.Settings.{Settings}
 use Rattle.model.specs.Records.{Rec, rec, recordBytes}
+use Rattle.model.specs.{Trees.Block, Layout.fill}
 use Rattle.records.specs.Blocks.{skipBytes}
 use Rattle.records.proofs.Over.{Part, back, part-at, part-room, part-fits, part-fits-last, part-last}
 use Rattle.records.proofs.Laying.{wrote-next}
 use Rattle.placing.specs.declared.clock.State.{State}
+use Rattle.placing.specs.{Placed.closingBytes, Placed.Closed}
 use Rattle.placing.proofs.PieceBytes.{lays-wrote, piece-fits, piece-laid, settled-few, closing-few, closing}
 use Rattle.placing.proofs.pieces.close_side.Statement.{statement}
 use Rattle.placing.proofs.pieces.close_side.Tie as tie

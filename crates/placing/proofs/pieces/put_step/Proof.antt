@@ -3,6 +3,8 @@ use borrow.Author.Needs.{needs}
 use native.Mathlib.Omega.{arith}
 use Prim.Native.Nat.{_+_}
 use mathlib.Core.List.{_++_}
+use Rattle.model.specs.{Records.recordBytes, Layout.before}
+use Rattle.records.specs.{Records.recordOf, Blocks.skipBytes}
 use Rattle.records.proofs.Over.{Part, back, part-at, part-room, part-fits, part-fits-last, part-last}
 use Rattle.records.proofs.Laying.{wrote-next}
 use Rattle.placing.specs.Placed.{stepBytes}

@@ -3,6 +3,7 @@ use native.Mathlib.Omega.{arith}
 use lib.ListN.{length-append}
 use borrow.Author.Needs.{needs}
 use Prim.Native.Nat.{_+_}
+use Rattle.model.specs.{Records.recordBytes, Trees.beat, Trees.actRec, Layout.lastValue}
 use Rattle.records.specs.Blocks.{skipBytes}
 use Rattle.records.proofs.Over.{Part, part-first, part-at, part-fits-last}
 use Rattle.placing.specs.Placed.{tailBytes}

@@ -1,5 +1,6 @@
 use native.Mathlib.Omega.{arith}
 use mathlib.Core.Path.{sym, _∙_}
+use borrow.Author.{Needs.needs, Tests.not-true, Tests.not-false}
 use Rattle.reading.specs.Closing.{opensBlock, closesBlock}
 use Rattle.reading.proofs.Standing.{told}
 use Rattle.reading.proofs.ClosingTable.{Opener, closing-end, closing-shut, closing-plain, first-early, closing-loop, second-early, closing-if}

@@ -1,3 +1,4 @@
+use borrow.Author.{Tests.le-leb, Tests.lt-leb, Needs.needs}
 use Rattle.reading.proofs.fields.op_fits.Statement.{statement}
 use Rattle.reading.proofs.fields.op_fits.Tie as tie
 

@@ -1,8 +1,11 @@
 -- Settings of another length are bad, and of 12 bytes the range test decides.
+use borrow.Author.{Needs.needs, Tests.eq-eqb, Tests.ne-eqb}
 use native.Mathlib.Omega.{arith}
 use mathlib.Core.Path.{_≡_, sym, _∙_}
+use mathlib.Core.{Bool.true, Bool.false, List.List}
 use Prim.Native.Nat.{ℕ, _≤_}
 use lib.ListN.{length}
+use Rattle.model.specs.declared.{Settings.Settings, Refusal.Refusal}
 use Rattle.model.specs.Settings.{settingsOf, outOfRange, badSettings}
 use Rattle.records.specs.Decoded.{Decodes}
 use Rattle.records.specs.declared.settings.Decoded.the-variants.{Valid, Refused}

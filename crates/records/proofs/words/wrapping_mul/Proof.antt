@@ -1,5 +1,6 @@
 -- The product of two numbers below 2^32 is below 2^64.
 use borrow.Author.Needs.{needs}
+use native.Mathlib.{Omega.arith, Nat.mul-le-mul}
 use Prim.Native.Nat.{_≤_}
 use Rattle.records.proofs.words.wrapping_mul.Statement.{statement}
 use Rattle.records.proofs.words.wrapping_mul.Tie as tie

@@ -1,4 +1,5 @@
 use mathlib.Core.Path.{_∙_}
+use borrow.Author.{Tests.ne-eqb, Needs.needs}
 use Rattle.timing.proofs.ticks.kind_ticks.Statement.{statement}
 use Rattle.timing.proofs.ticks.kind_ticks.Tie as tie
 

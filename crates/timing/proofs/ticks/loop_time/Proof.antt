@@ -1,3 +1,4 @@
+use native.Mathlib.{Omega.arith, Nat.mul-le-mul-left}
 use mathlib.Core.Path.{subst}
 use Rattle.timing.specs.Times.{Gives}
 use Rattle.timing.proofs.Given.{loop-over, loop-all}

@@ -1,3 +1,4 @@
+use borrow.Author.{Tests.ne-eqb, Needs.needs}
 use native.Mathlib.Omega.{arith}
 use Rattle.timing.proofs.ticks.round_ticks.Statement.{statement}
 use Rattle.timing.proofs.ticks.round_ticks.Tie as tie
