@@ -4,7 +4,7 @@
 import re
 import sys
 
-WIDTH = 140
+WIDTH = 160
 
 
 def filled(items, indent):

@@ -3,7 +3,7 @@
 import re
 import sys
 
-WIDTH = 140
+WIDTH = 160
 FEW = 2
 WORD = r"[^\s(){}\[\],;.\"λ]"
 

@@ -4,7 +4,7 @@
 import re
 import sys
 
-WIDTH = 150
+WIDTH = 160
 
 
 def chunks(text):

@@ -34,8 +34,7 @@ module _ (σ : Settings) where
   padded-first n (skip m b) k = refl
   padded-first n (act p b) k = sym (waiting-⧺ n (act p nil) (padded σ 0 b k))
   padded-first n (branch q a d b) k = rw (time-F σ a, time-F σ d) (sym (waiting-⧺ n (branchOut σ q a d) (padded σ 0 b k)))
-  padded-first n (while q m a b) k =
-      rw (time-F σ a, ← merge-pad (F σ a) 0, zero-add (time σ a)) (sym (waiting-⧺ n (loopOut σ q m a) (padded σ 0 b k)))
+  padded-first n (while q m a b) k = rw (time-F σ a, ← merge-pad (F σ a) 0, zero-add (time σ a)) (sym (waiting-⧺ n (loopOut σ q m a) (padded σ 0 b k)))
   padded-first n (times q m a b) k = rw (← merge-pad (F σ a) 0) (sym (waiting-⧺ n (times q m (padded σ 0 a 0) nil) (padded σ 0 b k)))
 
   -- a tick waits only once it has been read
@@ -63,5 +62,4 @@ module _ (σ : Settings) where
       (omega (arith, one-skip n, padded-small a 0 (time σ (F σ d) - time σ (F σ a)), padded-small d 0 (time σ (F σ a) - time σ (F σ d)), padded-small b 0 k))
   padded-small (while q m a b) n k =
       rw (size-waiting n, ← merge-pad (F σ a) 0) (omega (arith, one-skip n, padded-small a 0 0, one-skip (0 + time σ (F σ a)), padded-small b 0 k))
-  padded-small (times q m a b) n k =
-      rw (size-waiting n, ← merge-pad (F σ a) 0) (omega (arith, one-skip n, padded-small a 0 0, padded-small b 0 k))
+  padded-small (times q m a b) n k = rw (size-waiting n, ← merge-pad (F σ a) 0) (omega (arith, one-skip n, padded-small a 0 0, padded-small b 0 k))

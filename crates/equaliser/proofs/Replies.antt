@@ -38,10 +38,7 @@ task-asks S l = record { file = whole-file S; few = few _ S; long = l }
 
 -- the first row that refuses decides, and a refusal keeps the buffer
 turned : (task : List ℕ) (σ : Settings) (old : List ℕ) (x : Refusal) → refusal x ≡ equaliseRows σ (fileTree task) (length old) → EqualisesSound task σ old old (Equalised.Refused x)
-turned task σ old x e = record {
-  reply = e;
-  leaves = ap (λ (v : Verdict). kept-by v (over (bytes (linearise (equalise σ (fileTree task)))) old) old) e;
-}
+turned task σ old x e = record { reply = e; leaves = ap (λ (v : Verdict). kept-by v (over (bytes (linearise (equalise σ (fileTree task)))) old) old) e }
 
 module _ {task : List ℕ} {σ : Settings} {pads kept : List ℕ} {r : Extent} (S : SoundFile Task task) (B : BlockSize task 0 (length task / 12) σ pads kept r) where
   measured : IsBlock task 0 (length task / 12) σ kept (fileTree task) r

@@ -12,8 +12,10 @@ use Rattle.model.specs.Records.{Rec, kindAt, recordAt, SKIP, TIMES}
 use Rattle.model.specs.Trees.{Test, check, Block, nil, skip, act, _⧺_, size}
 use Rattle.model.specs.{Times.time, Placement.Fits}
 use Rattle.model.specs.Layout.{before, idle, idles}
-use Rattle.model.proofs.{Sound.OfForm, Trees.⧺-nil, Trees.⧺-assoc}
-use Rattle.theory.proofs.{Times.time-⧺, Windows.Free, Windows.idles-longer}
+use Rattle.model.specs.Standing.{OfForm}
+use Rattle.theory.specs.Windows.{Free}
+use Rattle.model.proofs.{Trees.⧺-nil, Trees.⧺-assoc}
+use Rattle.theory.proofs.{Times.time-⧺, Windows.idles-longer}
 use Rattle.records.specs.declared.Record.{Record}
 use Rattle.records.specs.Records.{recordOf}
 use Rattle.records.proofs.Over.{lent, back}
@@ -115,11 +117,7 @@ capped-product (suc c) m p k n e f = go (ltb p m) refl
 
 module _ {s : List ℕ} {i to p ticks next : ℕ} (S : Scanning s i to p ticks next) (l : next < to) {x : Record} (e : recordOf x ≡ recordAt s next) where
   pub scan-next : x .kind ≡ SKIP → {n : ℕ} → n ≡ min (ticks + x .count) (p + 1) → Scanning s i to p n (next + 1)
-  scan-next h {n} f = record {
-    range = record { order = omega arith; inside = S .range .inside };
-    few = omega arith;
-    right = λ F. more (S .right F);
-  }
+  scan-next h {n} f = record { range = record { order = omega arith; inside = S .range .inside }; few = omega arith; right = λ F. more (S .right F) }
     where
       m : ℕ
       m = recordAt s next .count
@@ -174,10 +172,7 @@ module _ {s : List ℕ} {i to : ℕ} {x : Rec} {p : ℕ} where
 
   pub at-loop : (x .kind ≡ SKIP → ⊥) → x .kind ≡ TIMES → {b : Idle} → AllIdle s (i + 1) to (x .count) p b
       → IdleAt s i to x p (record { only = b .only; ticks = b .ticks; next = b .next + 1 })
-  at-loop k l {b} A = record {
-    skip = λ h. absurd (k h);
-    loop = λ h y. record { kind = l; body = b; all = A; only = y; ticks = refl; next = refl };
-  }
+  at-loop k l {b} A = record { skip = λ h. absurd (k h); loop = λ h y. record { kind = l; body = b; all = A; only = y; ticks = refl; next = refl } }
 
 -- THE LOOP, MEASURED
 
@@ -262,8 +257,7 @@ module _ {σ : Settings} {k : ℕ} {x : Rec} {s : State} {out : List ℕ} (F : I
     skips-laying = laying-on (F .laying) (L .after) (omega (arith, L .after .tick, skips-soon))
 
     pub check-left : Writing σ (checked σ k (testOf x) (s .tick)) (check-from (m .tick) ⧺ nil) s m out mid
-    check-left =
-        writing-same (writing-first skips rest (F .room) L) (alike-eq (ap check-from (sym (L .after .tick)) ∙ sym (⧺-nil (check-from (m .tick)))))
+    check-left = writing-same (writing-first skips rest (F .room) L) (alike-eq (ap check-from (sym (L .after .tick)) ∙ sym (⧺-nil (check-from (m .tick)))))
 
     module _ {y : Rec} (e : y ≡ checkRec x) {n : ℕ} (h : n ≡ laidBytes s m) where
       pub idle-check-fits : length (stepBytes σ m 1 y) ≤ length (lent mid n)

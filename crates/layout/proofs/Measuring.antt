@@ -195,7 +195,4 @@ module _ {s : List ℕ} {i to : ℕ} {σ : Settings} {from test : State} (I : Te
             }
 
         pub branch-measured : StatementMeasured s i to σ from k old new (record { state = r; next = d .next + 1; ifs = d .ifs })
-        branch-measured = record {
-          passed = ifs.branch-passed I h (A .passed) l (D .passed) m M;
-          noted = λ y Y w. noted-as (ifs.branch-as I) all-noted y Y;
-        }
+        branch-measured = record { passed = ifs.branch-passed I h (A .passed) l (D .passed) m M; noted = λ y Y w. noted-as (ifs.branch-as I) all-noted y Y }

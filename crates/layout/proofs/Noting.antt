@@ -11,7 +11,8 @@ use Rattle.model.specs.declared.Settings.{Settings}
 use Rattle.model.specs.Trees.{Test, Act, check, save, Block, nil, skip, act, branch, while, times, _⧺_, size}
 use Rattle.model.specs.{Times.ticks, Times.time, Equalising.merge}
 use Rattle.model.specs.Layout.{commands, left, before, idle, idles, fill}
-use Rattle.theory.proofs.{Sequences.either, Windows.round}
+use Rattle.theory.specs.Windows.{round}
+use Rattle.theory.proofs.{Sequences.either}
 use Rattle.records.proofs.Blocks.{size-waiting}
 use Rattle.layout.specs.Idling.{checked}
 use Rattle.layout.specs.Meetings.{meetings, Noting, Notes, Noted, Holds}

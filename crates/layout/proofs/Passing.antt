@@ -10,8 +10,9 @@ use Rattle.model.specs.declared.Form.the-variants.{Equalised}
 use Rattle.model.specs.declared.Settings.{Settings}
 use Rattle.model.specs.{Records.kindAt, Times.time}
 use Rattle.model.specs.Trees.{Block, nil, _⧺_, size}
+use Rattle.theory.specs.Windows.{Free}
 use Rattle.model.proofs.Trees.{⧺-nil, ⧺-assoc}
-use Rattle.theory.proofs.{Times.time-⧺, Windows.Free}
+use Rattle.theory.proofs.{Times.time-⧺}
 use Rattle.reading.specs.{Closing.closesBlock, Walks.Walk}
 use Rattle.reading.specs.Ranges.{InFile, firstSize, afterFirst}
 use Rattle.reading.proofs.Walking.{every, walk-start, walk-end, walk-at, walk-on, walk-next}

@@ -9,8 +9,9 @@ use Rattle.model.specs.Records.{kindAt, recordAt, IF}
 use Rattle.model.specs.Trees.{Test, check, Block, nil, act, branch, _⧺_, size}
 use Rattle.model.specs.{Times.time, Equalising.merge, Placement.Fits}
 use Rattle.model.specs.Layout.{before, fill, filled}
+use Rattle.theory.specs.Windows.{Free}
 use Rattle.theory.proofs.Times.{time-⧺}
-use Rattle.theory.proofs.Windows.{Free, later, free-tested, free-later}
+use Rattle.theory.proofs.Windows.{later, free-tested, free-later}
 use Rattle.records.proofs.Blocks.{size-waiting}
 use Rattle.reading.specs.{Closing.opensBlock, Walks.IfAt}
 use Rattle.reading.specs.Ranges.{InFile, firstPart, secondPart, afterFirst, testOf}

@@ -8,8 +8,9 @@ use Rattle.model.specs.declared.Form.the-variants.{Equalised}
 use Rattle.model.specs.Records.{kindAt, recordAt, TIMES}
 use Rattle.model.specs.Trees.{Test, check, Block, nil, act, times, _⧺_, size}
 use Rattle.model.specs.{Times.time, Layout.before, Placement.Fits}
-use Rattle.model.proofs.Sound.{OfForm}
-use Rattle.theory.proofs.{Times.time-⧺, Windows.Free}
+use Rattle.model.specs.Standing.{OfForm}
+use Rattle.theory.specs.Windows.{Free}
+use Rattle.theory.proofs.{Times.time-⧺}
 use Rattle.reading.specs.{Closing.opensBlock, Walks.OpenAt}
 use Rattle.reading.specs.Ranges.{firstPart, afterFirst, testOf}
 use Rattle.placing.specs.declared.clock.State.{State}

@@ -9,7 +9,7 @@ use Rattle.model.specs.declared.Form.the-variants.{Equalised}
 use Rattle.model.specs.Records.{recordAt, SKIP, IF, TIMES}
 use Rattle.model.specs.Trees.{Act, set, read, write, check, beat, save, Block, nil, skip, act, _⧺_, actRec}
 use Rattle.model.specs.{Times.ticks, Times.longest, Layout.before, Layout.idles}
-use Rattle.model.proofs.{Shapes.Fit, Sound.OfForm}
+use Rattle.model.specs.Standing.{Fit, OfForm}
 use Rattle.theory.proofs.Sequences.{either}
 use Rattle.records.specs.declared.Record.{Record}
 use Rattle.records.specs.Records.{recordOf}
@@ -27,8 +27,7 @@ use Rattle.layout.proofs.{Standing.act-at, Unrolled.laid-skip, Unrolled
 
 -- the acts of an equalised file take at least a tick, and at most the longest
 pub act-short : {σ : Settings} → Layable σ → (p : Act) → Fit Equalised (actRec p) → (1 ≤ ticks σ p) × (ticks σ p ≤ longest σ)
-act-short {σ} L (set o t l x) F =
-    either (λ (n : ℕ). (1 ≤ n) × (n ≤ longest σ)) (eqb (o % 16) 3) (σ .multiply) (σ .set) (omega arith) (omega arith)
+act-short {σ} L (set o t l x) F = either (λ (n : ℕ). (1 ≤ n) × (n ≤ longest σ)) (eqb (o % 16) 3) (σ .multiply) (σ .set) (omega arith) (omega arith)
 act-short L (read a p) F = omega arith
 act-short L (write a p) F = omega arith
 act-short L (check q) F = absurd (false≢true (F .kind))

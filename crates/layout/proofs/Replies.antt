@@ -39,10 +39,7 @@ by-settings {s} {old} {new} {r} e m = subst (λ (ρ : Settings). FileMeasured s 
 
 -- the first row that refuses decides, and a refusal keeps the buffer
 turned : (file : List ℕ) (σ : Settings) (old : List ℕ) (x : Refusal) → refusal x ≡ layOutRows σ (fileTree file) (length old) → LaysOutSound file σ old old (LaidOut.Refused x)
-turned file σ old x e = record {
-  reply = e;
-  leaves = ap (λ (v : Verdict). kept v (over (bytes (linearise (layout σ (fileTree file)))) old) old) e;
-}
+turned file σ old x e = record { reply = e; leaves = ap (λ (v : Verdict). kept v (over (bytes (linearise (layout σ (fileTree file)))) old) old) e }
 
 pub short-window : (file : List ℕ) (σ : Settings) (old : List ℕ) → shortWindow σ ≡ true → LaysOutSound file σ old old (LaidOut.Refused Refusal.ShortWindow)
 short-window file σ old h = turned file σ old Refusal.ShortWindow (rw h)

@@ -5,13 +5,14 @@ use mathlib.Core.Path.{_≡_, refl, ap, ap₂, sym, _∙_}
 use Rattle.model.specs.declared.Settings.{Settings}
 use Rattle.model.specs.declared.Form.the-variants.{Equalised}
 use Rattle.model.specs.Trees.{Test, Act, check, Block, nil, skip, act, branch, while, times, _⧺_}
-use Rattle.model.specs.Times.{ticks, time}
+use Rattle.model.specs.{Times.ticks, Times.time, Standing.OfForm}
 use Rattle.model.specs.Layout.{copies, unroll, before, idles, fill, filled, lay}
 use Rattle.model.specs.Placement.{Fits, CommandFree, LoopFree}
-use Rattle.model.proofs.{Sound.OfForm, Trees.⧺-nil, Trees.⧺-assoc}
+use Rattle.theory.specs.Windows.{Free}
+use Rattle.model.proofs.{Trees.⧺-nil, Trees.⧺-assoc}
 use Rattle.theory.proofs.{Times.time-⧺, Forms.formed}
 use Rattle.theory.proofs.Unrolling.{unrolled-loop-free, unrolled-command-free, rounds-loop-free, rounds-command-free}
-use Rattle.theory.proofs.Windows.{Free, free-later, free-behind, free-tested, fill-ends}
+use Rattle.theory.proofs.Windows.{free-later, free-behind, free-tested, fill-ends}
 use Rattle.reading.specs.Ranges.{afterFirst}
 use Rattle.layout.specs.{Ranges.only, Measured.laid}
 

@@ -11,9 +11,10 @@ use Rattle.model.specs.declared.Settings.{Settings}
 use Rattle.model.specs.Trees.{beat, save, Block, nil, skip, act, _⧺_, size, fileTree}
 use Rattle.model.specs.{Times.time, Equalising.waiting, Equalising.merge, Records.over}
 use Rattle.model.specs.Layout.{unroll, commands, left, lay, opened, body, lastValue, layout, total}
+use Rattle.theory.specs.Windows.{Free, round}
 use Rattle.model.proofs.Trees.{⧺-assoc}
 use Rattle.theory.proofs.Times.{time-⧺}
-use Rattle.theory.proofs.Windows.{Free, round, window-pos, commands-0, free-start}
+use Rattle.theory.proofs.Windows.{window-pos, commands-0, free-start}
 use Rattle.records.specs.Blocks.{blockBytes, skipRecords, skipBytes, Wrote}
 use Rattle.records.proofs.Blocks.{size-⧺, size-waiting, bytes-⧺, waiting-bytes, act-bytes, length-block}
 use Rattle.records.proofs.Over.{Part, lent, back, part-first, part-fits, part-lent}

@@ -71,8 +71,7 @@ module _ {s : List ℕ} {from to : ℕ} {σ : Settings} {at state : State} {next
     both = subst (λ (ms : List ℕ). Holds ms n table) (ap (λ (c : Block). meetings σ c (state .tick)) (first P) ∙ meetings-⧺ σ (one P) (two P) (state .tick)) (W .holds)
 
     in-time : state .tick + time σ (one P) ≤ σ .period
-    in-time =
-        omega (arith, W .within, split .same .lasts, time-⧺ σ (split .done) (one P ⧺ two P), time-⧺ σ (one P) (two P), split .after .tick)
+    in-time = omega (arith, W .within, split .same .lasts, time-⧺ σ (split .done) (one P ⧺ two P), time-⧺ σ (one P) (two P), split .after .tick)
 
     -- the next byte is at n
     module _ {m : ℕ} (h : m ≡ laidBytes at state) where

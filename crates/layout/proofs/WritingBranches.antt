@@ -9,7 +9,7 @@ use Rattle.model.specs.declared.Settings.{Settings}
 use Rattle.model.specs.Records.{Rec, recordBytes, kindAt, recordAt, IF, over}
 use Rattle.model.specs.Trees.{Test, check, Block, nil, act, branch, _⧺_, size, testRec, elseRec, endRec}
 use Rattle.model.specs.{Times.time, Equalising.waiting, Equalising.merge, Layout.before, Layout.filled}
-use Rattle.model.proofs.Stands.{At}
+use Rattle.model.specs.Standing.{At}
 use Rattle.records.specs.Blocks.{blockBytes, skipRecords, skipBytes}
 use Rattle.records.proofs.Blocks.{waiting-bytes, branch-bytes, size-waiting, length-block}
 use Rattle.records.proofs.Over.{Part, lent, back, part-first, part-fits, part-fits-last, part-lent, part-last, part-at, part-length}
@@ -192,8 +192,7 @@ module _ {s : List ℕ} {i to : ℕ} {σ : Settings} {from : State} {p : ℕ} {t
         new-2 = back new n ys
 
         one-lays : SideLays σ A meets elseRec (i + 1 + size A) (p + 1) test (lent new n) ys a
-        one-lays =
-            subst (λ (j : ℕ). SideLays σ A j elseRec (i + 1 + size A) (p + 1) test (lent new n) ys a) (sym meets-at) (L .right A (sides I .first))
+        one-lays = subst (λ (j : ℕ). SideLays σ A j elseRec (i + 1 + size A) (p + 1) test (lent new n) ys a) (sym meets-at) (L .right A (sides I .first))
 
         one-records : a .state .records ≡ test .records + size (merge 0 (side A)) + 1
         one-records = omega (arith, one-lays .closed .records, ap (λ (w : ℕ). size (merge w (side A))) no-wait)

@@ -113,15 +113,7 @@ module _ {s : List ℕ} {i to : ℕ} {σ : Settings} {from : State} {p : ℕ} {t
       both = subst (λ (ms : List ℕ). Holds ms n table) (ap (λ (c : Block). meetings σ c (state .tick)) first ∙ meetings-⧺ σ one rest (state .tick)) (W .holds)
 
       soon : state .tick + time σ one ≤ σ .period
-      soon =
-          omega (
-            arith,
-            the-loop .within,
-            split .same .lasts,
-            time-⧺ σ (split .done) (one ⧺ others),
-            time-⧺ σ one others,
-            split .after .tick,
-          )
+      soon = omega (arith, the-loop .within, split .same .lasts, time-⧺ σ (split .done) (one ⧺ others), time-⧺ σ one others, split .after .tick)
 
       -- the next byte is at n
       pub body-fits : {m : ℕ} → m ≡ laidBytes from state → BlockFits s (i + 1) to σ state n table (lent new m)

@@ -10,7 +10,7 @@ use Rattle.model.specs.Trees.{Test, check, Block, nil, act, _⧺_, size, actRec
 use Rattle.model.specs.Times.{time}
 use Rattle.model.specs.Layout.{copies, unroll, before, idles, lay}
 use Rattle.model.specs.Placement.{Fits}
-use Rattle.theory.proofs.Windows.{Free}
+use Rattle.theory.specs.Windows.{Free}
 use Rattle.reading.specs.Ranges.{Stands, testOf}
 use Rattle.placing.specs.declared.clock.State.{State}
 use Rattle.placing.specs.States.{Laying, After, tooMany}

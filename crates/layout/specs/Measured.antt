@@ -8,7 +8,7 @@ use Rattle.model.specs.Trees.{Block, size, fileTree}
 use Rattle.model.specs.Times.{time}
 use Rattle.model.specs.Equalising.{merge}
 use Rattle.model.specs.Layout.{unroll, filled, lay, opened}
-use Rattle.theory.proofs.Windows.{Free}
+use Rattle.theory.specs.Windows.{Free}
 use Rattle.records.specs.Blocks.{skipRecords}
 use Rattle.reading.specs.Ranges.{Stands, InFile, firstSize}
 use Rattle.reading.specs.Walks.{StatementAt}

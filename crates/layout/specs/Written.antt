@@ -10,7 +10,6 @@ use Rattle.model.specs.Trees.{Block, size, fileTree}
 use Rattle.model.specs.Times.{time}
 use Rattle.model.specs.Equalising.{merge}
 use Rattle.model.specs.Layout.{unroll, filled, opened, layout, total}
-use Rattle.theory.proofs.Windows.{Free}
 use Rattle.records.specs.Blocks.{blockBytes}
 use Rattle.reading.specs.Ranges.{SoundFile, Stands, firstSize}
 use Rattle.placing.specs.declared.clock.State.{State}
@@ -21,6 +20,7 @@ use Rattle.layout.specs.Ranges.{only}
 use Rattle.layout.specs.Measured.{laid, Entered, Statement}
 use Rattle.layout.specs.Meetings.{meetings, Holds}
 use Rattle.model.specs.Limits.{fileRecords}
+use Rattle.theory.specs.Windows.{Free}
 
 -- the block or statement that is laid as c next, and that ends in time
 pub record LaidFits (σ : Settings) (c : Block) (s : State) (out : List ℕ) : Type 0 where

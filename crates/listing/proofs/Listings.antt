@@ -13,8 +13,9 @@ use Rattle.model.specs.Trees.{Block, size, linearise}
 use Rattle.model.specs.Answers.{finished, refusal, laidOut}
 use Rattle.model.specs.Replies.{equaliseReply, laidTotal, layOutReply, equalisedOf, prepareReply, prepareOut}
 use Rattle.model.specs.Listing.{startTicks, laidFrom, listStarts}
-use Rattle.model.proofs.{Bytes.recordsAt, Bytes.first-bytes, Trees.length-linearise, Passes.length-file, Stands.At, Stands.begins}
-use Rattle.model.proofs.{Sound.OfForm, Sound.sound-file}
+use Rattle.model.specs.Standing.{At, OfForm}
+use Rattle.model.proofs.{Bytes.recordsAt, Bytes.first-bytes, Trees.length-linearise, Passes.length-file, Stands.begins}
+use Rattle.model.proofs.{Sound.sound-file}
 use Rattle.records.specs.declared.settings.Decoded.the-variants.{Refused}
 use Rattle.records.specs.Decoded.{Decodes}
 use Rattle.records.proofs.Stores.{stored-over}
@@ -98,8 +99,7 @@ module _ (s task : List ℕ) {n t : ℕ} (e : prepareReply s task fileLength ≡
 
 -- what listing a task answers and leaves
 abbrev pub Lists : List ℕ → List ℕ → List ℕ → List ℕ → List ℕ → List ℕ → LaidOut → Type 0
-Lists s task laid laid′ table table′ r =
-    (laidOut r ≡ prepareReply s task fileLength) × (laid′ ≡ prepareOut s task laid) × (table′ ≡ listStarts s task table)
+Lists s task laid laid′ table table′ r = (laidOut r ≡ prepareReply s task fileLength) × (laid′ ≡ prepareOut s task laid) × (table′ ≡ listStarts s task table)
 
 module _ (s task laid laid′ : List ℕ) (r : LaidOut) (h : length laid ≡ 65532)
     (p : (laidOut r ≡ prepareReply s task (length laid)) × (laid′ ≡ prepareOut s task laid)) where

@@ -9,7 +9,7 @@ use Rattle.model.specs.declared.Form.the-variants.{Laid}
 use Rattle.model.specs.declared.Settings.{Settings}
 use Rattle.model.specs.Trees.{Block, nil, skip, act, branch, while, times, size}
 use Rattle.model.specs.{Times.time, Listing.startTicks}
-use Rattle.model.proofs.Sound.{OfForm}
+use Rattle.model.specs.Standing.{OfForm}
 use Rattle.reading.specs.Ranges.{firstSize, afterFirst}
 use Rattle.timing.specs.Blocks.{firstTime}
 use Rattle.listing.specs.Starts.{firstStarts}

@@ -33,11 +33,7 @@ module _ {s : List ℕ} {i to : ℕ} {σ : Settings} {t : ℕ} {out : List ℕ} 
   sides-early = omega (arith, ap (time σ) (sides .is), S .early)
 
   pub one-entered : Entered s (i + 1) to σ (t + 1) (setAt out i t)
-  one-entered = record {
-    file = first-in (S .here) (ap opensBlock k);
-    room = omega (arith, S .room, length-set out i t);
-    early = omega (arith, sides-early);
-  }
+  one-entered = record { file = first-in (S .here) (ap opensBlock k); room = omega (arith, S .room, length-set out i t); early = omega (arith, sides-early) }
 
   module _ {w : List ℕ} {e : Place} (O : BlockStarted s (i + 1) to σ (t + 1) (setAt out i t) w e) where
     first : Stored (startTicks σ one (t + 1)) (time σ one) (size one) (i + 1) (t + 1) (setAt out i t) w e

@@ -25,8 +25,4 @@ module _ {s : List ℕ} {i : ℕ} {ins w : List ℕ} {limit t : ℕ} (S : Starte
   table-fills k = record { form = S .form; file = whole-file (S .sound); ends = file-size (S .sound); few = file-few (S .sound); room = k }
 
   pub started-begun : {ends : List ℕ} → Closings s (extent s) ends → Begun s i (extent s) ends ins w limit t
-  started-begun T = record {
-    given = record { few = file-few (S .sound); table = T; lent = S .lent; early = S .early };
-    form = S .form;
-    chain = S .chain;
-  }
+  started-begun T = record { given = record { few = file-few (S .sound); table = T; lent = S .lent; early = S .early }; form = S .form; chain = S .chain }

@@ -161,8 +161,7 @@ module _ {s : List ℕ} {from to : ℕ} {ends : List ℕ} {σ : Settings} {ins :
       sym (same-here e ∙ ap (λ (bs : List Block). runs limit (after σ ins s next bs) (going t w)) (pending-none (follows-here e) l))
 
   pub running-ended : {r : Progress} → to ≤ next → r ≡ onward t next → RecordsRan s from to σ ins limit t₀ old w r
-  running-ended {r} l h =
-      answered (subst (Ran limit whole to t₀ old w) (sym h) (record { reaches = all-done l; goes = λ o. omega (arith, running-within) }))
+  running-ended {r} l h = answered (subst (Ran limit whole to t₀ old w) (sym h) (record { reaches = all-done l; goes = λ o. omega (arith, running-within) }))
 
   -- the ELSE or END of an IF: what follows the IF is next
   pub running-closed : {n : ℕ} → next < to → closesBlock (kindAt s next) ≡ true → n ≡ passed s next → Running s from to ends σ ins limit t₀ old w t n

@@ -85,8 +85,7 @@ module _ {s : List ℕ} {from to : ℕ} {ends : List ℕ} {σ : Settings} {ins :
 
     side-chosen : (b : Bool) → o ≡ b → runs limit (choose next q first second) (going t w)
         ≡ runs limit (run σ ins (side q one two rest there b) (chosen s next b) ⊳ g) (going (t + 1) w)
-    side-chosen true y =
-        choose-first limit t (held w) next q first second h (ap (λ (c : Rec). holds (testOf c) (held w .variables)) (sym r) ∙ sym e ∙ y)
+    side-chosen true y = choose-first limit t (held w) next q first second h (ap (λ (c : Rec). holds (testOf c) (held w .variables)) (sym r) ∙ sym e ∙ y)
     side-chosen false y =
         choose-second limit t (held w) next q first second h (ap (λ (c : Rec). holds (testOf c) (held w .variables)) (sym r) ∙ sym e ∙ y)
         ∙ ap (λ (j : ℕ). runs limit (run σ ins two j ⊳ g) (going (t + 1) w)) (sym (second-at q one two rest there))

@@ -10,10 +10,10 @@ use borrow.Author.Tests.{eqb-true, eqb-false}
 use Rattle.model.specs.declared.{Form.Form, Settings.Settings}
 use Rattle.model.specs.Records.{Rec, kindAt, recordAt, SKIP, IF, WHILE, TIMES}
 use Rattle.model.specs.Trees.{Act, set, read, write, check, beat, save, Block, nil, skip, act, branch, while, times, actRec}
-use Rattle.model.specs.Times.{ticks}
+use Rattle.model.specs.{Times.ticks, Standing.Fit}
 use Rattle.model.specs.Refusals.{between, unused, testFits, fieldsFit}
 use Rattle.model.specs.Runs.{Effect, nothing, effect, Run, single, step}
-use Rattle.model.proofs.Shapes.{and-left, or-cases, Fit}
+use Rattle.model.proofs.Shapes.{and-left, or-cases}
 use Rattle.reading.specs.Closing.{opensBlock, closesBlock}
 use Rattle.reading.specs.Ranges.{Stands, firstSize, afterFirst}
 use Rattle.reading.proofs.Standing.{stands-once}

@@ -13,8 +13,8 @@ use Rattle.model.specs.Runs.{Step, duration, variablesAfter, outputsAfter, leve
 use Rattle.model.specs.Stopping.{upto, Image, Saved, none, lastImage, wordsFrom, imageOf, rest, takeUp}
 use Rattle.model.specs.Replies.{ended, badLengths, isSaved, stopRows, imageOver, afterSave, strayImage, buffersOf}
 use Rattle.model.specs.Answers.{Verdict, finished, refused, bit, kept}
-use Rattle.model.proofs.{Bytes.Bytes, Trees.⧺-nil}
-use Rattle.model.specs.Placement.{LoopFree}
+use Rattle.model.proofs.{Trees.⧺-nil}
+use Rattle.model.specs.{Placement.LoopFree, Standing.Bytes}
 use Rattle.theory.proofs.{Accepted.neither, Sequences.⊳-nil, Reached.rest-reached, Stops.upto-all, Within.run-within}
 use Rattle.reading.proofs.Walking.{whole-file}
 use Rattle.stepping.specs.declared.progress.Progress.{Progress}
@@ -79,13 +79,7 @@ module _ {file : List ℕ} {σ : Settings} {v ins l m : List ℕ} (R : ReadyToRu
   whole-chain = record { file = whole-file (R .sound); pending = []; follows = at-end {k = 0 + size (fileTree file)} (omega (arith, file-size (R .sound))) }
 
   pub whole-started : {w : List ℕ} {limit : ℕ} → length w ≡ 50 → Started file 0 ins w limit 0
-  whole-started k = record {
-    form = R .form;
-    sound = R .sound;
-    lent = record { inputs = lent .inputs; cells = k };
-    early = omega arith;
-    chain = whole-chain;
-  }
+  whole-started k = record { form = R .form; sound = R .sound; lent = record { inputs = lent .inputs; cells = k }; early = omega arith; chain = whole-chain }
 
   -- run from what h holds, up to a limit
   module _ {limit : ℕ} {w new : List ℕ} {e : Progress} {h : Held} (B : RecordsRan file 0 (length file / 12) σ ins limit 0 w new e) (k : held w ≡ h) (same : h .variables ≡ v) where
@@ -248,8 +242,7 @@ module _ {file : List ℕ} {σ : Settings} {v ins l m : List ℕ} (R : ReadyToRu
 
       within-period : duration again ≤ σ .period
       unfolding takeUp
-      within-period =
-          omega (arith, run-within σ ins (rest (fileTree file) j) j .in-all (M .variables), rest-shorter σ (fileTree file) j loop-free, R .in-time)
+      within-period = omega (arith, run-within σ ins (rest (fileTree file) j) j .in-all (M .variables), rest-shorter σ (fileTree file) j loop-free, R .in-time)
 
       abbrev outcome-from : List Step → ℕ → Machine
       outcome-from es c = machine (t + duration (upto c es)) (ltb c (duration es)) (overran (upto c es)) (heldAfter (upto c es) t from)

@@ -6,6 +6,7 @@ use mathlib.Core.List.{List, [], _∷_, _++_, append-nil}
 use lib.ListN.{length, getD, drop, length-drop}
 use lib.Seq.{getD-drop, drop-drop, drop-cons}
 use Rattle.model.specs.Records.{Rec, wordBytes, recordAt, firstRecords, records, recordBytes, bytes}
+use Rattle.model.specs.Standing.{Bytes}
 
 pub word-back : (n : ℕ) → n % 256 + 256 * (n / 256 % 256) + 65536 * (n / 256 / 256 % 256) + 16777216 * (n / 256 / 256 / 256) ≡ n
 word-back n = omega arith
@@ -26,10 +27,6 @@ unfolding records
 records-bytes rs =
     let e : length (bytes rs) / 12 ≡ length rs = omega (arith, length-bytes rs) in
     rw (e, ← append-nil (bytes rs)) (first-bytes rs [])
-
--- a list of bytes
-abbrev pub Bytes : List ℕ → Type 0
-Bytes s = (i : ℕ) → getD s i 0 < 256
 
 -- a number's lowest byte, and what is above it
 low : (a m : ℕ) → a < 256 → (a + 256 * m) % 256 ≡ a

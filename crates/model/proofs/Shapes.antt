@@ -12,6 +12,7 @@ use Rattle.model.specs.declared.Form.the-variants.{Task, Equalised, Laid
 use Rattle.model.specs.Records.{Rec, rec, SET, READ, WRITE, IF, WHILE, TIMES, CHECK, BEAT, SAVE}
 use Rattle.model.specs.Trees.{Test, Act, set, read, write, check, beat, save, testRec, skipRec, actRec, elseRec, endRec}
 use Rattle.model.specs.Refusals.{between, kindFits, variable, port, unused, opFits, setFits, testFits, fieldsFit}
+use Rattle.model.specs.Standing.{Fit}
 
 -- TESTS
 
@@ -53,11 +54,6 @@ by-act P s r w c b v (check q) = c
 by-act P s r w c b v (beat x) = b
 by-act P s r w c b v (save m) = v
 
--- a record of a form: its kind is one of the form's, and its fields are in range
-pub record Fit (f : Form) (r : Rec) : Type 0 where
-  pub kind : kindFits f (r .kind) ≡ true
-  pub fields : fieldsFit r ≡ true
-
 -- the statement or the mark that a record is
 pub data Shape : Rec → Type 0 where
   is-skip : (n : ℕ) → Shape (skipRec n)
@@ -84,8 +80,7 @@ testOf o l x = record { relation = o; left = l; right = x }
 
 -- the unused bytes of a test
 test-target : (k o t l x n : ℕ) → testFits (rec k o t l x n) ≡ true → t ≡ 0
-test-target k o t l x n h =
-    zeros (t ∷ []) (and-right (opFits 5 o x) (unused (t ∷ [])) (and-left (opFits 5 o x && unused (t ∷ [])) (variable l) h)) .0
+test-target k o t l x n h = zeros (t ∷ []) (and-right (opFits 5 o x) (unused (t ∷ [])) (and-left (opFits 5 o x && unused (t ∷ [])) (variable l) h)) .0
 
 shaped-skip : Shaped 1
 unfolding fieldsFit
@@ -98,8 +93,7 @@ unfolding fieldsFit
 shaped-set o t l x n h = rw (zeros (n ∷ []) (and-right (setFits (rec 2 o t l x n)) (unused (n ∷ [])) h) .0) (is-act (set o t l x))
 
 port-zeros : (o t l x n : ℕ) → (unused (o ∷ x ∷ n ∷ []) && variable t && port l) ≡ true → Zeros (o ∷ x ∷ n ∷ [])
-port-zeros o t l x n h =
-    zeros (o ∷ x ∷ n ∷ []) (and-left (unused (o ∷ x ∷ n ∷ [])) (variable t) (and-left (unused (o ∷ x ∷ n ∷ []) && variable t) (port l) h))
+port-zeros o t l x n h = zeros (o ∷ x ∷ n ∷ []) (and-left (unused (o ∷ x ∷ n ∷ [])) (variable t) (and-left (unused (o ∷ x ∷ n ∷ []) && variable t) (port l) h))
 
 shaped-read : Shaped 3
 unfolding fieldsFit

@@ -12,20 +12,12 @@ use Rattle.model.specs.Trees.{Test, Act, Block, nil, skip, act, branch, 
 use Rattle.model.specs.Trees.{size, depth, testRec, skipRec, actRec, elseRec, endRec, linearise, treeOf, fileTree}
 use Rattle.model.specs.Refusals.{maxRecords, maxDepth, kindFits, fieldsFit, Open, first, second, loop, Nesting, misplaced, inside, nest}
 use Rattle.model.specs.Refusals.{sound, faulty, deeper, scan, fault}
-use Rattle.model.proofs.Bytes.{Bytes, bytes-records, length-records, recordsAt, recordsAt-suc, records-at}
-use Rattle.model.proofs.{Trees.length-linearise, Trees.treeOf-linearise, Stands.At, Stands.begins}
-use Rattle.model.proofs.Shapes.{by-act, Fit, Shape, is-skip, is-act, is-if, is-while, is-times, is-else, is-end, shape}
+use Rattle.model.specs.Standing.{At, Bytes, Fit, OfForm}
+use Rattle.model.proofs.Bytes.{bytes-records, length-records, recordsAt, recordsAt-suc, records-at}
+use Rattle.model.proofs.{Trees.length-linearise, Trees.treeOf-linearise, Stands.begins}
+use Rattle.model.proofs.Shapes.{by-act, Shape, is-skip, is-act, is-if, is-while, is-times, is-else, is-end, shape}
 
 -- BLOCKS
-
--- the tree's records are those of the form
-abbrev pub OfForm : Form → Block → Type 0
-OfForm f nil = Unit {0}
-OfForm f (skip n b) = Fit f (skipRec n) × OfForm f b
-OfForm f (act p b) = Fit f (actRec p) × OfForm f b
-OfForm f (branch q a d b) = Fit f (testRec IF q 0) × OfForm f a × OfForm f d × OfForm f b
-OfForm f (while q n a b) = Fit f (testRec WHILE q n) × OfForm f a × OfForm f b
-OfForm f (times q n a b) = Fit f (testRec TIMES q n) × OfForm f a × OfForm f b
 
 -- such a block, which nests at most m deep inside n open blocks
 record Inner (f : Form) (m n : ℕ) (b : Block) : Type 0 where
@@ -81,13 +73,11 @@ empty f m n l = record { of-form = tt; shallow = omega arith }
 module _ (f : Form) (m : ℕ) (os : List Open) (rs : List Rec) where
   skip-turn : (n : ℕ) → Fit f (skipRec n) → Parsed f m os rs → Parsed f m os (skipRec n ∷ rs)
   unfolding linearise
-  skip-turn n fit p =
-      front f m (skip n) (skipRec n ∷ []) (λ b. refl) os rs (λ b i. record { of-form = (fit, i .of-form); shallow = i .shallow }) p
+  skip-turn n fit p = front f m (skip n) (skipRec n ∷ []) (λ b. refl) os rs (λ b i. record { of-form = (fit, i .of-form); shallow = i .shallow }) p
 
   act-turn : (a : Act) → Fit f (actRec a) → Parsed f m os rs → Parsed f m os (actRec a ∷ rs)
   unfolding linearise
-  act-turn a fit p =
-      front f m (act a) (actRec a ∷ []) (λ b. refl) os rs (λ b i. record { of-form = (fit, i .of-form); shallow = i .shallow }) p
+  act-turn a fit p = front f m (act a) (actRec a ∷ []) (λ b. refl) os rs (λ b i. record { of-form = (fit, i .of-form); shallow = i .shallow }) p
 
   if-turn : (q : Test) → Fit f (testRec IF q 0) → Parsed f m (first ∷ os) rs → Parsed f m os (testRec IF q 0 ∷ rs)
   unfolding linearise

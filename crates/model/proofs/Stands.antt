@@ -5,26 +5,8 @@ use mathlib.Core.Path.{_≡_, refl, ap, ap₂, sym, _∙_}
 use mathlib.Core.List.{List, [], _∷_, _++_, append-assoc, append-nil}
 use Rattle.model.specs.Records.{Rec, recordAt, firstRecords, IF, WHILE, TIMES}
 use Rattle.model.specs.Trees.{Test, Block, nil, skip, act, branch, while, times, size, testRec, skipRec, actRec, elseRec, endRec, linearise, treeOf}
+use Rattle.model.specs.Standing.{At, LoopAt}
 use Rattle.model.proofs.{Bytes.recordsAt, Bytes.recordsAt-suc, Trees.treeOf-linearise}
-
--- IF at i with m and n records in its sides
-pub record BranchAt (s : List ℕ) (i : ℕ) (q : Test) (m n : ℕ) : Type 0 where
-  pub is : recordAt s i ≡ testRec IF q 0
-  pub middle : recordAt s (i + 1 + m) ≡ elseRec
-  pub last : recordAt s (i + 2 + m + n) ≡ endRec
-
--- a loop of kind k and count c at i with m records in its body
-pub record LoopAt (s : List ℕ) (i k : ℕ) (q : Test) (c m : ℕ) : Type 0 where
-  pub is : recordAt s i ≡ testRec k q c
-  pub last : recordAt s (i + 1 + m) ≡ endRec
-
-abbrev pub At : List ℕ → ℕ → Block → Type 0
-At s i nil = Unit {0}
-At s i (skip n b) = (recordAt s i ≡ skipRec n) × At s (i + 1) b
-At s i (act p b) = (recordAt s i ≡ actRec p) × At s (i + 1) b
-At s i (branch q a d b) = BranchAt s i q (size a) (size d) × At s (i + 1) a × At s (i + 2 + size a) d × At s (i + 3 + size a + size d) b
-At s i (while q n a b) = LoopAt s i WHILE q n (size a) × At s (i + 1) a × At s (i + 2 + size a) b
-At s i (times q n a b) = LoopAt s i TIMES q n (size a) × At s (i + 1) a × At s (i + 2 + size a) b
 
 -- the first of n records from i on is r, and the others are rs
 record Starts (s : List ℕ) (i n : ℕ) (r : Rec) (rs : List Rec) : Type 0 where
@@ -133,8 +115,7 @@ begins s i n (times q c a b) rs e =
 
 -- a record before others
 leads : (s : List ℕ) (i j k n : ℕ) (r : Rec) (rs : List Rec) → recordAt s i ≡ r → i + 1 ≡ j → n ≡ suc k → recordsAt s j k ≡ rs → recordsAt s i n ≡ r ∷ rs
-leads s i j k n r rs h e c t =
-    ap (recordsAt s i) c ∙ recordsAt-suc s i k ∙ ap₂ (λ (x : Rec) (xs : List Rec). x ∷ xs) h (from s j (i + 1) k rs (sym e) t)
+leads s i j k n r rs h e c t = ap (recordsAt s i) c ∙ recordsAt-suc s i k ∙ ap₂ (λ (x : Rec) (xs : List Rec). x ∷ xs) h (from s j (i + 1) k rs (sym e) t)
 
 -- a loop, its body and what follows it
 loop-stood : (s : List ℕ) (i k n o : ℕ) (q : Test) (m : ℕ) (a b : Block) (rs : List Rec) → LoopAt s i o q m (size a) → n ≡ 2 + size a + size b + k

@@ -16,3 +16,5 @@ pub mod Timeline
 pub mod Chain
 pub mod Rehearsal
 pub mod Listing
+-- for the contracts inside the crates
+pub mod Standing

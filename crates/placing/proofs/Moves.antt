@@ -6,7 +6,7 @@ use borrow.Author.Tests.{eq-eqb, ne-eqb}
 use Rattle.model.specs.declared.Settings.{Settings}
 use Rattle.model.specs.Trees.{Act, beat, save, nil, skip, act}
 use Rattle.model.specs.{Times.ticks, Times.longest, Layout.commands, Layout.before}
-use Rattle.theory.proofs.Windows.{round}
+use Rattle.theory.specs.Windows.{round}
 use Rattle.records.specs.Blocks.{skipRecords}
 use Rattle.records.proofs.Blocks.{size-waiting}
 use Rattle.placing.specs.declared.clock.State.{State}

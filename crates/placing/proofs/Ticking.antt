@@ -10,9 +10,10 @@ use Rattle.model.specs.declared.Settings.{Settings}
 use Rattle.model.specs.Trees.{beat, save, Block, nil, skip, act}
 use Rattle.model.specs.Times.{time, longest}
 use Rattle.model.specs.Layout.{commands, left, before}
+use Rattle.theory.specs.Windows.{round}
 use Rattle.model.proofs.Trees.{⧺-nil}
 use Rattle.theory.proofs.{Times.time-⧺, Sequences.either, Clock.mod-within, Clock.mod-over}
-use Rattle.theory.proofs.Windows.{round, window-pos, round-pos, window-on}
+use Rattle.theory.proofs.Windows.{window-pos, round-pos, window-on}
 use Rattle.placing.specs.declared.clock.State.{State}
 use Rattle.placing.specs.States.{Layable, Shows}
 use Rattle.placing.proofs.Settling.{Alike, alike-eq, alike-trans, alike-skip}

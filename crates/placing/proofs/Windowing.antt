@@ -9,8 +9,9 @@ use Rattle.model.specs.declared.Settings.{Settings}
 use Rattle.model.specs.Trees.{Block, nil, skip, _⧺_, size}
 use Rattle.model.specs.{Times.time, Times.longest, Equalising.merge}
 use Rattle.model.specs.Layout.{commands, before, idle, idles, fill}
+use Rattle.theory.specs.Windows.{Free}
 use Rattle.model.proofs.{Shapes.and-left, Shapes.and-right, Trees.⧺-assoc}
-use Rattle.theory.proofs.{Times.time-⧺, Windows.Free, Windows.commands-before}
+use Rattle.theory.proofs.{Times.time-⧺, Windows.commands-before}
 use Rattle.records.specs.Blocks.{skipRecords}
 use Rattle.records.proofs.Blocks.{one-skip}
 use Rattle.placing.specs.declared.clock.State.{State}

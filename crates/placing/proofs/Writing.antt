@@ -94,15 +94,7 @@ module _ {σ : Settings} {whole : Block} {from : State} {old : List ℕ} where
               (bytes-settled (s .wait) c rest ∙ ap (λ (n : ℕ). bytesOf s c ++ blockBytes (settled n rest)) (sym (L .after .wait))) (W .part)
 
           on : laidBytes from s + length (bytesOf s c) ≡ laidBytes from r
-          on = omega (
-            arith,
-            length-block (settled (s .wait) c),
-            L .after .records,
-            writing-counts W,
-            sizes W,
-            W .room .few,
-            size-settled (s .wait) c rest,
-          )
+          on = omega (arith, length-block (settled (s .wait) c), L .after .records, writing-counts W, sizes W, W .room .few, size-settled (s .wait) c rest)
 
 -- the first piece is c, over the whole buffer
 module _ (c rest : Block) {from : State} {old : List ℕ} (R : Room (c ⧺ rest) from old) where
@@ -132,7 +124,4 @@ module _ (c rest : Block) {from : State} {old : List ℕ} (R : Room (c ⧺ rest)
 -- all is laid
 pub writing-end : {σ : Settings} {whole : Block} {from s : State} {old new : List ℕ} → Writing σ whole nil from s old new → Lays σ whole from old new s
 unfolding blockBytes linearise bytes
-writing-end W = record {
-  after = after-alike (alike-trans (alike-eq (sym (⧺-nil (W .done)))) (W .same)) (W .after);
-  wrote = part-end (W .part) .0;
-}
+writing-end W = record { after = after-alike (alike-trans (alike-eq (sym (⧺-nil (W .done)))) (W .same)) (W .after); wrote = part-end (W .part) .0 }

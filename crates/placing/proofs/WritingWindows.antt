@@ -73,8 +73,7 @@ module _ {σ : Settings} {count : ℕ} where
       split = writing-same (W .writing) (alike-sym turn)
 
       pub skips-less : σ .period + 1 - r .tick < σ .period + 1 - s .tick
-      skips-less =
-          omega (arith, W .soon, A .tick, ap (time σ) (commands-due (W .settings) (W .writing .after .shows)), W .settings .fits .positive .beat-lasts)
+      skips-less = omega (arith, W .soon, A .tick, ap (time σ) (commands-due (W .settings) (W .writing .after .shows)), W .settings .fits .positive .beat-lasts)
 
       module _ {n : ℕ} (e : n ≡ laidBytes from s) where
         pub skips-fit : length (bytesOf s (toNext σ s)) ≤ length (lent new n)

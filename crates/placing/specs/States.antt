@@ -8,7 +8,7 @@ use Rattle.model.specs.Times.{ticks, time}
 use Rattle.model.specs.Equalising.{merge}
 use Rattle.model.specs.Layout.{before, idles, fill}
 use Rattle.model.specs.Placement.{Fits}
-use Rattle.theory.proofs.Windows.{Free}
+use Rattle.theory.specs.Windows.{Free}
 use Rattle.placing.specs.declared.clock.State.{State}
 use Rattle.placing.specs.Merging.{settled, waits}
 

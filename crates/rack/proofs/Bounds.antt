@@ -49,18 +49,12 @@ time-bound s f file xs e =
 pub equalise-bound : (s task : List ℕ) (room : ℕ) (xs : List ℕ) → equaliseReply s task room ≡ finished xs → FileBound xs
 equalise-bound s task room xs e =
     let a = equalise-accepted s task room xs e in
-    record {
-      one = omega (arith, ap first (a .answers), a .has-room .few);
-      two = omega (arith, ap second (a .answers), a .in-time, a .in-range .short);
-    }
+    record { one = omega (arith, ap first (a .answers), a .has-room .few); two = omega (arith, ap second (a .answers), a .in-time, a .in-range .short) }
 
 pub lay-out-bound : (s file : List ℕ) (room : ℕ) (xs : List ℕ) → layOutReply s file room ≡ finished xs → FileBound xs
 lay-out-bound s file room xs e =
     let a = lay-out-accepted s file room xs e in
-    record {
-      one = omega (arith, ap first (a .answers), a .has-room .few);
-      two = omega (arith, ap second (a .answers), a .in-time, a .in-range .short);
-    }
+    record { one = omega (arith, ap first (a .answers), a .has-room .few); two = omega (arith, ap second (a .answers), a .in-time, a .in-range .short) }
 
 pub prepare-bound : (s task : List ℕ) (room : ℕ) (xs : List ℕ) → prepareReply s task room ≡ finished xs → FileBound xs
 unfolding prepareReply
@@ -106,11 +100,7 @@ bit-small false = omega arith
 ended-bound : (t : ℕ) (es : List Step) (xs : List ℕ) → ended t es ≡ finished xs → t + duration es ≤ 2000000 → RunBound xs
 ended-bound t es xs e h =
     let is : (t + duration es) ∷ bit (overran es) ∷ [] ≡ xs = cc in
-    record {
-      tick = omega (arith, ap first is);
-      overran-bit = omega (arith, ap second is, bit-small (overran es));
-      saved-bit = omega (arith, ap third is);
-    }
+    record { tick = omega (arith, ap first is); overran-bit = omega (arith, ap second is, bit-small (overran es)); saved-bit = omega (arith, ap third is) }
 
 pub run-bound : (c : Loan) (xs : List ℕ) → runReply c ≡ finished xs → RunBound xs
 unfolding runReply
@@ -175,8 +165,4 @@ pub record RunRead (xs : List ℕ) (r : ℕ) : Type 0 where
   pub flags : r / 2 ^ 56 ≡ second xs + 2 * third xs
 
 pub run-read : (xs : List ℕ) → RunBound xs → RunRead xs (runWord xs)
-run-read xs b = record {
-  finished-too = omega (arith, b .tick, b .overran-bit, b .saved-bit);
-  tick = omega (arith, b .tick);
-  flags = omega (arith, b .tick);
-}
+run-read xs b = record { finished-too = omega (arith, b .tick, b .overran-bit, b .saved-bit); tick = omega (arith, b .tick); flags = omega (arith, b .tick) }

@@ -6,7 +6,8 @@ use mathlib.Core.List.{List}
 use lib.ListN.{length}
 use Rattle.model.specs.declared.Form.{Form}
 use Rattle.model.specs.Trees.{Block, nil, skip, act, branch, while, times, size, depth}
-use Rattle.model.proofs.{Stands.At, Sound.OfForm, Sound.Sound}
+use Rattle.model.specs.Standing.{At, OfForm}
+use Rattle.model.proofs.{Sound.Sound}
 use Rattle.reading.specs.Ranges.{Fills, firstSize, afterFirst}
 use Rattle.reading.proofs.Scanning.{deepest}
 
@@ -71,9 +72,4 @@ first-some (times q n a b) F l = omega arith
 
 -- the tree of a sound file fills it
 pub fills-file : (f : Form) (s : List ℕ) (b : Block) → Sound f s b → Fills f s 0 (length s / 12) 16 b
-fills-file f s b S = record {
-  stands = S .stands;
-  ends = omega (arith, S .whole-records);
-  shallow = omega (arith, S .shallow, deepest f);
-  of-form = S .of-form;
-}
+fills-file f s b S = record { stands = S .stands; ends = omega (arith, S .whole-records); shallow = omega (arith, S .shallow, deepest f); of-form = S .of-form }

@@ -9,8 +9,8 @@ use borrow.Author.Tests.{ltb-true, ltb-false}
 use Rattle.model.specs.declared.Form.{Form}
 use Rattle.model.specs.Records.{Rec, kindAt, recordAt}
 use Rattle.model.specs.Trees.{Test, Block, nil, skip, act, branch, while, times, size, fileTree}
-use Rattle.model.proofs.Stands.{At, LoopAt, stands-once as one-stands}
-use Rattle.model.proofs.Sound.{OfForm, sound-file}
+use Rattle.model.specs.Standing.{At, LoopAt, OfForm}
+use Rattle.model.proofs.{Stands.stands-once as one-stands, Sound.sound-file}
 use Rattle.reading.specs.Closing.{opensBlock, closesBlock, closingIn}
 use Rattle.reading.specs.{Walks.OpenAt, Ranges.SoundFile, Ranges.Stands}
 use Rattle.reading.proofs.BlockEnds.{found, ends-block, ran-out}

@@ -9,8 +9,7 @@ use Rattle.model.specs.declared.Form.{Form}
 use Rattle.model.specs.Records.{Rec, kindAt}
 use Rattle.model.specs.Trees.{Test, Block, nil, skip, act, branch, while, times, size, depth}
 use Rattle.model.specs.Refusals.{sound, fault}
-use Rattle.model.proofs.Stands.{At}
-use Rattle.model.proofs.Sound.{OfForm}
+use Rattle.model.specs.Standing.{At, OfForm}
 use Rattle.reading.specs.Closing.{closesBlock}
 
 -- the records from i up to, not including, to are those of b, a block of form f that nests at most d deep

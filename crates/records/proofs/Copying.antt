@@ -30,5 +30,4 @@ copied-step {from} {old} {new} {i} l p h =
     }
 
 pub copied-end : {from old new : List ℕ} {i : ℕ} → length from ≡ length old → Copied from old new i → length new ≤ i → new ≡ from
-copied-end {from} {old} {new} {i} l p h =
-    p .holds ∙ rw (take-all i from (omega arith), drop-of-length-le old {i = i} (omega arith), append-nil)
+copied-end {from} {old} {new} {i} l p h = p .holds ∙ rw (take-all i from (omega arith), drop-of-length-le old {i = i} (omega arith), append-nil)

@@ -57,8 +57,7 @@ module _ (a b : Final) {v : Bool} (variables : v ≡ sameList (a .variables) (b 
       other-marks h = rw (sym variables, sym levels, sym marks, not-true m h, and-false (v && l))
 
       pub overrun-decides : not v ≡ false → not l ≡ false → not m ≡ false → Bool·beq (a .overran) (b .overran) ≡ sameEnd (endIn a) (endIn b)
-      overrun-decides hv hl hm =
-          rw (sym variables, sym levels, sym marks, not-false v hv, not-false l hl, not-false m hm) (bit-eqb (a .overran) (b .overran))
+      overrun-decides hv hl hm = rw (sym variables, sym levels, sym marks, not-false v hv, not-false l hl, not-false m hm) (bit-eqb (a .overran) (b .overran))
 
 -- EXACTLY OF EQUALS
 
@@ -95,8 +94,7 @@ end-to a b e =
     }
 
 end-self : (a : End) → sameEnd a a ≡ true
-end-self a =
-    rw (list-self (a .buffers .variables), list-self (a .buffers .levels), list-self (a .buffers .marks)) (eq-eqb (a .overran) (a .overran) refl)
+end-self a = rw (list-self (a .buffers .variables), list-self (a .buffers .levels), list-self (a .buffers .marks)) (eq-eqb (a .overran) (a .overran) refl)
 
 pub same-end : (a b : End) → (sameEnd a b ≡ true) ↔ (a ≡ b)
 same-end a b = (end-to a b, λ e. subst (λ (z : End). sameEnd a z ≡ true) e (end-self a))

@@ -17,8 +17,7 @@ held-variable w a h = sym (getD-take 16 w a 0 h)
 
 pub held-assign : (w : List ℕ) (a x : ℕ) → a < 16 → held (set w a x) ≡ affect 0 0 (assigns a x) (held w)
 unfolding held
-held-assign w a x h =
-    rw (take-set-lt 16 w a x h, drop-set-lt 16 w a x (omega arith), drop-set-lt 24 w a x (omega arith), drop-set-lt 32 w a x (omega arith))
+held-assign w a x h = rw (take-set-lt 16 w a x h, drop-set-lt 16 w a x (omega arith), drop-set-lt 24 w a x (omega arith), drop-set-lt 32 w a x (omega arith))
 
 -- a store behind the first n of the part from m on, and one into it
 part-after : (n m : ℕ) (w : List ℕ) (i x : ℕ) → n ≤ i → take n (drop m (set w (m + i) x)) ≡ take n (drop m w)

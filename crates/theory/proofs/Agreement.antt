@@ -55,8 +55,7 @@ module _ (σ : Settings) (ins : List ℕ) where
       (alike-⊳ (alike-rounds n (alike-eq (⊳-nil (balanced (i + 1) (i + 1 + 2 + size (F σ a)) q (run σ ins (F σ a) (i + 1 + 1)) (time σ (F σ a)))))) (alike-single 1 i i (lastTest q)))
       (spin-balanced n (i + 1) _ i j _ q (run-F a (i + 1 + 1) (j + 1))))
       (run-F b (i + 2 + size (branch q (F σ a) (pad (time σ (F σ a))) nil)) (j + 2 + size a))
-  run-F (times q n a b) i j =
-      alike-⊳ (alike-⊳ (alike-rounds n (run-F a (i + 1) (j + 1))) (alike-single 1 i j (lastTest q))) (run-F b _ (j + 2 + size a))
+  run-F (times q n a b) i j = alike-⊳ (alike-⊳ (alike-rounds n (run-F a (i + 1) (j + 1))) (alike-single 1 i j (lastTest q))) (run-F b _ (j + 2 + size a))
 
   run-waiting : (n : ℕ) (b : Block) (i : ℕ) {f : Run} → ((i : ℕ) → Alike traced (run σ ins b i) f) → Alike traced (run σ ins (waiting n b) i) f
   run-waiting zero b i p = p i

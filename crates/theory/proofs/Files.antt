@@ -10,7 +10,8 @@ use Rattle.model.specs.{Records.bytes, Records.over, Settings.settingsOf}
 use Rattle.model.specs.Trees.{Block, size, linearise, fileTree}
 use Rattle.model.specs.Answers.{Verdict, finished, kept, valueAt}
 use Rattle.model.specs.Replies.{fileTime, equalisedTree, equaliseReply, equaliseOut, laidTree, laidTotal, layOutReply, layOutOut}
-use Rattle.model.proofs.Sound.{OfForm, Sound, sound-file}
+use Rattle.model.specs.Standing.{OfForm}
+use Rattle.model.proofs.Sound.{Sound, sound-file}
 use Rattle.model.proofs.Passes.{passes, tree-back, length-file}
 use Rattle.theory.proofs.{Times.time-equalise, Forms.equalised-of-form, Forms.depth-equalise}
 use Rattle.theory.proofs.Laid.{time-laid, laid-of-form, depth-laid}

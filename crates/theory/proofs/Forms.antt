@@ -8,11 +8,10 @@ use Rattle.model.specs.declared.Form.the-variants.{Task, Equalised, Laid}
 use Rattle.model.specs.Records.{SKIP, IF, WHILE, TIMES}
 use Rattle.model.specs.Trees.{Test, Act, set, read, write, check, beat, save, Block, nil, skip, act, branch, while, times, _⧺_}
 use Rattle.model.specs.Trees.{depth, testRec, actRec}
-use Rattle.model.specs.Times.{time}
+use Rattle.model.specs.{Times.time, Standing.Fit, Standing.OfForm}
 use Rattle.model.specs.Equalising.{pad, F, waiting, merge, equalise}
 use Rattle.model.specs.Refusals.{between, kindFits, testFits, fieldsFit}
-use Rattle.model.proofs.Shapes.{Fit, and-left, and-right, within}
-use Rattle.model.proofs.Sound.{OfForm}
+use Rattle.model.proofs.Shapes.{and-left, and-right, within}
 use Rattle.theory.proofs.Times.{time-F}
 
 -- RECORDS

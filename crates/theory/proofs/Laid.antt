@@ -11,7 +11,7 @@ use Rattle.model.specs.Trees.{beat, Block, nil, act, depth, actRec}
 use Rattle.model.specs.{Times.time, Refusals.fieldsFit, Placement.Fits, Placement.Placed}
 use Rattle.model.specs.Runs.{overran, duration, effect, run}
 use Rattle.model.specs.Layout.{unroll, body, ceiling, lastValue, closed, layout, total}
-use Rattle.model.proofs.{Shapes.Fit, Sound.OfForm}
+use Rattle.model.specs.Standing.{Fit, OfForm}
 use Rattle.theory.proofs.Times.{time-⧺, time-merge, time-unroll}
 use Rattle.theory.proofs.{Sequences.run-⧺, Traces.traced, Traces.silent-behind, Agreement.run-merge, Agreement.run-unroll}
 use Rattle.theory.proofs.{Placing.placed-even, Placing.placed-merge, Lasts.even-lasts}

@@ -14,7 +14,7 @@ use Rattle.model.specs.Runs.{duration, onVariables, overran, run}
 use Rattle.model.specs.Layout.{unroll, body, ceiling, lastValue, layout, total}
 use Rattle.model.specs.Placement.{Fits, LoopFree, StepsPlaced}
 use Rattle.model.specs.Timeline.{picks, multiples, beatList, EndsInBeat}
-use Rattle.model.proofs.Sound.{OfForm}
+use Rattle.model.specs.Standing.{OfForm}
 use Rattle.theory.proofs.{Sequences.duration-++, Sequences.overran-++, Forms.formed}
 use Rattle.theory.proofs.{Unrolling.unrolled-loop-free, Unrolling.unrolled-command-free}
 use Rattle.theory.proofs.{Placing.placed-loop-free, Placing.placed-run, Every.Every, Resuming.overrun-last}

@@ -74,8 +74,7 @@ module _ (σ : Settings) where
   even-F nil = tt
   even-F (skip n b) = even-F b
   even-F (act p b) = even-F b
-  even-F (branch q a d b) =
-      (rw (time-⧺ σ (F σ a), time-⧺ σ (F σ d)) (omega arith), even-⧺ (F σ a) _ (even-F a) tt, even-⧺ (F σ d) _ (even-F d) tt, even-F b)
+  even-F (branch q a d b) = (rw (time-⧺ σ (F σ a), time-⧺ σ (F σ d)) (omega arith), even-⧺ (F σ a) _ (even-F a) tt, even-⧺ (F σ d) _ (even-F d) tt, even-F b)
   even-F (while q n a b) = ((omega arith, even-F a, tt, tt), even-F b)
   even-F (times q n a b) = (even-F a, even-F b)
 

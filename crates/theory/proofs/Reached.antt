@@ -13,7 +13,8 @@ use Rattle.model.specs.{Placement.LoopFree}
 use Rattle.model.specs.Trees.{Block, nil, skip, act, branch, while, times, fileTree}
 use Rattle.model.specs.Refusals.{kindFits, sound, fault}
 use Rattle.model.specs.Replies.{laidTree, layOutReply, afterSave}
-use Rattle.model.proofs.Sound.{OfForm, sound-file, sound-kind}
+use Rattle.model.specs.Standing.{OfForm}
+use Rattle.model.proofs.Sound.{sound-file, sound-kind}
 use Rattle.theory.proofs.{Forms.formed, Unrolling.unrolled-loop-free, Placing.placed-loop-free, Laid.placed-laid}
 use Rattle.theory.proofs.{Accepted.lay-out-accepted}
 

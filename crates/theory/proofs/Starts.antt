@@ -11,8 +11,9 @@ use Rattle.model.specs.declared.Settings.{Settings}
 use Rattle.model.specs.Runs.{Effect, isBeat, isSave, Step, starts, duration}
 use Rattle.model.specs.Placement.{Fits, InPlace, StepsPlaced}
 use Rattle.model.specs.Timeline.{picks, multiples, EndsInBeat}
+use Rattle.theory.specs.Windows.{round}
 use Rattle.theory.proofs.Clock.{mod-within, mod-over}
-use Rattle.theory.proofs.Windows.{round, window-pos, window-round, round-pos, round-small, window-on}
+use Rattle.theory.proofs.Windows.{window-pos, window-round, round-pos, round-small, window-on}
 
 -- PICKED TICKS
 
@@ -261,6 +262,5 @@ module _ (σ : Settings) (fits : Fits σ) where
 
   pub after-beat : (pre : List Step) (e : Step) (post : List Step) (t : ℕ) → StepsPlaced σ t (pre ++ e ∷ post) → Settled σ t → isSave (e .does) ≡ true
       → EndsInBeat pre
-  after-beat [] e post t p k s =
-      absurd (no-save t 0 k (omega arith) (rw (add-zero t) (eqb-true (t % round σ) (σ .beat) (sym (p .0 .save-at) ∙ s))))
+  after-beat [] e post t p k s = absurd (no-save t 0 k (omega arith) (rw (add-zero t) (eqb-true (t % round σ) (σ .beat) (sym (p .0 .save-at) ∙ s))))
   after-beat (x ∷ xs) e post t p k s = last-beat x xs e post t p s

@@ -19,13 +19,11 @@ use Rattle.theory.proofs.Resuming.{orStart, since, parted}
 
 placed-right : (σ : Settings) (xs ys : List Step) (t : ℕ) → StepsPlaced σ t (xs ++ ys) → StepsPlaced σ (t + duration xs) ys
 placed-right σ [] ys t p = subst (λ (u : ℕ). StepsPlaced σ u ys) (sym (add-zero t)) p
-placed-right σ (e ∷ xs) ys t p =
-    subst (λ (u : ℕ). StepsPlaced σ u ys) (add-assoc t (e .lasts) (duration xs)) (placed-right σ xs ys (t + e .lasts) (p .1))
+placed-right σ (e ∷ xs) ys t p = subst (λ (u : ℕ). StepsPlaced σ u ys) (add-assoc t (e .lasts) (duration xs)) (placed-right σ xs ys (t + e .lasts) (p .1))
 
 valued-right : (f : ℕ → ℕ) (xs ys : List Step) (t : ℕ) → StepsValued f t (xs ++ ys) → StepsValued f (t + duration xs) ys
 valued-right f [] ys t p = subst (λ (u : ℕ). StepsValued f u ys) (sym (add-zero t)) p
-valued-right f (e ∷ xs) ys t p =
-    subst (λ (u : ℕ). StepsValued f u ys) (add-assoc t (e .lasts) (duration xs)) (valued-right f xs ys (t + e .lasts) (p .1))
+valued-right f (e ∷ xs) ys t p = subst (λ (u : ℕ). StepsValued f u ys) (add-assoc t (e .lasts) (duration xs)) (valued-right f xs ys (t + e .lasts) (p .1))
 
 laid-behind : (σ : Settings) (t u : ℕ) (xs ys : List Step) → LaidFrom σ t u (xs ++ ys) → overran xs ≡ false → Settled σ (u + duration xs)
     → LaidFrom σ t (u + duration xs) ys

@@ -11,8 +11,9 @@ use Rattle.model.specs.Runs.{isSave, Step, duration, onVariables}
 use Rattle.model.specs.Stopping.{Image, Saved, none, saved, lastImage}
 use Rattle.model.specs.Placement.{Fits, InPlace, StepsPlaced}
 use Rattle.model.specs.Timeline.{lastSaveEnd}
+use Rattle.theory.specs.Windows.{round}
 use Rattle.theory.proofs.Clock.{mod-within, mod-over}
-use Rattle.theory.proofs.Windows.{round, window-pos, window-round, round-pos, round-small, round-ends}
+use Rattle.theory.proofs.Windows.{window-pos, window-round, round-pos, round-small, round-ends}
 
 -- the tick at the end of the last finished SAVE, or 0
 abbrev pub savedTick : Saved → ℕ

@@ -8,7 +8,8 @@ use Rattle.model.specs.Trees.{Act, set, read, write, check, beat, save, Block, 
 use Rattle.model.specs.Trees.{depth, testRec, actRec}
 use Rattle.model.specs.Refusals.{between, testFits, fieldsFit}
 use Rattle.model.specs.Placement.{command, CommandFree, LoopFree}
-use Rattle.model.proofs.Shapes.{Fit, and-left}
+use Rattle.model.specs.Standing.{Fit}
+use Rattle.model.proofs.Shapes.{and-left}
 use Rattle.theory.proofs.Forms.{Formed, depth-⧺}
 
 -- an act that may be laid out and is no command

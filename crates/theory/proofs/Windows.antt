@@ -1,5 +1,5 @@
 -- Laying out puts each record in place: the commands at the multiples of H, and each step behind them, within its window.
-use Prim.Native.Nat.{ℕ, zero, suc, _+_, _*_, _-_, _%_, _/_, max, _≤_, _<_}
+use Prim.Native.Nat.{ℕ, zero, suc, _+_, _-_, _%_, _/_, max, _≤_, _<_}
 use native.Mathlib.Omega.{arith}
 use native.Mathlib.Nat.{mod-lt, lt-of-not-le, mod-mod-of-dvd, dvd-mul-left, mul-le-mul-left, mul-le-mul-right, mod-eq-of-lt, zero-mod, add-zero, zero-add, add-assoc}
 use mathlib.Core.Path.{_≡_, refl, ap, sym, _∙_}
@@ -12,6 +12,7 @@ use Rattle.model.specs.Times.{ticks, time}
 use Rattle.model.specs.Runs.{nothing, beats, saves, isBeat, isSave}
 use Rattle.model.specs.Layout.{commands, left, before, idle, idles, fill, filled, lay, opened, body}
 use Rattle.model.specs.Placement.{Fits, command, CommandFree, LoopFree, InPlace, Placed}
+use Rattle.theory.specs.Windows.{Free, Past, bound, past, round}
 use Rattle.model.proofs.Trees.{⧺-nil}
 use Rattle.theory.proofs.{Times.time-⧺, Sequences.either}
 use Rattle.theory.proofs.Clock.{mod-within, mod-over, mod-round}
@@ -49,20 +50,6 @@ module _ (σ : Settings) where
   body-longer b p = rw (time-⧺ σ (opened σ b)) (omega (arith, lay-longer b (σ .beat + σ .save) p))
 
 -- IN PLACE
-
--- the ticks of a round, K windows
-abbrev pub round : Settings → ℕ
-round σ = σ .spacing * σ .window
-
--- ε ticks or more past the commands of its window: at the start of each round they are a BEAT and a SAVE, else a BEAT
-pub record Past (σ : Settings) (ε t : ℕ) : Type 0 where
-  pub beaten : σ .beat + ε ≤ t % σ .window
-  pub saved : σ .beat + σ .save + ε ≤ t % round σ
-
--- where a step or a command may start; one tick past the commands after any step, so that filling a side meets the other's end
-pub data Free (σ : Settings) (ε t : ℕ) : Type 0 where
-  bound : t % σ .window ≡ 0 → Free σ ε t
-  past : Past σ ε t → Free σ ε t
 
 -- a step of d ticks may start here, with no command before it
 record MayStart (σ : Settings) (d t : ℕ) : Type 0 where
@@ -175,8 +162,7 @@ module _ (σ : Settings) (fits : Fits σ) where
     leads-⧺ : (a b : Block) (t : ℕ) → Placed σ a t → Leads σ P (t + time σ a) b → Leads σ P t (a ⧺ b)
     leads-⧺ nil b t p k = rw (add-zero t) at k
     leads-⧺ (skip n a) b t p k = leads-skip n t (a ⧺ b) (p .0) (leads-⧺ a b (t + n) (p .1) (rw (← add-assoc t n (time σ a)) at k))
-    leads-⧺ (act r a) b t p k =
-        leads-act r t (a ⧺ b) (p .0) (leads-⧺ a b (t + ticks σ r) (p .1) (rw (← add-assoc t (ticks σ r) (time σ a)) at k))
+    leads-⧺ (act r a) b t p k = leads-act r t (a ⧺ b) (p .0) (leads-⧺ a b (t + ticks σ r) (p .1) (rw (← add-assoc t (ticks σ r) (time σ a)) at k))
     leads-⧺ (branch q x y a) b t p k =
         let e = t + 1 + max (time σ x) (time σ y) in
         let z : t + (1 + max (time σ x) (time σ y) + time σ a) ≡ e + time σ a = omega arith in

@@ -39,17 +39,13 @@ within-nil = record { in-all = λ v. omega arith }
 
 within-spin : (n i : ℕ) (q : Test) {f : Run} {m : ℕ} → Within f m → Within (spin i n q f) (n * (m + 1) + 1)
 within-spin zero i q p = record { in-all = λ v. omega arith }
-within-spin (suc n) i q {f} {m} p = record {
-  in-all = λ v. omega (arith, within-choose q i (within-⊳ p (within-spin n i q p)) within-nil .in-all v);
-}
+within-spin (suc n) i q {f} {m} p = record { in-all = λ v. omega (arith, within-choose q i (within-⊳ p (within-spin n i q p)) within-nil .in-all v) }
 
 module _ (σ : Settings) (ins : List ℕ) where
   pub run-within : (b : Block) (i : ℕ) → Within (run σ ins b i) (time σ b)
   run-within nil i = record { in-all = λ v. omega arith }
   run-within (skip n b) i = within-⊳ (within-single n i (λ v. nothing)) (run-within b (i + 1))
   run-within (act p b) i = within-⊳ (within-single (ticks σ p) i (effect ins p)) (run-within b (i + 1))
-  run-within (branch q a d b) i =
-      within-⊳ (within-choose q i (run-within a (i + 1)) (run-within d (i + 2 + size a))) (run-within b (i + 3 + size a + size d))
+  run-within (branch q a d b) i = within-⊳ (within-choose q i (run-within a (i + 1)) (run-within d (i + 2 + size a))) (run-within b (i + 3 + size a + size d))
   run-within (while q n a b) i = within-⊳ (within-spin n i q (run-within a (i + 1))) (run-within b (i + 2 + size a))
-  run-within (times q n a b) i =
-      within-⊳ (within-⊳ (within-rounds n (run-within a (i + 1))) (within-single 1 i (lastTest q))) (run-within b (i + 2 + size a))
+  run-within (times q n a b) i = within-⊳ (within-⊳ (within-rounds n (run-within a (i + 1))) (within-single 1 i (lastTest q))) (run-within b (i + 2 + size a))

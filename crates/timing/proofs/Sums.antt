@@ -42,10 +42,7 @@ module _ {s : List ℕ} {from to d : ℕ} {σ : Settings} {i sum : ℕ} (C : Cou
         let R = C .rest f F l in
         let e = h f F (R .walk) in
         let all : sum ≡ time σ (F .block) = omega (arith, R .sums, ap (time σ) e) in
-        record {
-          takes = subst (λ (n : ℕ). Gives (σ .period) n (Ticks sum)) all (gives-ticks (σ .period) sum (C .small));
-          goes = λ x. walk-end (R .walk) e;
-        };
+        record { takes = subst (λ (n : ℕ). Gives (σ .period) n (Ticks sum)) all (gives-ticks (σ .period) sum (C .small)); goes = λ x. walk-end (R .walk) e };
   }
 
   pub counted-closed : closesBlock (kindAt s i) ≡ true → SequenceTimes s from to d σ (record { time = Ticks sum; next = i })

@@ -14,5 +14,4 @@ pub equalise-spec : {M : Type 1} → statement M
 equalise-spec =
     tie.close (tie.spec (search needs) (search needs) (search needs)
     (λ c κs. sound-task _ _ _ (subst (Reads _ _ _) (c .before .before .read3 .given .1) (c .before .before .before .before .read .ensures)))
-    (λ c. read-refused _ _ _ _ (subst (Reads _ _ _) (c .before .read2 .given .1) (c .before .before .before .read .ensures))) (search needs)
-    returns-2)
+    (λ c. read-refused _ _ _ _ (subst (Reads _ _ _) (c .before .read2 .given .1) (c .before .before .before .read .ensures))) (search needs) returns-2)

@@ -53,5 +53,5 @@ returns-3 c =
 
 pub equalise-sound-spec : {M : Type 1} → statement M
 equalise-sound-spec =
-    tie.close (tie.spec (λ c κs. let start = c .before .before .before in task-asks (start .pre) (length-replicate {A = ℕ} 512 0))
-    (search needs) enum-told returns padded-records-requires (search needs) returns-2 write-block-requires (search needs) returns-3)
+    tie.close (tie.spec (λ c κs. let start = c .before .before .before in task-asks (start .pre) (length-replicate {A = ℕ} 512 0)) (search needs) enum-told
+    returns padded-records-requires (search needs) returns-2 write-block-requires (search needs) returns-3)

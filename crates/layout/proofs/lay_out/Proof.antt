@@ -18,5 +18,4 @@ returns-2 c =
 pub lay-out-spec : {M : Type 1} → statement M
 lay-out-spec =
     tie.close (tie.spec (search needs) (search needs) (search needs) lay-out-sound-requires
-    (λ c. read-refused _ _ _ _ (subst (Reads _ _ _) (c .before .read2 .given .1) (c .before .before .before .read .ensures))) (search needs)
-    returns-2)
+    (λ c. read-refused _ _ _ _ (subst (Reads _ _ _) (c .before .read2 .given .1) (c .before .before .before .read .ensures))) (search needs) returns-2)

@@ -74,11 +74,10 @@ returns-4 c =
 
 pub lay-out-sound-spec : {M : Type 1} → statement M
 lay-out-sound-spec =
-    tie.close (tie.spec (search needs) (λ c. short-window _ _ _ (sym (c .before .short-window .ensures) ∙ c .if1 .taken)) (search needs)
-    measure-file-requires (search needs) (search needs) (search needs) (search needs) (search needs) (search needs) returns-2 (search needs)
-    (search needs) (search needs) (search needs) (λ c. omega (arith, few-counted (timed (c .before))))
-    (λ c. omega (arith, few-counted (timed (c .before)))) (search needs)
+    tie.close (tie.spec (search needs) (λ c. short-window _ _ _ (sym (c .before .short-window .ensures) ∙ c .if1 .taken)) (search needs) measure-file-requires
+    (search needs) (search needs) (search needs) (search needs) (search needs) (search needs) returns-2 (search needs) (search needs) (search needs)
+    (search needs) (λ c. omega (arith, few-counted (timed (c .before)))) (λ c. omega (arith, few-counted (timed (c .before)))) (search needs)
     (λ c. no-room (timed (c .before .before .before)) _ (sym (c .before .no-room .ensures) ∙ c .if3 .taken)) write-file-requires
     (λ c. omega (arith, few-counted (timed (c .before .before .before .before .before .before .before .before))))
-    (λ c. let t = timed (c .before .before .before .before .before .before .before .before) in omega (arith, t .short, t .settings .short))
-    (search needs) returns-4)
+    (λ c. let t = timed (c .before .before .before .before .before .before .before .before) in omega (arith, t .short, t .settings .short)) (search needs)
+    returns-4)

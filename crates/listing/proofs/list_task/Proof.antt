@@ -43,5 +43,4 @@ returns-3 c =
 
 pub list-task-spec : {M : Type 1} → statement M
 list-task-spec =
-    tie.close (tie.spec (search needs) (search needs) enum-told returns (search needs) (search needs) (search needs) returns-2
-    start-block-requires returns-3)
+    tie.close (tie.spec (search needs) (search needs) enum-told returns (search needs) (search needs) (search needs) returns-2 start-block-requires returns-3)

@@ -23,5 +23,5 @@ returns-2 c =
 
 pub restart-spec : {M : Type 1} → statement M
 restart-spec =
-    tie.close (tie.spec (search needs) (search needs) (search needs) (search needs) run-whole-requires returns (search needs) (search needs)
-    (search needs) returns-2)
+    tie.close (tie.spec (search needs) (search needs) (search needs) (search needs) run-whole-requires returns (search needs) (search needs) (search needs)
+    returns-2)

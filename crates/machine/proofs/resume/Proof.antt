@@ -29,5 +29,5 @@ returns-2 c =
 
 pub resume-spec : {M : Type 1} → statement M
 resume-spec =
-    tie.close (tie.spec (search needs) (search needs) (search needs) (search needs) resume-ready-requires returns (search needs)
-    (search needs) (search needs) returns-2)
+    tie.close (tie.spec (search needs) (search needs) (search needs) (search needs) resume-ready-requires returns (search needs) (search needs) (search needs)
+    returns-2)

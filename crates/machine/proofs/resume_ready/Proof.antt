@@ -78,6 +78,6 @@ returns-3 c =
 
 pub resume-ready-spec : {M : Type 1} → statement M
 resume-ready-spec =
-    tie.close (tie.spec (search needs) (search needs) (search needs) cast-index (search needs) (search needs) returns returns-2
-    (search needs) (search needs) (search needs) (search needs) (search needs) (search needs) load-outputs-requires add-limit (search needs)
-    run-from-requires (search needs) store-requires (search needs) (search needs) (search needs) returns-3)
+    tie.close (tie.spec (search needs) (search needs) (search needs) cast-index (search needs) (search needs) returns returns-2 (search needs) (search needs)
+    (search needs) (search needs) (search needs) (search needs) load-outputs-requires add-limit (search needs) run-from-requires (search needs) store-requires
+    (search needs) (search needs) (search needs) returns-3)

@@ -36,5 +36,5 @@ returns-2 c =
 
 pub run-spec : {M : Type 1} → statement M
 run-spec =
-    tie.close (tie.spec (search needs) (search needs) (search needs) (search needs) clear-requires run-whole-requires returns (search needs)
-    (search needs) (search needs) returns-2)
+    tie.close (tie.spec (search needs) (search needs) (search needs) (search needs) clear-requires run-whole-requires returns (search needs) (search needs)
+    (search needs) returns-2)

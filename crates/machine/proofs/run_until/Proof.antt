@@ -29,5 +29,5 @@ returns-2 c =
 
 pub run-until-spec : {M : Type 1} → statement M
 run-until-spec =
-    tie.close (tie.spec (search needs) (search needs) (search needs) (search needs) run-until-ready-requires returns (search needs)
-    (search needs) (search needs) (search needs) returns-2)
+    tie.close (tie.spec (search needs) (search needs) (search needs) (search needs) run-until-ready-requires returns (search needs) (search needs)
+    (search needs) (search needs) returns-2)

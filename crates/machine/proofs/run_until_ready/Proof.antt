@@ -5,11 +5,6 @@ use Rattle.machine.proofs.Whole.{left-bytes, lent, whole-started, stop-
 use Rattle.machine.proofs.run_until_ready.Statement.{statement}
 use Rattle.machine.proofs.run_until_ready.Tie as tie
 
-run-from-requires : tie.Need-run-from-requires
-run-from-requires c κs =
-    let w = c .before .before .before .before .before .before .before .before .before .before .before in
-    whole-started (w .pre .0) (search needs)
-
 returns : tie.Need-returns
 returns c =
     let w = c .before .before .before .before .before .before in
@@ -46,6 +41,7 @@ returns-2 c =
 pub run-until-ready-spec : {M : Type 1} → statement M
 run-until-ready-spec =
     tie.close (tie.spec (search needs)
-    (λ c κs. let w = c .before .before .before .before .before .before .before .before in (refl, lent (w .pre .0) .variables))
-    (search needs) run-from-requires (search needs) returns (search needs) store-requires (search needs) store-image-requires (search needs)
-    (search needs) (search needs) (search needs) returns-2)
+    (λ c κs. let w = c .before .before .before .before .before .before .before .before in (refl, lent (w .pre .0) .variables)) (search needs)
+    (λ c κs. let w = c .before .before .before .before .before .before .before .before .before .before .before in whole-started (w .pre .0) (search needs))
+    (search needs) returns (search needs) store-requires (search needs) store-image-requires (search needs) (search needs) (search needs) (search needs)
+    returns-2)

@@ -41,7 +41,5 @@ returns c =
 
 pub run-whole-spec : {M : Type 1} → statement M
 run-whole-spec =
-    tie.close (tie.spec (search needs)
-    (λ c κs. let w = c .before .before .before .before .before .before .before in (refl, lent ((w .pre)) .variables)) (search needs)
-    load-outputs-requires (search needs) run-from-requires (search needs) store-requires (search needs) (search needs) (search needs)
-    returns)
+    tie.close (tie.spec (search needs) (λ c κs. let w = c .before .before .before .before .before .before .before in (refl, lent ((w .pre)) .variables))
+    (search needs) load-outputs-requires (search needs) run-from-requires (search needs) store-requires (search needs) (search needs) (search needs) returns)

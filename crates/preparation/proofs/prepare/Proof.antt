@@ -35,5 +35,5 @@ returns-2 c =
 
 pub prepare-spec : {M : Type 1} → statement M
 prepare-spec =
-    tie.close (tie.spec (search needs) (search needs) (search needs) (search needs) array-share-prefix-equalised slice-aggregate-lay-out
-    (search needs) returns (search needs) returns-2)
+    tie.close (tie.spec (search needs) (search needs) (search needs) (search needs) array-share-prefix-equalised slice-aggregate-lay-out (search needs) returns
+    (search needs) returns-2)

@@ -53,7 +53,6 @@ slice-aggregate-write-all c =
 
 pub print-listing-spec : {M : Type 1} → statement M
 print-listing-spec =
-    tie.close (tie.spec (search needs) (search needs) (search needs) (search needs) (search needs) (search needs) (search needs)
-    (search needs) (search needs) (search needs) (search needs) array-share-prefix-settings slice-aggregate-render array-share-prefix-task
-    slice-aggregate-render-2 (search needs) array-share-prefix-page slice-aggregate-write-all (search needs) (search needs) (search needs)
-    (search needs) (search needs))
+    tie.close (tie.spec (search needs) (search needs) (search needs) (search needs) (search needs) (search needs) (search needs) (search needs) (search needs)
+    (search needs) (search needs) array-share-prefix-settings slice-aggregate-render array-share-prefix-task slice-aggregate-render-2 (search needs)
+    array-share-prefix-page slice-aggregate-write-all (search needs) (search needs) (search needs) (search needs) (search needs))

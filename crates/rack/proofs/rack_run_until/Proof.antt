@@ -17,5 +17,4 @@ returns c =
     (p .0, p .1, e .2 ∙ ap (λ (f : Form). stopImage (lent f) (now (a .image)) (a .stop)) form)
 
 pub rack-run-until-spec : {M : Type 1} → statement M
-rack-run-until-spec =
-    tie.close (tie.spec (search needs) (search needs) (search needs) (search needs) (search needs) (search needs) (search needs) returns)
+rack-run-until-spec = tie.close (tie.spec (search needs) (search needs) (search needs) (search needs) (search needs) (search needs) (search needs) returns)

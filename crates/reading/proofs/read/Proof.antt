@@ -21,5 +21,4 @@ returns-3 c =
 pub read-spec : {M : Type 1} → statement M
 read-spec =
     tie.close (tie.spec (search needs) (search needs) (search needs) (search needs) (search needs) (search needs)
-    (λ c. settings-refused _ _ _ _ (subst (Decodes _) (c .before .decoded .given .1) (c .before .before .before .decode .ensures)))
-    returns-2 returns-3)
+    (λ c. settings-refused _ _ _ _ (subst (Decodes _) (c .before .decoded .given .1) (c .before .before .before .decode .ensures))) returns-2 returns-3)

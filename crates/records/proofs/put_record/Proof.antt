@@ -33,9 +33,8 @@ returns c =
 
 pub put-record-spec : {M : Type 1} → statement M
 put-record-spec =
-    tie.close (tie.spec (search needs) (λ c. simp length-set (omega arith)) (λ c. simp length-set (omega arith))
-    (λ c. simp length-set (omega arith)) (λ c. simp length-set (omega arith)) (λ c. simp length-set (omega arith)) (search needs)
-    (λ c κs. rw lent-length (simp length-set (omega arith))) (λ c. rw (c .before .out .given .1) (simp length-set (omega arith)))
-    (λ c. rw (c .before .out .given .1) (simp length-set (omega arith))) (search needs)
+    tie.close (tie.spec (search needs) (λ c. simp length-set (omega arith)) (λ c. simp length-set (omega arith)) (λ c. simp length-set (omega arith))
+    (λ c. simp length-set (omega arith)) (λ c. simp length-set (omega arith)) (search needs) (λ c κs. rw lent-length (simp length-set (omega arith)))
+    (λ c. rw (c .before .out .given .1) (simp length-set (omega arith))) (λ c. rw (c .before .out .given .1) (simp length-set (omega arith))) (search needs)
     (λ c κs. rw (lent-length, c .before .before .out .given .1) (simp length-set (omega arith)))
     (λ c. c .before .out2 .given .1 ∙ c .before .before .before .before .before .out .given .1 ∙ simp length-set) returns)

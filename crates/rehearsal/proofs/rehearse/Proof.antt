@@ -42,5 +42,5 @@ returns-3 c =
 
 pub rehearse-spec : {M : Type 1} → statement M
 rehearse-spec =
-    tie.close (tie.spec (search needs) (search needs) (search needs) (search needs) (search needs) returns array-share-prefix-laid
-    slice-aggregate-rehearse-laid (λ c κs. good-sets (c .before .before .bad-sets .ensures) (c .before .if1 .left)) returns-2 returns-3)
+    tie.close (tie.spec (search needs) (search needs) (search needs) (search needs) (search needs) returns array-share-prefix-laid slice-aggregate-rehearse-laid
+    (λ c κs. good-sets (c .before .before .bad-sets .ensures) (c .before .if1 .left)) returns-2 returns-3)

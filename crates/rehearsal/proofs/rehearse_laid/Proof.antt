@@ -41,5 +41,5 @@ returns-3 c =
 
 pub rehearse-laid-spec : {M : Type 1} → statement M
 rehearse-laid-spec =
-    tie.close (tie.spec (search needs) (search needs) (search needs) (search needs) (search needs) (search needs) (search needs)
-    (search needs) enum-told (search needs) (search needs) (search needs) returns returns-2 returns-3)
+    tie.close (tie.spec (search needs) (search needs) (search needs) (search needs) (search needs) (search needs) (search needs) (search needs) enum-told
+    (search needs) (search needs) (search needs) returns returns-2 returns-3)

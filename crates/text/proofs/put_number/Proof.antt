@@ -18,5 +18,5 @@ returns c =
 pub put-number-spec : {M : Type 1} → statement M
 put-number-spec =
     tie.close (tie.spec (search needs) (search needs) (search needs)
-    (λ c κs. let e = c .before .before .decimal .ensures in let h = few-digits _ _ (omega arith) (e .1 .0 .2) in omega (arith, e .0 .0, e .0 .1))
-    (search needs) returns)
+    (λ c κs. let e = c .before .before .decimal .ensures in let h = few-digits _ _ (omega arith) (e .1 .0 .2) in omega (arith, e .0 .0, e .0 .1)) (search needs)
+    returns)

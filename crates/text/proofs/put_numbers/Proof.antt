@@ -33,6 +33,5 @@ returns c =
 
 pub put-numbers-spec : {M : Type 1} → statement M
 put-numbers-spec =
-    tie.close (tie.spec Inv-loop μ-loop (λ c. (put-none _ _, omega arith, omega arith, refl)) (search needs) (omega arith) (omega arith)
-    (omega arith) (λ c κs. omega (arith, c .before .before .before .put-text .ensures .ends)) (omega arith) (omega arith) loop-again
-    (search needs) returns)
+    tie.close (tie.spec Inv-loop μ-loop (λ c. (put-none _ _, omega arith, omega arith, refl)) (search needs) (omega arith) (omega arith) (omega arith)
+    (λ c κs. omega (arith, c .before .before .before .put-text .ensures .ends)) (omega arith) (omega arith) loop-again (search needs) returns)

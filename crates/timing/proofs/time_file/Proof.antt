@@ -24,5 +24,4 @@ returns-3 c =
 pub time-file-spec : {M : Type 1} → statement M
 time-file-spec =
     tie.close (tie.spec (search needs) (search needs) (search needs) (search needs) (search needs) enum-told
-    (λ c. refused-reply _ _ _ _ (subst (Reads _ _ _) (c .before .read2 .given .1) (c .before .before .before .read .ensures))) returns-2
-    returns-3)
+    (λ c. refused-reply _ _ _ _ (subst (Reads _ _ _) (c .before .read2 .given .1) (c .before .before .before .read .ensures))) returns-2 returns-3)

@@ -20,12 +20,7 @@ timed : (c : lts.After-within (step-ticks-reads.Asked, step-ticks-reads.Learnt, 
 timed c = subst (λ (t : ℕ). Gives (c .before .before .args .rack .period) t (c .within .result)) (c .before .step-ticks .ensures) (c .within .ensures)
 
 returns : tie.Need-returns
-returns c = record {
-  takes = timed (c .before .before .before);
-  goes = refl;
-  skips = λ k. (refl, refl);
-  acts = λ k. absurd (k (c .before .if1 .taken));
-}
+returns c = record { takes = timed (c .before .before .before); goes = refl; skips = λ k. (refl, refl); acts = λ k. absurd (k (c .before .if1 .taken)) }
 
 returns-2 : tie.Need-returns-2
 returns-2 c = record {

@@ -53,9 +53,8 @@ returns c =
 pub put-loop-tail-spec : {M : Type 1} → statement M
 put-loop-tail-spec =
     tie.close (tie.spec (search needs) (search needs) (search needs) (search needs) put-skip-requires
-    (λ c. omega (arith, part-room (skipped (c .before .before)))) (λ c. part-at (skipped (c .before .before)))
-    (λ c. part-at (skipped (c .before .before))) (search needs)
-    (λ c κs. part-fits (recordBytes endRec) (recordBytes endRec) (skipped (c .before .before .before)))
-    (λ c. omega (arith, part-room (ended (c .before .before)))) (λ c. part-at (ended (c .before .before)))
-    (λ c. part-at (ended (c .before .before))) (search needs) (λ c κs. part-fits-last (ended (c .before .before .before)))
+    (λ c. omega (arith, part-room (skipped (c .before .before)))) (λ c. part-at (skipped (c .before .before))) (λ c. part-at (skipped (c .before .before)))
+    (search needs) (λ c κs. part-fits (recordBytes endRec) (recordBytes endRec) (skipped (c .before .before .before)))
+    (λ c. omega (arith, part-room (ended (c .before .before)))) (λ c. part-at (ended (c .before .before))) (λ c. part-at (ended (c .before .before)))
+    (search needs) (λ c κs. part-fits-last (ended (c .before .before .before)))
     (λ c. omega (arith, part-room (ended (c .before .before .before .before .before .before)))) (search needs) returns)

@@ -483,9 +483,6 @@ step-begun t c F = begun F (c .before .before .before .before .record-at .ensure
 write-statement-add-wait : (t : ℕ) → write-statement-lts.Need-add-wait (write-statement-claims t) (write-statement-at t) write-statement.Post
 write-statement-add-wait t c = omega (arith, skip-short (c .before .before .before .before .before .before .pre .1) (c .before .before .before .record-at .ensures) (c .before .if1 .taken))
 
-write-statement-put-skip-requires : (t : ℕ) → write-statement-lts.Need-put-skip-requires (write-statement-claims t) (write-statement-at t) write-statement.Post
-write-statement-put-skip-requires t c κs = skip-fits (c .before .before .before .before .before .before .pre .1) (c .before .before .before .record-at .ensures) (c .before .if1 .left)
-
 write-statement-sub-write-inner : (t : ℕ) → write-statement-lts.Need-sub-write-inner (write-statement-claims t) (write-statement-at t) write-statement.Post
 write-statement-sub-write-inner t c =
     let start = c .before .before .before .before .before .before .before .before .before .before .before in
@@ -571,40 +568,35 @@ write-statement-returns-3 t c =
 pub +write-block+write-branch+write-inner+write-loop+write-statement-spec : {M : Type 1} → statement M
 +write-block+write-branch+write-inner+write-loop+write-statement-spec =
     close μ-write-block μ-write-branch μ-write-inner μ-write-loop μ-write-statement
-    (λ t. write-block-lts.spec (write-block-claims t) (write-block-at t) write-block.Post write-block-Inv-loop write-block-μ-loop
-    (λ c. λ F. writing-start F) (omega arith) (search needs)
+    (λ t. write-block-lts.spec (write-block-claims t) (write-block-at t) write-block.Post write-block-Inv-loop write-block-μ-loop (λ c. λ F. writing-start F)
+    (omega arith) (search needs)
     (λ c. part-at (c .before .before .before .before .loop .inv (c .before .before .before .before .before .before .before .pre .1) .part))
-    (λ c. part-at (c .before .before .before .before .loop .inv (c .before .before .before .before .before .before .before .pre .1) .part))
-    (search needs) (write-block-write-statement-requires t) (write-block-add-at t) (write-block-loop-less t) (λ c. λ F. turned t c F)
+    (λ c. part-at (c .before .before .before .before .loop .inv (c .before .before .before .before .before .before .before .pre .1) .part)) (search needs)
+    (write-block-write-statement-requires t) (write-block-add-at t) (write-block-loop-less t) (λ c. λ F. turned t c F)
     (λ c. part-at (c .before .loop .inv (c .before .before .before .before .pre .1) .part))
     (λ c. part-at (c .before .loop .inv (c .before .before .before .before .pre .1) .part)) (search needs)
-    (λ c. omega (arith, c .before .before .loop .inv (c .before .before .before .before .before .pre .1) .within))
-    (write-block-put-skip-requires t) (write-block-add-bytes t) (write-block-same-length t) (write-block-returns t))
+    (λ c. omega (arith, c .before .before .loop .inv (c .before .before .before .before .before .pre .1) .within)) (write-block-put-skip-requires t)
+    (write-block-add-bytes t) (write-block-same-length t) (write-block-returns t))
     (λ t. write-branch-lts.spec (write-branch-claims t) (write-branch-at t) write-branch.Post
-    (λ c κs. let start = c .before .before .before in test-fits (start .pre .1 .0) (start .pre .1 .1) (start .pre .1 .2)) (omega arith)
-    (omega arith) (omega arith)
-    (λ c. part-at (branch-test t (c .before .before .before) (c .before .before .before .before .before .before .before .pre .1 .0) .part))
-    (λ c. part-at (branch-test t (c .before .before .before) (c .before .before .before .before .before .before .before .pre .1 .0) .part))
-    (search needs) (write-branch-write-block-requires t) (write-branch-add-middle t) (write-branch-sub-put-bare t)
-    (write-branch-part-put-bare-start t) (search needs) (write-branch-put-bare-requires t) (write-branch-add-start t)
-    (write-branch-add-write-block-2 t) (omega arith) (omega arith) (omega arith) (write-branch-sub-write-block-2 t)
-    (write-branch-part-write-block-start-2 t) (search needs) (write-branch-write-block-requires-2 t) (write-branch-add-last t)
-    (write-branch-sub-put-bare-2 t) (write-branch-part-put-bare-start-2 t) (search needs) (write-branch-put-bare-requires-2 t)
+    (λ c κs. let start = c .before .before .before in test-fits (start .pre .1 .0) (start .pre .1 .1) (start .pre .1 .2)) (omega arith) (omega arith)
+    (omega arith) (λ c. part-at (branch-test t (c .before .before .before) (c .before .before .before .before .before .before .before .pre .1 .0) .part))
+    (λ c. part-at (branch-test t (c .before .before .before) (c .before .before .before .before .before .before .before .pre .1 .0) .part)) (search needs)
+    (write-branch-write-block-requires t) (write-branch-add-middle t) (write-branch-sub-put-bare t) (write-branch-part-put-bare-start t) (search needs)
+    (write-branch-put-bare-requires t) (write-branch-add-start t) (write-branch-add-write-block-2 t) (omega arith) (omega arith) (omega arith)
+    (write-branch-sub-write-block-2 t) (write-branch-part-write-block-start-2 t) (search needs) (write-branch-write-block-requires-2 t)
+    (write-branch-add-last t) (write-branch-sub-put-bare-2 t) (write-branch-part-put-bare-start-2 t) (search needs) (write-branch-put-bare-requires-2 t)
     (write-branch-add-t15 t) (write-branch-add-t30 t) (write-branch-same-length t) (write-branch-returns t))
-    (λ t. write-inner-lts.spec (write-inner-claims t) (write-inner-at t) write-inner.Post (write-inner-write-branch-requires t)
-    (search needs) (λ c. c .before .before .write-branch .ensures) (write-inner-write-loop-requires t) (search needs)
-    (λ c. c .before .before .write-loop .ensures))
+    (λ t. write-inner-lts.spec (write-inner-claims t) (write-inner-at t) write-inner.Post (write-inner-write-branch-requires t) (search needs)
+    (λ c. c .before .before .write-branch .ensures) (write-inner-write-loop-requires t) (search needs) (λ c. c .before .before .write-loop .ensures))
     (λ t. write-loop-lts.spec (write-loop-claims t) (write-loop-at t) write-loop.Post
-    (λ c κs. let start = c .before .before .before in head-fits (start .pre .1 .0) (start .pre .1 .1) (start .pre .1 .2) (start .pre .1 .3))
-    (omega arith) (λ c. part-at (loop-head t (c .before .before) (c .before .before .before .before .before .before .pre .1 .0) .part))
+    (λ c κs. let start = c .before .before .before in head-fits (start .pre .1 .0) (start .pre .1 .1) (start .pre .1 .2) (start .pre .1 .3)) (omega arith)
+    (λ c. part-at (loop-head t (c .before .before) (c .before .before .before .before .before .before .pre .1 .0) .part))
     (λ c. part-at (loop-head t (c .before .before) (c .before .before .before .before .before .before .pre .1 .0) .part)) (search needs)
-    (write-loop-write-block-requires t) (write-loop-add-at t) (write-loop-sub-put-loop-tail t) (write-loop-part-put-loop-tail-start t)
-    (search needs) (omega arith) (omega arith) (write-loop-put-loop-tail-requires t) (write-loop-add-bytes t) (write-loop-add-t13 t)
-    (search needs) (write-loop-returns t))
-    λ t. write-statement-lts.spec (write-statement-claims t) (write-statement-at t) write-statement.Post (omega arith)
-    (write-statement-add-wait t) (omega arith)
-    (λ c. record { right = λ F. skip-written F (c .before .before .before .record-at .ensures) (c .before .if1 .taken) })
-    (write-statement-put-skip-requires t) (search needs) (write-statement-sub-write-inner t) (write-statement-part-write-inner-start t)
-    (search needs) (write-statement-write-inner-requires t) (write-statement-add-t17 t) (search needs) (write-statement-returns-2 t)
-    (write-statement-sub-put-record t) (write-statement-part-put-record-start t) (search needs) (write-statement-put-record-requires t)
-    (omega arith) (write-statement-add-t25 t) (search needs) (write-statement-returns-3 t)
+    (write-loop-write-block-requires t) (write-loop-add-at t) (write-loop-sub-put-loop-tail t) (write-loop-part-put-loop-tail-start t) (search needs)
+    (omega arith) (omega arith) (write-loop-put-loop-tail-requires t) (write-loop-add-bytes t) (write-loop-add-t13 t) (search needs) (write-loop-returns t))
+    λ t. write-statement-lts.spec (write-statement-claims t) (write-statement-at t) write-statement.Post (omega arith) (write-statement-add-wait t)
+    (omega arith) (λ c. record { right = λ F. skip-written F (c .before .before .before .record-at .ensures) (c .before .if1 .taken) })
+    (λ c κs. skip-fits (c .before .before .before .before .before .before .pre .1) (c .before .before .before .record-at .ensures) (c .before .if1 .left))
+    (search needs) (write-statement-sub-write-inner t) (write-statement-part-write-inner-start t) (search needs) (write-statement-write-inner-requires t)
+    (write-statement-add-t17 t) (search needs) (write-statement-returns-2 t) (write-statement-sub-put-record t) (write-statement-part-put-record-start t)
+    (search needs) (write-statement-put-record-requires t) (omega arith) (write-statement-add-t25 t) (search needs) (write-statement-returns-3 t)

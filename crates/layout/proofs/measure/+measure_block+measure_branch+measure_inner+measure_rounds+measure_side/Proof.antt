@@ -595,24 +595,22 @@ measure-side-returns t c = clocking-empty ((c .before .before .before .before .p
 pub +measure-block+measure-branch+measure-inner+measure-rounds+measure-side-spec : {M : Type 1} → statement M
 +measure-block+measure-branch+measure-inner+measure-rounds+measure-side-spec =
     close μ-measure-block μ-measure-branch μ-measure-inner μ-measure-rounds μ-measure-side
-    (λ t. measure-block-lts.spec (measure-block-claims t) (measure-block-at t) measure-block.Post measure-block-Inv-loop
-    measure-block-μ-loop (search needs) (λ c. clocking-start ((c .before .before .before .pre) .1) ((c .load) .ensures))
+    (λ t. measure-block-lts.spec (measure-block-claims t) (measure-block-at t) measure-block.Post measure-block-Inv-loop measure-block-μ-loop (search needs)
+    (λ c. clocking-start ((c .before .before .before .pre) .1) ((c .load) .ensures))
     (λ c κs. omega (arith, (c .before .loop) .inv .measuring .passing .walk .rest .inside)) (search needs)
     (λ c κs. store-fits ((c .before .before .before .before .before .loop) .inv)) (measure-block-returns t) (search needs)
-    (λ c κs. store-fits ((c .before .before .before .before .before .before .before .loop) .inv)) (measure-block-measure-inner-requires t)
-    (search needs) (search needs) (measure-block-returns-2 t) (measure-block-loop-less t) (measure-block-loop-again t)
-    (measure-block-measure-step-requires t) (measure-block-add-next t) (search needs) (measure-block-store-requires-3 t)
-    (measure-block-returns-3 t)
-    (λ c. omega (arith, (c .before .before .before .before .before .before .before .before .before .loop-test) .taken))
-    (measure-block-loop-again-2 t) (λ c κs. store-fits ((c .before .before .loop) .inv))
+    (λ c κs. store-fits ((c .before .before .before .before .before .before .before .loop) .inv)) (measure-block-measure-inner-requires t) (search needs)
+    (search needs) (measure-block-returns-2 t) (measure-block-loop-less t) (measure-block-loop-again t) (measure-block-measure-step-requires t)
+    (measure-block-add-next t) (search needs) (measure-block-store-requires-3 t) (measure-block-returns-3 t)
+    (λ c. omega (arith, (c .before .before .before .before .before .before .before .before .before .loop-test) .taken)) (measure-block-loop-again-2 t)
+    (λ c κs. store-fits ((c .before .before .loop) .inv))
     (λ c. clocking-ended ((c .before .before .before .loop) .inv) ((c .store4) .ensures) ((c .before .before .loop-test) .left)))
     (λ t. measure-branch-lts.spec (measure-branch-claims t) (measure-branch-at t) measure-branch.Post (search needs) (search needs)
-    (measure-branch-stepped-requires t) (measure-branch-store-requires t) (search needs) (measure-branch-returns t)
-    (measure-branch-place-requires t) (measure-branch-add-measure-side t) (measure-branch-measure-side-requires t) (search needs)
-    (search needs) (measure-branch-returns-2 t) (search needs) (measure-branch-store-requires-2 t) (measure-branch-add-measure-side-2 t)
-    (measure-branch-measure-side-requires-2 t) (search needs) (search needs) (measure-branch-returns-3 t) (search needs)
-    (measure-branch-meet-requires t) (measure-branch-store-requires-3 t) (search needs) (measure-branch-add-result t)
-    (measure-branch-returns-4 t))
+    (measure-branch-stepped-requires t) (measure-branch-store-requires t) (search needs) (measure-branch-returns t) (measure-branch-place-requires t)
+    (measure-branch-add-measure-side t) (measure-branch-measure-side-requires t) (search needs) (search needs) (measure-branch-returns-2 t) (search needs)
+    (measure-branch-store-requires-2 t) (measure-branch-add-measure-side-2 t) (measure-branch-measure-side-requires-2 t) (search needs) (search needs)
+    (measure-branch-returns-3 t) (search needs) (measure-branch-meet-requires t) (measure-branch-store-requires-3 t) (search needs)
+    (measure-branch-add-result t) (measure-branch-returns-4 t))
     (λ t. measure-inner-lts.spec (measure-inner-claims t) (measure-inner-at t) measure-inner.Post
     (λ c κs. omega (arith, (c .before .pre) .1 .0 .statement .here .early, (c .before .pre) .1 .0 .statement .here .file .inside))
     (measure-inner-measure-branch-requires t) (λ c. (c .measure-branch) .ensures) (measure-inner-add-idle-rounds t) (search needs)
@@ -620,13 +618,11 @@ pub +measure-block+measure-branch+measure-inner+measure-rounds+measure-side-spec
     (λ c κs. idle-laying (c .before .before .before .before .before .before .before .before .before .before .pre .1 .0) (c .load .ensures))
     (measure-inner-store-requires t) (measure-inner-add-result t) (measure-inner-returns-2 t) (measure-inner-measure-rounds-requires t)
     (λ c. (c .measure-rounds) .ensures))
-    (λ t. measure-rounds-lts.spec (measure-rounds-claims t) (measure-rounds-at t) measure-rounds.Post measure-rounds-Inv-loop
-    measure-rounds-μ-loop
+    (λ t. measure-rounds-lts.spec (measure-rounds-claims t) (measure-rounds-at t) measure-rounds.Post measure-rounds-Inv-loop measure-rounds-μ-loop
     (λ c. omega (arith, (c .before .pre) .1 .0 .statement .here .early, (c .before .pre) .1 .0 .statement .here .file .inside))
-    (λ c. rounds-start ((c .before .pre) .1 .0) ((c .before .pre) .1 .1) ((c .before .pre) .1 .2)) (measure-rounds-measure-block-requires t)
-    (search needs) (search needs) (measure-rounds-returns t) (omega arith) (omega arith) (measure-rounds-loop-again t) (search needs)
-    (search needs) (measure-rounds-stepped-requires t) (measure-rounds-store-requires t) (measure-rounds-add-result t)
-    (measure-rounds-returns-2 t))
+    (λ c. rounds-start ((c .before .pre) .1 .0) ((c .before .pre) .1 .1) ((c .before .pre) .1 .2)) (measure-rounds-measure-block-requires t) (search needs)
+    (search needs) (measure-rounds-returns t) (omega arith) (omega arith) (measure-rounds-loop-again t) (search needs) (search needs)
+    (measure-rounds-stepped-requires t) (measure-rounds-store-requires t) (measure-rounds-add-result t) (measure-rounds-returns-2 t))
     λ t. measure-side-lts.spec (measure-side-claims t) (measure-side-at t) measure-side.Post
     (λ c κs. omega (arith, (c .before .pre) .1 .1, (c .before .pre) .1 .0 .entered .file .inside)) (search needs) (measure-side-returns t)
     (λ c κs. (omega arith, (c .before .before .before .before .before .before .pre) .1 .0)) (λ c. (c .measure-block) .ensures)

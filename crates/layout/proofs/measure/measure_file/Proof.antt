@@ -35,5 +35,4 @@ returns-2 c =
 
 pub measure-file-spec : {M : Type 1} → statement M
 measure-file-spec =
-    tie.close (tie.spec (search needs) (search needs) commanded-requires (search needs) returns (search needs) measure-block-requires
-    (search needs) returns-2)
+    tie.close (tie.spec (search needs) (search needs) commanded-requires (search needs) returns (search needs) measure-block-requires (search needs) returns-2)

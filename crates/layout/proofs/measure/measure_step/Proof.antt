@@ -14,5 +14,5 @@ returns-2 c = step-stepped ((c .before .before .before .before .settings-in) .en
 pub measure-step-spec : {M : Type 1} → statement M
 measure-step-spec =
     tie.close (tie.spec (search needs) (λ c κs. step-laying ((c .before .before .settings-in) .ensures) (c .before .before .before .pre))
-    (λ c. step-skipped ((c .before .before .before .settings-in) .ensures) ((c .before .if1) .taken) (c .filled .ensures)) (search needs)
-    stepped-requires returns-2)
+    (λ c. step-skipped ((c .before .before .before .settings-in) .ensures) ((c .before .if1) .taken) (c .filled .ensures)) (search needs) stepped-requires
+    returns-2)

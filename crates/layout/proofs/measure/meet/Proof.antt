@@ -15,6 +15,5 @@ returns-2 c = subst (Meets _ _ _) (sym (c .met2 .ensures)) (second-early (c .bef
 
 pub meet-spec : {M : Type 1} → statement M
 meet-spec =
-    tie.close (tie.spec (search needs)
-    (λ c κs. first-can (c .before .before .before .before .pre) (c .back .ensures) (c .before .if1 .taken)) (search needs) returns
-    (λ c κs. search needs) (search needs) returns-2)
+    tie.close (tie.spec (search needs) (λ c κs. first-can (c .before .before .before .before .pre) (c .back .ensures) (c .before .if1 .taken)) (search needs)
+    returns (λ c κs. search needs) (search needs) returns-2)

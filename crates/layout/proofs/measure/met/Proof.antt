@@ -21,6 +21,5 @@ returns c = met-is ((c .before .before .before .args) .late) _ _ ((c .before .be
 
 pub met-spec : {M : Type 1} → statement M
 met-spec =
-    tie.close (tie.spec (search needs) (search needs)
-    (λ c. omega (arith, c .skip-records .ensures, one-skip ((c .before .before .args) .late .wait)))
+    tie.close (tie.spec (search needs) (search needs) (λ c. omega (arith, c .skip-records .ensures, one-skip ((c .before .before .args) .late .wait)))
     (λ c κs. omega (arith, c .skip-records .ensures, one-skip ((c .before .before .args) .late .wait))) returns)

@@ -12,7 +12,6 @@ add-t9 c =
 
 pub idle-at-spec : {M : Type 1} → statement M
 idle-at-spec =
-    tie.close (tie.spec (search needs) (λ c. at-skip (c .if1 .taken) refl refl refl) (λ c. at-other (c .before .before .if1 .left) refl)
-    (search needs)
-    (λ c κs. let p = c .before .before .before .before .before .pre in (record { order = omega (arith, p .1); inside = p .0 .inside }, p .2))
-    add-t9 (λ c. at-loop (c .before .before .before .before .if1 .left) (c .before .before .if2 .left) (c .before .idle-rounds .ensures)))
+    tie.close (tie.spec (search needs) (λ c. at-skip (c .if1 .taken) refl refl refl) (λ c. at-other (c .before .before .if1 .left) refl) (search needs)
+    (λ c κs. let p = c .before .before .before .before .before .pre in (record { order = omega (arith, p .1); inside = p .0 .inside }, p .2)) add-t9
+    (λ c. at-loop (c .before .before .before .before .if1 .left) (c .before .before .if2 .left) (c .before .idle-rounds .ensures)))

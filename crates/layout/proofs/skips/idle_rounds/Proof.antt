@@ -32,7 +32,7 @@ loop-again c =
 
 pub idle-rounds-spec : {M : Type 1} → statement M
 idle-rounds-spec =
-    tie.close (tie.spec Inv-loop μ-loop (λ c. scan-start (c .before .pre .0)) (λ c κs. omega (arith, c .before .loop .inv .range .inside))
-    (search needs) (search needs) mul-capped (λ c κs. c .before .before .before .before .before .before .before .pre .1) returns
-    (search needs) (search needs) (search needs) (λ c κs. c .before .before .before .before .before .before .before .pre .1) (search needs)
-    (omega arith) loop-again (λ c. scan-ended refl (c .before .loop .inv .range .order)))
+    tie.close (tie.spec Inv-loop μ-loop (λ c. scan-start (c .before .pre .0)) (λ c κs. omega (arith, c .before .loop .inv .range .inside)) (search needs)
+    (search needs) mul-capped (λ c κs. c .before .before .before .before .before .before .before .pre .1) returns (search needs) (search needs) (search needs)
+    (λ c κs. c .before .before .before .before .before .before .before .pre .1) (search needs) (omega arith) loop-again
+    (λ c. scan-ended refl (c .before .loop .inv .range .order)))

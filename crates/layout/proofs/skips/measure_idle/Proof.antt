@@ -17,5 +17,4 @@ returns-2 c =
     idle-ends (c .before .before .before .before .before .settings-in .ensures) (c .before .before .before .before .before .before .pre) (c .before .before .before .before .filled .ensures) (c .before .if1 .left) (c .stepped .ensures)
 
 pub measure-idle-spec : {M : Type 1} → statement M
-measure-idle-spec =
-    tie.close (tie.spec (search needs) (λ c κs. idle-start (c .settings-in .ensures) (c .before .pre)) returns stepped-requires returns-2)
+measure-idle-spec = tie.close (tie.spec (search needs) (λ c κs. idle-start (c .settings-in .ensures) (c .before .pre)) returns stepped-requires returns-2)

@@ -40,5 +40,5 @@ returns-2 c =
 pub write-idle-spec : {M : Type 1} → statement M
 write-idle-spec =
     tie.close (tie.spec (λ c κs. let F = c .before .before .pre in (F .laying, F .within, F .room)) (search needs)
-    (λ c. record { skips = λ h. c .before .before .before .before .put-skips .ensures; check = λ h. absurd (h (c .if1 .taken)) })
-    written-requires (search needs) sub-put-step part-put-step-start (search needs) put-step-requires (search needs) returns-2)
+    (λ c. record { skips = λ h. c .before .before .before .before .put-skips .ensures; check = λ h. absurd (h (c .if1 .taken)) }) written-requires
+    (search needs) sub-put-step part-put-step-start (search needs) put-step-requires (search needs) returns-2)

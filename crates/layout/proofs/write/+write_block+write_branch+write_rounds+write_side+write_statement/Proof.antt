@@ -303,11 +303,6 @@ write-rounds-Inv-loop s i to r n from ifs meets out₀ body last state₀ next�
 abbrev write-rounds-μ-loop : write-rounds-lts.MeasureT-loop
 write-rounds-μ-loop s i to r n from ifs meets out₀ body last state₀ next₀ k₀ round₀ out state next k round = last - round
 
-write-rounds-loop-holds : (t : ℕ) → write-rounds-lts.Need-loop-holds (write-rounds-claims t) (write-rounds-at t) write-rounds.Post write-rounds-Inv-loop write-rounds-μ-loop
-write-rounds-loop-holds t c =
-    let p = c .before .before .pre .1 in
-    loop-start (record { fits = p .0; kind = p .2; count-is = count-there (p .0 .statement .here) (p .1) })
-
 write-rounds-write-block-requires : (t : ℕ) → write-rounds-lts.Need-write-block-requires (write-rounds-claims t) (write-rounds-at t) write-rounds.Post write-rounds-Inv-loop write-rounds-μ-loop
 write-rounds-write-block-requires t c κs =
     let at-loop = c .before .before .before in
@@ -446,26 +441,26 @@ pub +write-block+write-branch+write-rounds+write-side+write-statement-spec : {M 
 +write-block+write-branch+write-rounds+write-side+write-statement-spec =
     close μ-write-block μ-write-branch μ-write-rounds μ-write-side μ-write-statement
     (λ t. write-block-lts.spec (write-block-claims t) (write-block-at t) write-block.Post write-block-Inv-loop write-block-μ-loop
-    (λ c. block-start ((c .before .before .pre) .1)) (λ c κs. omega (arith, (c .before .loop) .inv .passing .walk .rest .inside))
-    (search needs) (λ c. part-length ((c .before .before .before .before .loop) .inv .writing .part)) (write-block-returns t)
+    (λ c. block-start ((c .before .before .pre) .1)) (λ c κs. omega (arith, (c .before .loop) .inv .passing .walk .rest .inside)) (search needs)
+    (λ c. part-length ((c .before .before .before .before .loop) .inv .writing .part)) (write-block-returns t)
     (λ c κs. writing-upto ((c .before .before .before .before .loop) .inv .writing))
     (λ c. rw (c .bytes-between .ensures) (writing-at ((c .before .before .before .before .before .loop) .inv .writing)))
     (λ c. rw (c .bytes-between .ensures) (writing-at ((c .before .before .before .before .before .loop) .inv .writing))) (search needs)
-    (write-block-write-statement-requires t) (write-block-loop-less t) (write-block-loop-again t)
-    (λ c. part-length ((c .before .loop) .inv .writing .part)) (λ c. block-ended ((c .before .loop) .inv) ((c .loop-test) .left)))
+    (write-block-write-statement-requires t) (write-block-loop-less t) (write-block-loop-again t) (λ c. part-length ((c .before .loop) .inv .writing .part))
+    (λ c. block-ended ((c .before .loop) .inv) ((c .loop-test) .left)))
     (λ t. write-branch-lts.spec (write-branch-claims t) (write-branch-at t) write-branch.Post (write-branch-put-step-requires t)
     (write-branch-written-requires t) (write-branch-mul-end t) (write-branch-element-copy-out-end t)
     (λ c. omega (arith, (c .before .before .before .before .before .before .before .before .pre) .1 .0 .statement .here .early))
-    (write-branch-add-write-side-2 t) (write-branch-sub-write-side t) (write-branch-part-write-side-start t) (search needs)
-    (write-branch-write-side-requires t) (write-branch-written-requires-2 t) (write-branch-add-write-side-3 t) (search needs)
-    (write-branch-sub-write-side-2 t) (write-branch-part-write-side-start-2 t) (search needs) (write-branch-write-side-requires-2 t)
-    (write-branch-add-t24 t) (write-branch-same-length t) (write-branch-returns t))
+    (write-branch-add-write-side-2 t) (write-branch-sub-write-side t) (write-branch-part-write-side-start t) (search needs) (write-branch-write-side-requires t)
+    (write-branch-written-requires-2 t) (write-branch-add-write-side-3 t) (search needs) (write-branch-sub-write-side-2 t)
+    (write-branch-part-write-side-start-2 t) (search needs) (write-branch-write-side-requires-2 t) (write-branch-add-t24 t) (write-branch-same-length t)
+    (write-branch-returns t))
     (λ t. write-rounds-lts.spec (write-rounds-claims t) (write-rounds-at t) write-rounds.Post write-rounds-Inv-loop write-rounds-μ-loop
     (λ c. omega (arith, (c .before .before .pre) .1 .0 .statement .here .early, (c .before .before .pre) .1 .0 .statement .here .file .inside))
-    (write-rounds-loop-holds t) (λ c κs. writing-upto ((c .before .loop) .inv .turn .writing))
+    (λ c. let p = c .before .before .pre .1 in loop-start (record { fits = p .0; kind = p .2; count-is = count-there (p .0 .statement .here) (p .1) }))
+    (λ c κs. writing-upto ((c .before .loop) .inv .turn .writing))
     (λ c. rw (c .bytes-between .ensures) (writing-at ((c .before .before .loop) .inv .turn .writing)))
-    (λ c. rw (c .bytes-between .ensures) (writing-at ((c .before .before .loop) .inv .turn .writing))) (search needs)
-    (write-rounds-write-block-requires t)
+    (λ c. rw (c .bytes-between .ensures) (writing-at ((c .before .before .loop) .inv .turn .writing))) (search needs) (write-rounds-write-block-requires t)
     (λ c. omega (arith, c .before .before .before .before .before .before .before .before .before .before .good .1 .1 .1 .0)) (omega arith)
     (write-rounds-loop-again t) (λ c κs. writing-upto ((c .before .loop) .inv .turn .writing)) (search needs)
     (λ c. rw (c .before .bytes-between2 .ensures) (writing-at ((c .before .before .before .loop) .inv .turn .writing)))
@@ -473,14 +468,13 @@ pub +write-block+write-branch+write-rounds+write-side+write-statement-spec : {M 
     (write-rounds-put-step-requires t) (write-rounds-add-t27 t)
     (λ c. (c .before .out2) .given .1 ∙ part-length ((c .before .before .before .before .before .before .before .loop) .inv .turn .writing .part))
     (write-rounds-returns t))
-    (λ t. write-side-lts.spec (write-side-claims t) (write-side-at t) write-side.Post
-    (λ c κs. (omega arith, side-fits ((c .before .before .before .pre) .1)))
+    (λ t. write-side-lts.spec (write-side-claims t) (write-side-at t) write-side.Post (λ c κs. (omega arith, side-fits ((c .before .before .before .pre) .1)))
     (λ c κs. side-upto ((c .before .before .before .before .before .before .before .pre) .1) ((c .before .before .before .write-block) .ensures))
-    (write-side-sub-close-side t) (write-side-part-close-side-start t) (search needs) (write-side-close-side-requires t)
-    (write-side-same-length t) (write-side-returns t))
+    (write-side-sub-close-side t) (write-side-part-close-side-start t) (search needs) (write-side-close-side-requires t) (write-side-same-length t)
+    (write-side-returns t))
     λ t. write-statement-lts.spec (write-statement-claims t) (write-statement-at t) write-statement.Post
     (λ c κs. omega (arith, (c .before .before .pre) .1 .statement .here .early, (c .before .before .pre) .1 .statement .here .file .inside))
-    (write-statement-write-branch-requires t) (search needs) (λ c. (c .before .before .write-branch) .ensures)
-    (write-statement-idle-at-requires t) (write-statement-write-idle-requires t) (search needs) (write-statement-returns-2 t)
-    (write-statement-write-rounds-requires t) (search needs) (λ c. c .before .before .write-rounds .ensures) (search needs)
-    (write-statement-put-step-requires t) (write-statement-add-next t) (search needs) (write-statement-returns-4 t)
+    (write-statement-write-branch-requires t) (search needs) (λ c. (c .before .before .write-branch) .ensures) (write-statement-idle-at-requires t)
+    (write-statement-write-idle-requires t) (search needs) (write-statement-returns-2 t) (write-statement-write-rounds-requires t) (search needs)
+    (λ c. c .before .before .write-rounds .ensures) (search needs) (write-statement-put-step-requires t) (write-statement-add-next t) (search needs)
+    (write-statement-returns-4 t)

@@ -59,9 +59,6 @@ blocked c =
     let k = b .before .before .before .before .before .before in
     tail-part (k .before .before .before .before .before .pre) (opened (b .before .before)) (begun k) (b .write-block .ensures) (c .bytes-between .ensures)
 
-commanded-requires : tie.Need-commanded-requires
-commanded-requires c κs = subst (Laying _) (sym (c .start2 .ensures)) (laying-start (c .before .before .before .before .before .before .before .before .pre .settings))
-
 write-block-requires : tie.Need-write-block-requires
 write-block-requires c κs =
     let o = c .before in
@@ -88,8 +85,8 @@ put-tail-requires c κs =
 
 pub write-file-spec : {M : Type 1} → statement M
 write-file-spec =
-    tie.close (tie.spec (search needs) (λ c κs. start-fits (c .before .before .before .before .pre) (c .before .start .ensures))
-    (search needs) commanded-requires (λ c. part-at (begun (c .before .before .before .before)))
-    (λ c. part-at (begun (c .before .before .before .before))) (search needs) write-block-requires written-requires add-tail
-    (λ c. part-at (blocked c)) (λ c. part-at (blocked c)) (search needs) put-tail-requires (search needs)
+    tie.close (tie.spec (search needs) (λ c κs. start-fits (c .before .before .before .before .pre) (c .before .start .ensures)) (search needs)
+    (λ c κs. subst (Laying _) (sym (c .start2 .ensures)) (laying-start (c .before .before .before .before .before .before .before .before .pre .settings)))
+    (λ c. part-at (begun (c .before .before .before .before))) (λ c. part-at (begun (c .before .before .before .before))) (search needs) write-block-requires
+    written-requires add-tail (λ c. part-at (blocked c)) (λ c. part-at (blocked c)) (search needs) put-tail-requires (search needs)
     (λ c. part-last (blocked (c .before .before .before .before)) (c .before .before .put-tail .ensures)))

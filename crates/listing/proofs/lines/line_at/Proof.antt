@@ -22,6 +22,5 @@ returns-3 c =
 
 pub line-at-spec : {M : Type 1} → statement M
 line-at-spec =
-    tie.close (tie.spec
-    (λ c. let a = c .before .before .before .args in line-past-file (a .laid .now) (a .starts .now) (a .i) (omega (arith, c .if1 .taken)))
+    tie.close (tie.spec (λ c. let a = c .before .before .before .args in line-past-file (a .laid .now) (a .starts .now) (a .i) (omega (arith, c .if1 .taken)))
     returns-2 (search needs) (search needs) (search needs) (search needs) returns-3)

@@ -259,11 +259,6 @@ run-while-last-requires t c κs =
     let w = c .before .before .before .before in
     record { before = w .pre .1 .0 .at .early; few = w .pre .1 .0 .given .few; table = w .pre .1 .0 .given .table }
 
-run-while-loop-holds : (t : ℕ) → run-while-lts.Need-loop-holds (run-while-claims t) (run-while-at t) run-while.Post run-while-Inv-loop run-while-μ-loop
-run-while-loop-holds t c =
-    let w = c .before .before .before .before .before in
-    spinning-start (w .pre .1 .0) (w .pre .1 .2) (w .pre .1 .1) (c .last .ensures .0) refl
-
 run-while-returns : (t : ℕ) → run-while-lts.Need-returns (run-while-claims t) (run-while-at t) run-while.Post run-while-Inv-loop run-while-μ-loop
 run-while-returns t c =
     let w = c .before .before .before .before in
@@ -313,25 +308,24 @@ pub +run-loop+run-records+run-times+run-while-spec : {M : Type 1} → statement 
 +run-loop+run-records+run-times+run-while-spec =
     close μ-run-loop μ-run-records μ-run-times μ-run-while
     (λ t. run-loop-lts.spec (run-loop-claims t) (run-loop-at t) run-loop.Post
-    (λ c κs. let w = c .before .before .before .before in omega (arith, w .pre .1 .0 .at .early)) (run-loop-run-while-requires t)
-    (search needs) (λ c. (c .before .before .run-while) .ensures) (run-loop-run-times-requires t) (search needs)
-    (λ c. (c .before .before .run-times) .ensures))
+    (λ c κs. let w = c .before .before .before .before in omega (arith, w .pre .1 .0 .at .early)) (run-loop-run-while-requires t) (search needs)
+    (λ c. (c .before .before .run-while) .ensures) (run-loop-run-times-requires t) (search needs) (λ c. (c .before .before .run-times) .ensures))
     (λ t. run-records-lts.spec (run-records-claims t) (run-records-at t) run-records.Post run-records-Inv-loop run-records-μ-loop
-    (λ c. let w = c .before .before .before .before in running-start (w .pre .1)) (λ c κs. (c .before .before .loop) .inv .rest)
-    (search needs) (search needs) (run-records-returns t) (search needs) (search needs) (run-records-returns-2 t)
-    (run-records-run-loop-requires t) (search needs) (search needs) (run-records-returns-3 t) (run-records-loop-less t)
-    (run-records-loop-again t) (search needs) (search needs)
+    (λ c. let w = c .before .before .before .before in running-start (w .pre .1)) (λ c κs. (c .before .before .loop) .inv .rest) (search needs) (search needs)
+    (run-records-returns t) (search needs) (search needs) (run-records-returns-2 t) (run-records-run-loop-requires t) (search needs) (search needs)
+    (run-records-returns-3 t) (run-records-loop-less t) (run-records-loop-again t) (search needs) (search needs)
     (λ c. running-ended ((c .before .before .loop) .inv) ((c .before .loop-test) .left) ((c .going2) .ensures)))
     (λ t. run-times-lts.spec (run-times-claims t) (run-times-at t) run-times.Post run-times-Inv-loop run-times-μ-loop
-    (λ c. let w = c .before .before .before .before in omega (arith, w .pre .1 .0 .at .early, w .pre .1 .0 .given .few))
-    (run-times-last-requires t) (λ c. record { fits = omega (arith, (c .last) .ensures .1) }) (run-times-run-last-test-requires t)
-    (search needs) (run-times-returns t) (run-times-loop-holds t) (run-times-run-records-requires t) (search needs) (search needs)
-    (run-times-returns-2 t) (search needs) (search needs) (run-times-loop-again t) (run-times-run-last-test-requires-2 t) (search needs)
+    (λ c. let w = c .before .before .before .before in omega (arith, w .pre .1 .0 .at .early, w .pre .1 .0 .given .few)) (run-times-last-requires t)
+    (λ c. record { fits = omega (arith, (c .last) .ensures .1) }) (run-times-run-last-test-requires t) (search needs) (run-times-returns t)
+    (run-times-loop-holds t) (run-times-run-records-requires t) (search needs) (search needs) (run-times-returns-2 t) (search needs) (search needs)
+    (run-times-loop-again t) (run-times-run-last-test-requires-2 t) (search needs)
     (λ c. let w = c .before .before .before .before in loop-last (w .loop .inv) (c .before .before .if2 .left) (c .run-last-test2 .ensures)))
     λ t. run-while-lts.spec (run-while-claims t) (run-while-at t) run-while.Post run-while-Inv-loop run-while-μ-loop
-    (λ c. let w = c .before .before .before .before in omega (arith, w .pre .1 .0 .at .early, w .pre .1 .0 .given .few))
-    (run-while-last-requires t) (λ c. record { fits = omega (arith, (c .last) .ensures .1) }) (run-while-loop-holds t) (search needs)
-    (search needs) (run-while-returns t) (search needs) (run-while-test-holds-requires t) (search needs) (search needs)
-    (run-while-returns-2 t) (run-while-run-records-requires t) (search needs) (search needs) (run-while-returns-3 t) (search needs)
-    (search needs) (run-while-loop-again t) (run-while-run-last-test-requires t) (search needs)
+    (λ c. let w = c .before .before .before .before in omega (arith, w .pre .1 .0 .at .early, w .pre .1 .0 .given .few)) (run-while-last-requires t)
+    (λ c. record { fits = omega (arith, (c .last) .ensures .1) })
+    (λ c. let w = c .before .before .before .before .before in spinning-start (w .pre .1 .0) (w .pre .1 .2) (w .pre .1 .1) (c .last .ensures .0) refl)
+    (search needs) (search needs) (run-while-returns t) (search needs) (run-while-test-holds-requires t) (search needs) (search needs) (run-while-returns-2 t)
+    (run-while-run-records-requires t) (search needs) (search needs) (run-while-returns-3 t) (search needs) (search needs) (run-while-loop-again t)
+    (run-while-run-last-test-requires t) (search needs)
     (λ c. let w = c .before .before .before .before in loop-last (w .loop .inv) (c .before .before .if1 .left) (c .run-last-test .ensures))

@@ -62,6 +62,5 @@ returns-5 c =
 
 pub run-one-spec : {M : Type 1} → statement M
 run-one-spec =
-    tie.close (tie.spec (search needs) (search needs) returns (λ c κs. search needs) (search needs) returns-2 (search needs) returns-3
-    test-holds-requires (search needs) (λ c κs. search needs) (search needs) (search needs) returns-4 run-plain-requires (search needs)
-    returns-5)
+    tie.close (tie.spec (search needs) (search needs) returns (λ c κs. search needs) (search needs) returns-2 (search needs) returns-3 test-holds-requires
+    (search needs) (λ c κs. search needs) (search needs) (search needs) returns-4 run-plain-requires (search needs) returns-5)

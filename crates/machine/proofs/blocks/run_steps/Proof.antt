@@ -55,6 +55,6 @@ loop-again c =
 pub run-steps-spec : {M : Type 1} → statement M
 run-steps-spec =
     tie.close (tie.spec Inv-loop μ-loop (λ c. let w = c .before .before .before .before in running-start ((w .pre)))
-    (λ c κs. omega (arith, running-inside ((c .before .loop) .inv .rest))) (search needs) (search needs) (search needs) returns
-    run-one-requires (search needs) (search needs) returns-2 loop-less loop-again (search needs) (search needs)
+    (λ c κs. omega (arith, running-inside ((c .before .loop) .inv .rest))) (search needs) (search needs) (search needs) returns run-one-requires (search needs)
+    (search needs) returns-2 loop-less loop-again (search needs) (search needs)
     (λ c. steps-going ((c .before .before .loop) .inv) ((c .going2) .ensures) (λ l. absurd (omega (arith, (c .before .loop-test) .left)))))

@@ -31,6 +31,5 @@ returns-4 c =
 
 pub ready-spec : {M : Type 1} → statement M
 ready-spec =
-    tie.close (tie.spec (search needs) (search needs) enum-told
-    (λ c. not-read _ _ _ _ _ (c .enum-told .given .1) (c .before .before .read .ensures)) (search needs) (search needs) (search needs)
-    returns-2 returns-3 returns-4)
+    tie.close (tie.spec (search needs) (search needs) enum-told (λ c. not-read _ _ _ _ _ (c .enum-told .given .1) (c .before .before .read .ensures))
+    (search needs) (search needs) (search needs) returns-2 returns-3 returns-4)

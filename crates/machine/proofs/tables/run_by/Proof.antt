@@ -11,6 +11,6 @@ run-records-requires c κs =
 
 pub run-by-spec : {M : Type 1} → statement M
 run-by-spec =
-    tie.close (tie.spec (λ c κs. let w = c .before .before .before .before .before in table-fills (w .pre .0) (w .pre .1)) (search needs)
-    run-records-requires (search needs) (search needs)
+    tie.close (tie.spec (λ c κs. let w = c .before .before .before .before .before in table-fills (w .pre .0) (w .pre .1)) (search needs) run-records-requires
+    (search needs) (search needs)
     (λ c. let w = c .before .before .before .before .before .before in ran-settings (w .ticks-of .ensures) (c .before .before .run-records .ensures)))

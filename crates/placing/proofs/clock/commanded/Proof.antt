@@ -29,8 +29,7 @@ returns-2 c =
 
 pub commanded-spec : {M : Type 1} → statement M
 commanded-spec =
-    tie.close (tie.spec (search needs) (search needs) (search needs) (search needs) (search needs) (search needs) (search needs)
-    (search needs) (search needs) (λ c. omega (arith, few (c .before .before .before .before .before .before .before)))
-    (λ c κs. omega (arith, few (c .before .before .before .before .before .before .before))) returns (search needs) (search needs)
-    (search needs) (λ c. omega (arith, few (c .before .before .before .before .before)))
-    (λ c κs. omega (arith, few (c .before .before .before .before .before))) returns-2)
+    tie.close (tie.spec (search needs) (search needs) (search needs) (search needs) (search needs) (search needs) (search needs) (search needs) (search needs)
+    (λ c. omega (arith, few (c .before .before .before .before .before .before .before)))
+    (λ c κs. omega (arith, few (c .before .before .before .before .before .before .before))) returns (search needs) (search needs) (search needs)
+    (λ c. omega (arith, few (c .before .before .before .before .before))) (λ c κs. omega (arith, few (c .before .before .before .before .before))) returns-2)

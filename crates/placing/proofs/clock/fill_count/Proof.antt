@@ -41,5 +41,4 @@ pub fill-count-spec : {M : Type 1} → statement M
 fill-count-spec =
     tie.close (tie.spec Inv-loop μ-loop (λ c. filling-start (c .pre)) (λ c. (c .before .loop) .inv .can .reaches)
     (λ c κs. (c .before .before .before .before .loop) .inv .can .laying) loop-less loop-again
-    (λ c. (c .before .before .before .before .before .loop) .inv .can .reaches) add-skip-records (search needs) (search needs) add-result
-    returns)
+    (λ c. (c .before .before .before .before .before .loop) .inv .can .reaches) add-skip-records (search needs) (search needs) add-result returns)

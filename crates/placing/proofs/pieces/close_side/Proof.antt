@@ -84,6 +84,6 @@ pub close-side-spec : {M : Type 1} → statement M
 close-side-spec =
     tie.close (tie.spec put-filling-requires (search needs) (λ c. part-at (filled c)) (λ c. part-at (filled c)) (search needs)
     (λ c κs. let w = c .before in part-fits (skipBytes (w .before .before .before .put-filling .result .wait)) _ (filled w))
-    (λ c. omega (arith, part-room (waited (c .before .before)))) (λ c. part-at (waited (c .before .before)))
-    (λ c. part-at (waited (c .before .before))) (search needs) (λ c κs. part-fits-last (waited (c .before .before .before))) (search needs)
-    (search needs) (λ c. omega (arith, few c)) (λ c. omega (arith, few c)) (search needs) (search needs) returns)
+    (λ c. omega (arith, part-room (waited (c .before .before)))) (λ c. part-at (waited (c .before .before))) (λ c. part-at (waited (c .before .before)))
+    (search needs) (λ c κs. part-fits-last (waited (c .before .before .before))) (search needs) (search needs) (λ c. omega (arith, few c))
+    (λ c. omega (arith, few c)) (search needs) (search needs) returns)

@@ -40,9 +40,7 @@ pub put-commands-spec : {M : Type 1} → statement M
 put-commands-spec =
     tie.close (tie.spec (search needs) (λ c κs. let s = c .before .before .before in due-fits (s .pre .0) (s .args .out .now) (s .pre .1))
     (λ c. part-at (skipped (c .before .before))) (λ c. part-at (skipped (c .before .before))) (search needs)
-    (λ c κs. part-fits (recordBytes (actRec (beat 1))) _ (skipped (c .before .before .before)))
-    (λ c. omega (arith, part-room (beaten (c .before .before)))) (search needs)
-    (λ c. save-none _ (beaten (c .before .before .before .before)) (c .if1 .taken)) (λ c. part-at (saving c)) (λ c. part-at (saving c))
-    (search needs) (λ c κs. part-fits-last (saving (c .before)))
-    (λ c. omega (arith, part-room (saving (c .before .before .before .before)))) (search needs)
+    (λ c κs. part-fits (recordBytes (actRec (beat 1))) _ (skipped (c .before .before .before))) (λ c. omega (arith, part-room (beaten (c .before .before))))
+    (search needs) (λ c. save-none _ (beaten (c .before .before .before .before)) (c .if1 .taken)) (λ c. part-at (saving c)) (λ c. part-at (saving c))
+    (search needs) (λ c κs. part-fits-last (saving (c .before))) (λ c. omega (arith, part-room (saving (c .before .before .before .before)))) (search needs)
     (λ c. wrote-last (saving (c .before .before .before .before)) (record-wrote (actRec (save 0)) (c .before .before .put-bare2 .ensures))))

@@ -40,11 +40,10 @@ idled-requires c κs =
 
 pub put-filling-spec : {M : Type 1} → statement M
 put-filling-spec =
-    tie.close (tie.spec Inv-loop μ-loop (λ c. filling-start ((c .before .pre) .0) ((c .before .pre) .1))
-    (λ c. (c .before .loop) .inv .can .reaches) (λ c κs. writing-upto ((c .before .before .before .loop) .inv .writing))
-    (λ c κs. (c .before .before .before .before .loop) .inv .can .laying)
+    tie.close (tie.spec Inv-loop μ-loop (λ c. filling-start ((c .before .pre) .0) ((c .before .pre) .1)) (λ c. (c .before .loop) .inv .can .reaches)
+    (λ c κs. writing-upto ((c .before .before .before .loop) .inv .writing)) (λ c κs. (c .before .before .before .before .loop) .inv .can .laying)
     (λ c. filling-at ((c .before .before .before .before .before .loop) .inv) ((c .before .bytes-between) .ensures))
-    (λ c. filling-at ((c .before .before .before .before .before .loop) .inv) ((c .before .bytes-between) .ensures)) (search needs)
-    put-commands-requires loop-less loop-again (λ c. (c .before .before .before .before .loop) .inv .can .reaches) idled-requires
+    (λ c. filling-at ((c .before .before .before .before .before .loop) .inv) ((c .before .bytes-between) .ensures)) (search needs) put-commands-requires
+    loop-less loop-again (λ c. (c .before .before .before .before .loop) .inv .can .reaches) idled-requires
     (λ c. part-length ((c .before .before .before .before .before .loop) .inv .writing .part))
     (λ c. filling-laid ((c .before .before .before .before .before .loop) .inv) ((c .before .before .if1) .left) (c .idled .ensures)))

@@ -43,7 +43,7 @@ put-skips-spec =
     tie.close (tie.spec Inv-loop μ-loop (λ c. skips-start ((c .before .pre) .0) ((c .before .pre) .1) ((c .before .pre) .2))
     (λ c κs. writing-upto ((c .before .before .loop) .inv .writing)) (λ c κs. skips-laying ((c .before .before .before .loop) .inv))
     (λ c. skips-at ((c .before .before .before .before .loop) .inv) ((c .before .bytes-between) .ensures))
-    (λ c. skips-at ((c .before .before .before .before .loop) .inv) ((c .before .bytes-between) .ensures)) (search needs)
-    put-commands-requires (λ c. omega (arith, (c .before .before .before .before .before .before .before .if1) .taken)) loop-less loop-again
-    idled-requires (λ c. part-length ((c .before .before .before .loop) .inv .writing .part))
+    (λ c. skips-at ((c .before .before .before .before .loop) .inv) ((c .before .bytes-between) .ensures)) (search needs) put-commands-requires
+    (λ c. omega (arith, (c .before .before .before .before .before .before .before .if1) .taken)) loop-less loop-again idled-requires
+    (λ c. part-length ((c .before .before .before .loop) .inv .writing .part))
     (λ c. skips-laid ((c .before .before .before .loop) .inv) ((c .before .if1) .left) (c .idled .ensures)))

@@ -46,7 +46,6 @@ returns c =
 pub put-step-spec : {M : Type 1} → statement M
 put-step-spec =
     tie.close (tie.spec put-before-requires (search needs) (λ c. part-at (readied c)) (λ c. part-at (readied c)) (search needs)
-    (λ c κs. part-fits (skipBytes (c .before .readied .result .wait)) _ (readied (c .before)))
-    (λ c. omega (arith, part-room (waited (c .before .before)))) (λ c. part-at (waited (c .before .before)))
-    (λ c. part-at (waited (c .before .before))) (search needs) (λ c κs. part-fits-last (waited (c .before .before .before))) (search needs)
-    (search needs) returns)
+    (λ c κs. part-fits (skipBytes (c .before .readied .result .wait)) _ (readied (c .before))) (λ c. omega (arith, part-room (waited (c .before .before))))
+    (λ c. part-at (waited (c .before .before))) (λ c. part-at (waited (c .before .before))) (search needs)
+    (λ c κs. part-fits-last (waited (c .before .before .before))) (search needs) (search needs) returns)

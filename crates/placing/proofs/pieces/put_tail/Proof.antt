@@ -39,5 +39,5 @@ returns c = beat-laid (skipped (c .before .before .before .before .before .befor
 pub put-tail-spec : {M : Type 1} → statement M
 put-tail-spec =
     tie.close (tie.spec (search needs) (search needs) put-skip-requires (λ c. part-at (skipped (c .before .before)))
-    (λ c. part-at (skipped (c .before .before))) (search needs) (search needs)
-    (λ c κs. part-fits-last (skipped (c .before .before .before .before))) (search needs) returns)
+    (λ c. part-at (skipped (c .before .before))) (search needs) (search needs) (λ c κs. part-fits-last (skipped (c .before .before .before .before)))
+    (search needs) returns)

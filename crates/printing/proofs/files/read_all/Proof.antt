@@ -55,6 +55,5 @@ loop-again c =
 
 pub read-all-spec : {M : Type 1} → statement M
 read-all-spec =
-    tie.close (tie.spec Inv-loop μ-loop (λ c. (omega arith, refl)) (omega arith) (omega arith) (omega arith) (search needs) (search needs)
-    (search needs) (search needs) same-length (omega arith) same-length-2 (omega arith) add-done loop-less loop-again
-    (λ c. c .before .loop .inv .1) (omega arith))
+    tie.close (tie.spec Inv-loop μ-loop (λ c. (omega arith, refl)) (omega arith) (omega arith) (omega arith) (search needs) (search needs) (search needs)
+    (search needs) same-length (omega arith) same-length-2 (omega arith) add-done loop-less loop-again (λ c. c .before .loop .inv .1) (omega arith))

@@ -71,5 +71,5 @@ returns-2 c =
 pub put-lines-spec : {M : Type 1} → statement M
 put-lines-spec =
     tie.close (tie.spec Inv-loop μ-loop (λ c. (put-none _ _, omega arith, omega arith, refl)) (search needs) (search needs) enum-told
-    (λ c. c .before .before .before .before .loop .inv .3) returns put-line-requires (omega arith) (omega arith) loop-again
-    (λ c. c .before .loop .inv .3) returns-2)
+    (λ c. c .before .before .before .before .loop .inv .3) returns put-line-requires (omega arith) (omega arith) loop-again (λ c. c .before .loop .inv .3)
+    returns-2)

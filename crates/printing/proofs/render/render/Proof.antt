@@ -50,5 +50,5 @@ returns-2 c =
 
 pub render-spec : {M : Type 1} → statement M
 render-spec =
-    tie.close (tie.spec (search needs) (search needs) (search needs) (search needs) slice-aggregate-put-listing
-    slice-aggregate-put-listing-2 put-listing-requires returns returns-2)
+    tie.close (tie.spec (search needs) (search needs) (search needs) (search needs) slice-aggregate-put-listing slice-aggregate-put-listing-2
+    put-listing-requires returns returns-2)

@@ -15,5 +15,5 @@ add-result c =
 
 pub laid-word-spec : {M : Type 1} → statement M
 laid-word-spec =
-    tie.close (tie.spec (search needs) (search needs) (search needs) add-result (search needs) (search needs)
-    (λ c. rw (c .before .x .given .1) (omega arith)) (λ c. let y = c .before .before .x2 .given in rw (y .1) (c .refused .ensures)))
+    tie.close (tie.spec (search needs) (search needs) (search needs) add-result (search needs) (search needs) (λ c. rw (c .before .x .given .1) (omega arith))
+    (λ c. let y = c .before .before .x2 .given in rw (y .1) (c .refused .ensures)))

@@ -70,11 +70,10 @@ returns-5 c =
 
 pub closing-of-spec : {M : Type 1} → statement M
 closing-of-spec =
-    tie.close (tie.spec (search needs)
-    (λ c. closing-end (c .before .before .before .args .i) (c .before .before .before .pre .0) (c .if1 .taken)) (search needs)
-    (search needs) (search needs) returns-2 (search needs) (search needs) (search needs) (search needs) returns-3
+    tie.close (tie.spec (search needs) (λ c. closing-end (c .before .before .before .args .i) (c .before .before .before .pre .0) (c .if1 .taken))
+    (search needs) (search needs) (search needs) returns-2 (search needs) (search needs) (search needs) (search needs) returns-3
     (λ c. record { fits = omega (arith, first-early (opener c), opener c .fillable .few) })
     (λ c. record { fits = omega (arith, first-early (opener c), opener c .fillable .few) })
     (λ c. record { fits = omega (arith, first-early (opener c), opener c .fillable .few) })
-    (λ c. omega (arith, first-early (opener (c .before)), opener (c .before) .fillable .room)) cast-result-3 add-result mul-result
-    shared-slice-read-result returns-4 returns-5)
+    (λ c. omega (arith, first-early (opener (c .before)), opener (c .before) .fillable .room)) cast-result-3 add-result mul-result shared-slice-read-result
+    returns-4 returns-5)

@@ -11,9 +11,8 @@ abbrev μ-loop : tie.MeasureT-loop
 
 pub fill-spec : {M : Type 1} → statement M
 fill-spec =
-    tie.close (tie.spec Inv-loop μ-loop (λ c. record { fits = omega (arith, c .before .before .pre .few) })
-    (λ c. filled-start (c .before .before .pre)) (omega arith)
-    (λ c κs. filled-asks (c .before .before .loop .inv) (c .before .loop-test .taken))
+    tie.close (tie.spec Inv-loop μ-loop (λ c. record { fits = omega (arith, c .before .before .pre .few) }) (λ c. filled-start (c .before .before .pre))
+    (omega arith) (λ c κs. filled-asks (c .before .before .loop .inv) (c .before .loop-test .taken))
     (λ c. record { fits = omega (arith, c .before .before .before .loop .inv .fillable .few, c .before .before .before .loop .inv .low) })
     (λ c. omega (arith, c .before .before .before .loop .inv .fillable .room, c .before .before .before .loop .inv .low)) (omega arith)
     (λ c. filled-next (c .before .before .before .loop .inv) (c .before .before .loop-test .taken) (c .closing-of .result) (c .closing-of .ensures))

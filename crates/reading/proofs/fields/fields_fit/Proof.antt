@@ -38,7 +38,6 @@ returns-7 c =
 
 pub fields-fit-spec : {M : Type 1} → statement M
 fields-fit-spec =
-    tie.close (tie.spec (search needs) (search needs) (search needs) (search needs) (search needs) (search needs) (search needs) returns
-    returns-2
-    (λ c. test-kind (recordOf (c .before .before .before .args .r)) _ (c .before .before .match .keys3) (c .before .test-fits .ensures))
-    returns-4 returns-5 returns-6 returns-7)
+    tie.close (tie.spec (search needs) (search needs) (search needs) (search needs) (search needs) (search needs) (search needs) returns returns-2
+    (λ c. test-kind (recordOf (c .before .before .before .args .r)) _ (c .before .before .match .keys3) (c .before .test-fits .ensures)) returns-4 returns-5
+    returns-6 returns-7)

@@ -20,6 +20,5 @@ returns-5 c =
 
 pub check-record-spec : {M : Type 1} → statement M
 check-record-spec =
-    tie.close (tie.spec (search needs) (λ c. kind-refused (cc)) (search needs) (λ c. field-refused (cc) (cc)) (search needs) (search needs)
-    enum-told (λ c. structure-refused (cc) (cc) (λ os e. sym (c .enum-told .given .1) ∙ c .before .before .nest .ensures os e))
-    (search needs) returns-4 returns-5)
+    tie.close (tie.spec (search needs) (λ c. kind-refused (cc)) (search needs) (λ c. field-refused (cc) (cc)) (search needs) (search needs) enum-told
+    (λ c. structure-refused (cc) (cc) (λ os e. sym (c .enum-told .given .1) ∙ c .before .before .nest .ensures os e)) (search needs) returns-4 returns-5)

@@ -13,7 +13,6 @@ abbrev μ-loop : tie.MeasureT-loop
 
 pub copy-spec : {M : Type 1} → statement M
 copy-spec =
-    tie.close (tie.spec Inv-loop μ-loop (λ c. copied-start (c .args .from .now) (c .args .to .now)) (search needs) (search needs)
-    (search needs) (search needs) (search needs) (search needs)
-    (λ c. copied-step (c .before .before .before .pre) (c .before .before .loop .inv) (search needs)) (λ c. c .before .loop .inv .size)
-    (λ c. copied-end (c .before .before .pre) (c .before .loop .inv) (search needs)))
+    tie.close (tie.spec Inv-loop μ-loop (λ c. copied-start (c .args .from .now) (c .args .to .now)) (search needs) (search needs) (search needs) (search needs)
+    (search needs) (search needs) (λ c. copied-step (c .before .before .before .pre) (c .before .before .loop .inv) (search needs))
+    (λ c. c .before .loop .inv .size) (λ c. copied-end (c .before .before .pre) (c .before .loop .inv) (search needs)))

@@ -8,6 +8,5 @@ use Rattle.records.proofs.words.put_word.Tie as tie
 
 pub put-word-spec : {M : Type 1} → statement M
 put-word-spec =
-    tie.close (tie.spec (search needs) (search needs) (search needs) (λ c. simp length-set (omega arith)) (search needs)
-    (λ c. simp length-set (omega arith)) (search needs) (λ c. search needs) (search needs)
-    (λ c. sets-eq (wordBytes (c .args .n)) (c .args .out .now) 0 (c .pre)))
+    tie.close (tie.spec (search needs) (search needs) (search needs) (λ c. simp length-set (omega arith)) (search needs) (λ c. simp length-set (omega arith))
+    (search needs) (λ c. search needs) (search needs) (λ c. sets-eq (wordBytes (c .args .n)) (c .args .out .now) 0 (c .pre)))

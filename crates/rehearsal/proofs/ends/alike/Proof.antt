@@ -32,5 +32,5 @@ returns-4 c =
 
 pub alike-spec : {M : Type 1} → statement M
 alike-spec =
-    tie.close (tie.spec (search needs) (search needs) (search needs) returns (search needs) (search needs) (search needs) returns-2
-    (search needs) (search needs) (search needs) returns-3 returns-4)
+    tie.close (tie.spec (search needs) (search needs) (search needs) returns (search needs) (search needs) (search needs) returns-2 (search needs)
+    (search needs) (search needs) returns-3 returns-4)

@@ -11,12 +11,10 @@ Inv-loop a b i₀ i = Equal a b i
 abbrev μ-loop : tie.MeasureT-loop
 μ-loop a b i₀ i = length a - i
 
-returns : tie.Need-returns Inv-loop μ-loop
-returns c = equal-differ (c .before .before .before .before .before .pre) (c .before .before .before .before .loop .inv) (search needs) (c .if1 .taken)
-
 pub same-bytes-spec : {M : Type 1} → statement M
 same-bytes-spec =
-    tie.close (tie.spec Inv-loop μ-loop (λ c. equal-start (c .args .a .now) (c .args .b .now)) (search needs) (search needs) returns
+    tie.close (tie.spec Inv-loop μ-loop (λ c. equal-start (c .args .a .now) (c .args .b .now)) (search needs) (search needs)
+    (λ c. equal-differ (c .before .before .before .before .before .pre) (c .before .before .before .before .loop .inv) (search needs) (c .if1 .taken))
     (search needs) (search needs)
     (λ c. equal-step (c .before .before .before .before .before .pre) (c .before .before .before .before .loop .inv) (search needs) (c .if1 .left))
     (λ c. equal-end (c .before .before .pre) (c .before .loop .inv) (search needs)))

@@ -15,6 +15,6 @@ abbrev μ-loop : tie.MeasureT-loop
 pub load-marks-spec : {M : Type 1} → statement M
 load-marks-spec =
     tie.close (tie.spec Inv-loop μ-loop (λ c. copied-start (c .args .marks .now) (c .args .to .now)) (omega arith)
-    (λ c. omega (arith, c .shared-slice-known .given (c .before .before .loop .i))) (search needs) (search needs) (search needs)
-    (search needs) (λ c. copied-step (c .before .before .before .pre) (c .before .before .loop .inv) (search needs))
-    (λ c. c .before .loop .inv .size) (λ c. copied-end (c .before .before .pre) (c .before .loop .inv) (search needs)))
+    (λ c. omega (arith, c .shared-slice-known .given (c .before .before .loop .i))) (search needs) (search needs) (search needs) (search needs)
+    (λ c. copied-step (c .before .before .before .pre) (c .before .before .loop .inv) (search needs)) (λ c. c .before .loop .inv .size)
+    (λ c. copied-end (c .before .before .pre) (c .before .loop .inv) (search needs)))

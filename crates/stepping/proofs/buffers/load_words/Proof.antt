@@ -14,6 +14,6 @@ abbrev μ-loop : tie.MeasureT-loop
 
 pub load-words-spec : {M : Type 1} → statement M
 load-words-spec =
-    tie.close (tie.spec Inv-loop μ-loop (λ c. loaded-start) (omega arith) (omega arith) (search needs) (search needs) (search needs)
-    (omega arith) (λ c. loaded-step (c .before .before .loop .inv) (omega arith) (c .word-at .ensures)) (λ c. c .before .loop .inv .size)
+    tie.close (tie.spec Inv-loop μ-loop (λ c. loaded-start) (omega arith) (omega arith) (search needs) (search needs) (search needs) (omega arith)
+    (λ c. loaded-step (c .before .before .loop .inv) (omega arith) (c .word-at .ensures)) (λ c. c .before .loop .inv .size)
     (λ c. loaded-end (c .before .loop .inv) (omega arith)))

@@ -22,6 +22,5 @@ returns c =
 pub store-spec : {M : Type 1} → statement M
 store-spec =
     tie.close (tie.spec (λ c. sym (length-take-le 16 (c .before .before .before .before .before .args .cells .now) (omega arith)))
-    (λ c κs. omega (arith, length-take-le 16 (c .before .before .before .before .before .before .args .cells .now) (omega arith)))
-    (search needs) (search needs) (search needs) (search needs) (search needs) (search needs) (search needs) store-marks-requires
-    (search needs) (search needs) (search needs) returns)
+    (λ c κs. omega (arith, length-take-le 16 (c .before .before .before .before .before .before .args .cells .now) (omega arith))) (search needs) (search needs)
+    (search needs) (search needs) (search needs) (search needs) (search needs) store-marks-requires (search needs) (search needs) (search needs) returns)

@@ -15,7 +15,7 @@ abbrev μ-loop : tie.MeasureT-loop
 
 pub store-words-spec : {M : Type 1} → statement M
 store-words-spec =
-    tie.close (tie.spec Inv-loop μ-loop (λ c. written-start (c .before .before .pre)) (omega arith) (omega arith) (omega arith)
-    (search needs) (search needs) (search needs) (λ c κs. rw lent-length (omega arith)) (search needs) (omega arith)
+    tie.close (tie.spec Inv-loop μ-loop (λ c. written-start (c .before .before .pre)) (omega arith) (omega arith) (omega arith) (search needs) (search needs)
+    (search needs) (λ c κs. rw lent-length (omega arith)) (search needs) (omega arith)
     (λ c. written-step (c .before .before .before .before .before .before .loop .inv) (omega arith) (c .before .before .put-word .ensures))
     (λ c. c .before .loop .inv .size) (λ c. written-end (c .before .loop .inv) (c .before .before .before .before .pre) (omega arith)))

@@ -14,5 +14,5 @@ returns c =
 pub save-spec : {M : Type 1} → statement M
 save-spec =
     tie.close (tie.spec (search needs) (λ c. sym (length-take-le 16 (c .before .before .args .cells .now) (omega arith))) (search needs)
-    (λ c κs. length-take-le 16 (c .before .before .before .args .cells .now) (omega arith)) (search needs) (search needs) (search needs)
-    (search needs) (search needs) (search needs) (λ c. simp length-set (search needs)) (λ c. search needs) returns)
+    (λ c κs. length-take-le 16 (c .before .before .before .args .cells .now) (omega arith)) (search needs) (search needs) (search needs) (search needs)
+    (search needs) (search needs) (λ c. simp length-set (search needs)) (λ c. search needs) returns)

@@ -10,5 +10,4 @@ returns-2 c =
 
 pub store-image-spec : {M : Type 1} → statement M
 store-image-spec =
-    tie.close (tie.spec (search needs) (λ c. no-image _ _ (c .if1 .taken)) (search needs) (search needs) (search needs) (search needs)
-    (search needs) returns-2)
+    tie.close (tie.spec (search needs) (λ c. no-image _ _ (c .if1 .taken)) (search needs) (search needs) (search needs) (search needs) (search needs) returns-2)

@@ -76,6 +76,6 @@ returns-6 c =
 
 pub act-spec : {M : Type 1} → statement M
 act-spec =
-    tie.close (tie.spec (search needs) (search needs) set-value-requires assign-requires (search needs) shared-slice-read-assign
-    assign-requires-2 variable-requires output-requires test-holds-requires (search needs) (search needs) (search needs) returns
-    (search needs) returns-2 (search needs) returns-3 (search needs) returns-4 (search needs) returns-5 returns-6)
+    tie.close (tie.spec (search needs) (search needs) set-value-requires assign-requires (search needs) shared-slice-read-assign assign-requires-2
+    variable-requires output-requires test-holds-requires (search needs) (search needs) (search needs) returns (search needs) returns-2 (search needs) returns-3
+    (search needs) returns-4 (search needs) returns-5 returns-6)

@@ -19,5 +19,5 @@ pub compute-spec : {M : Type 1} → statement M
 compute-spec =
     tie.close (tie.spec (search needs) (search needs) (search needs)
     (λ c. result-copy (c .before .args .op) (c .before .args .a) (c .before .args .b) (c .match .keys1))
-    (λ c. let s = c .before .before in result-add (s .args .op) (s .args .a) (s .args .b) (c .before .match .keys2) (c .wrapping-add-u32 .ensures))
-    returns-3 returns-4)
+    (λ c. let s = c .before .before in result-add (s .args .op) (s .args .a) (s .args .b) (c .before .match .keys2) (c .wrapping-add-u32 .ensures)) returns-3
+    returns-4)

@@ -155,16 +155,15 @@ statement-time-returns-6 t c =
 pub +sequence-time+statement-time-spec : {M : Type 1} → statement M
 +sequence-time+statement-time-spec =
     close μ-sequence-time μ-statement-time
-    (λ t. sequence-time-lts.spec (sequence-time-claims t) (sequence-time-at t) sequence-time.Post sequence-time-Inv-loop
-    sequence-time-μ-loop (search needs) (λ c. counted-start (c .before .before .pre .1)) (omega arith) (search needs)
-    (sequence-time-returns t) (search needs) (search needs) (search needs) (sequence-time-returns-2 t)
+    (λ t. sequence-time-lts.spec (sequence-time-claims t) (sequence-time-at t) sequence-time.Post sequence-time-Inv-loop sequence-time-μ-loop (search needs)
+    (λ c. counted-start (c .before .before .pre .1)) (omega arith) (search needs) (sequence-time-returns t) (search needs) (search needs) (search needs)
+    (sequence-time-returns-2 t)
     (λ c. omega (arith, period (c .before .before .before .before .before .before .before .before .before .before .settings-in .ensures)))
     (sequence-time-returns-3 t)
-    (λ c. omega (arith, period (c .before .before .before .before .before .before .before .before .before .before .before .settings-in .ensures)))
-    (omega arith) (sequence-time-loop-again t) (λ c. counted-all (c .before .loop .inv) (c .loop-test .left)))
-    λ t. statement-time-lts.spec (statement-time-claims t) (statement-time-at t) statement-time.Post (search needs) (omega arith)
-    (search needs) (search needs) (search needs) (search needs) (omega arith) (statement-time-returns t)
-    (λ c. flat-times (open-there t (c .before)) (c .if2 .taken)) (omega arith) (omega arith) (omega arith)
-    (λ c. first-late (open-there t (c .before .before .before)) (c .before .sequence-time .ensures) (c .if3 .taken)) (search needs)
-    (omega arith) (statement-time-returns-4 t) (omega arith) (omega arith) (omega arith) (statement-time-returns-5 t) (search needs)
-    (omega arith) (statement-time-returns-6 t)
+    (λ c. omega (arith, period (c .before .before .before .before .before .before .before .before .before .before .before .settings-in .ensures))) (omega arith)
+    (sequence-time-loop-again t) (λ c. counted-all (c .before .loop .inv) (c .loop-test .left)))
+    λ t. statement-time-lts.spec (statement-time-claims t) (statement-time-at t) statement-time.Post (search needs) (omega arith) (search needs) (search needs)
+    (search needs) (search needs) (omega arith) (statement-time-returns t) (λ c. flat-times (open-there t (c .before)) (c .if2 .taken)) (omega arith)
+    (omega arith) (omega arith) (λ c. first-late (open-there t (c .before .before .before)) (c .before .sequence-time .ensures) (c .if3 .taken)) (search needs)
+    (omega arith) (statement-time-returns-4 t) (omega arith) (omega arith) (omega arith) (statement-time-returns-5 t) (search needs) (omega arith)
+    (statement-time-returns-6 t)

@@ -23,6 +23,6 @@ returns-4 c = λ t u g h.
 
 pub branch-time-spec : {M : Type 1} → statement M
 branch-time-spec =
-    tie.close (tie.spec (search needs) enum-told (λ c. λ t u g h. branch-left _ t u (subst (Gives _ t) (c .enum-told .given .1) g))
-    (search needs) (search needs) (λ c. λ t u g h. branch-right _ t u (subst (Gives _ u) (c .enum-told2 .given .1) h)) (search needs)
-    (search needs) (search needs) returns-3 (search needs) (search needs) (search needs) returns-4)
+    tie.close (tie.spec (search needs) enum-told (λ c. λ t u g h. branch-left _ t u (subst (Gives _ t) (c .enum-told .given .1) g)) (search needs)
+    (search needs) (λ c. λ t u g h. branch-right _ t u (subst (Gives _ u) (c .enum-told2 .given .1) h)) (search needs) (search needs) (search needs) returns-3
+    (search needs) (search needs) (search needs) returns-4)

@@ -14,5 +14,4 @@ pub kind-ticks-spec : {M : Type 1} → statement M
 kind-ticks-spec =
     tie.close (tie.spec (search needs) (λ c. rw (c .before .pre ∙ c .match .keys1))
     (λ c. rw (c .before .before .pre ∙ c .before .match .keys2) (c .set-ticks .ensures)) (λ c. rw (c .before .pre ∙ c .match .keys3))
-    (λ c. rw (c .before .pre ∙ c .match .keys4)) (λ c. rw (c .before .pre ∙ c .match .keys5)) (λ c. rw (c .before .pre ∙ c .match .keys6))
-    returns-7)
+    (λ c. rw (c .before .pre ∙ c .match .keys4)) (λ c. rw (c .before .pre ∙ c .match .keys5)) (λ c. rw (c .before .pre ∙ c .match .keys6)) returns-7)

@@ -23,5 +23,5 @@ returns-2 c = λ o t g.
 pub loop-time-spec : {M : Type 1} → statement M
 loop-time-spec =
     tie.close (tie.spec (search needs) enum-told
-    (λ c. λ o t g. let r = c .before .before .args .r in loop-over _ (r .kind) (r .count) t o (subst (Gives _ t) (c .enum-told .given .1) g))
-    (search needs) (search needs) mul-up-to add-up-to (search needs) returns-2)
+    (λ c. λ o t g. let r = c .before .before .args .r in loop-over _ (r .kind) (r .count) t o (subst (Gives _ t) (c .enum-told .given .1) g)) (search needs)
+    (search needs) mul-up-to add-up-to (search needs) returns-2)
