@@ -4,7 +4,7 @@ import re
 import sys
 
 WIDTH = 160
-FEW = 2
+FEW = 3
 WORD = r"[^\s(){}\[\],;.\"λ]"
 
 
@@ -20,7 +20,7 @@ def uses(name, rest):
 
 
 def grouped(text):
-    """Modules that stand side by side and bring one or two names each are joined: use A.{B.x, C.y}."""
+    """Modules that stand side by side and bring up to FEW names each are joined: use A.{B.x, C.y}."""
     lines = text.split("\n")
     groups, out = {}, []
     for line in lines:

@@ -2,8 +2,7 @@
 use Prim.Native.Nat.{ℕ, _+_, _≤_, _<_}
 use native.Mathlib.Omega.{arith}
 use mathlib.Core.Path.{_≡_, refl, ap, sym, subst, _∙_}
-use mathlib.Core.Bool.{Bool, true, false}
-use mathlib.Core.List.{List}
+use mathlib.Core.{Bool.Bool, Bool.true, Bool.false, List.List}
 use lib.ListN.{length, getD, set as setAt, length-set}
 use lib.{Seq.getD-set-same, Seq.getD-set-other, Dec.ltb}
 use borrow.Author.Tests.{ltb-true, ltb-false}

@@ -20,8 +20,7 @@ use Rattle.reading.proofs.Walking.{every, block, skip-at, act-at, if-at, open-a
 use Rattle.timing.specs.declared.ticks.Time.{Time}
 use Rattle.timing.specs.declared.ticks.Time.the-variants.{Ticks, OverPeriod}
 use Rattle.timing.specs.{Times.Gives, Times.loopTicks, Blocks.firstTime}
-use Rattle.timing.proofs.Given.{gives-over, was-ticks, was-over}
-use Rattle.timing.proofs.Firsts.{loop-count, parts-time, plain-at}
+use Rattle.timing.proofs.{Given.gives-over, Given.was-ticks, Given.was-over, Firsts.loop-count, Firsts.parts-time, Firsts.plain-at}
 use Rattle.equaliser.specs.declared.measure.Extent.{Extent}
 use Rattle.equaliser.specs.Merged.{padded, branchOut, loopOut, firstOut, firstWaits}
 use Rattle.equaliser.specs.Pads.{Kept, Below, Keeps}

@@ -12,16 +12,14 @@ use Rattle.model.specs.Times.{time}
 use Rattle.records.specs.declared.Record.{Record}
 use Rattle.records.specs.{Records.recordOf, Blocks.blockBytes, Blocks.Wrote}
 use Rattle.records.proofs.Over.{Part, lent, back, part-first, part-fits, part-fits-last}
-use Rattle.records.proofs.Laying.{record-wrote, wrote-next, wrote-last}
-use Rattle.records.proofs.Blocks.{branch-bytes}
+use Rattle.records.proofs.{Laying.record-wrote, Laying.wrote-next, Laying.wrote-last, Blocks.branch-bytes}
 use Rattle.reading.specs.Ranges.{Stands, firstPart, secondPart, afterFirst, testOf}
 use Rattle.reading.specs.{Closing.opensBlock, Walks.StatementAt}
 use Rattle.reading.proofs.Walking.{block, if-at, first-in, second-in}
 use Rattle.equaliser.specs.declared.write.Written.{Written}
 use Rattle.equaliser.specs.{Merged.padded, Merged.firstOut, Pads.Entry}
 use Rattle.equaliser.specs.Written.{BlockFits, BlockWritten, StatementFits, WritesStatement}
-use Rattle.equaliser.proofs.WrittenBytes.{branchBytes}
-use Rattle.equaliser.proofs.WrittenParts.{block-fits, block-laid, block-goes}
+use Rattle.equaliser.proofs.{WrittenBytes.branchBytes, WrittenParts.block-fits, WrittenParts.block-laid, WrittenParts.block-goes}
 
 module _ {s : List ℕ} {i to : ℕ} {pads old : List ℕ} (F : StatementFits s i to 0 pads old) {r : Record} (same : recordOf r ≡ recordAt s i) (k : kindAt s i ≡ IF) where
   abbrev at : StatementAt Task s i to

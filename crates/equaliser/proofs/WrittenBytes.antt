@@ -3,9 +3,8 @@ use Prim.Native.Nat.{ℕ, _-_}
 use mathlib.Core.Path.{_≡_, ap, _∙_}
 use mathlib.Core.List.{List, _++_, append-assoc, append-nil}
 use Rattle.model.specs.declared.Settings.{Settings}
-use Rattle.model.specs.Records.{Rec, recordBytes, bytes}
+use Rattle.model.specs.{Records.Rec, Records.recordBytes, Records.bytes, Times.time}
 use Rattle.model.specs.Trees.{Block, linearise, elseRec, endRec}
-use Rattle.model.specs.Times.{time}
 use Rattle.records.specs.Blocks.{blockBytes}
 use Rattle.records.proofs.Blocks.{bytes-++, bytes-⧺}
 use Rattle.reading.specs.Ranges.{testOf, afterFirst}

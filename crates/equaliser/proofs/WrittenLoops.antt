@@ -7,8 +7,7 @@ use lib.ListN.{length, getD}
 use Rattle.model.specs.declared.Settings.{Settings}
 use Rattle.model.specs.declared.Form.the-variants.{Task}
 use Rattle.model.specs.Records.{Rec, kindAt, recordAt, IF, over}
-use Rattle.model.specs.Trees.{Block, while, size}
-use Rattle.model.specs.Times.{time}
+use Rattle.model.specs.{Trees.Block, Trees.while, Trees.size, Times.time}
 use Rattle.records.specs.declared.Record.{Record}
 use Rattle.records.specs.{Records.recordOf, Blocks.blockBytes, Blocks.Wrote}
 use Rattle.records.proofs.Over.{Part, lent, back, part-first, part-fits-last}
@@ -20,8 +19,7 @@ use Rattle.timing.proofs.Firsts.{parts-time, time-first}
 use Rattle.equaliser.specs.declared.write.Written.{Written}
 use Rattle.equaliser.specs.{Merged.padded, Merged.firstOut, Pads.Entry}
 use Rattle.equaliser.specs.Written.{loopHead, loopTail, BlockFits, BlockWritten, StatementFits, WritesStatement}
-use Rattle.equaliser.proofs.WrittenBytes.{loopBytes, loop-bytes}
-use Rattle.equaliser.proofs.WrittenParts.{block-fits, block-laid, block-goes}
+use Rattle.equaliser.proofs.{WrittenBytes.loopBytes, WrittenBytes.loop-bytes, WrittenParts.block-fits, WrittenParts.block-laid, WrittenParts.block-goes}
 
 module _ {s : List ℕ} {i to : ℕ} {pads old : List ℕ} (F : StatementFits s i to 0 pads old) {r : Record} (same : recordOf r ≡ recordAt s i)
     (o : opensBlock (kindAt s i) ≡ true) (x : kindAt s i ≡ IF → ⊥) where

@@ -10,11 +10,9 @@ use Rattle.model.specs.Records.{Rec, recordBytes, bytes, kindAt, recordAt, SKIP
 use Rattle.model.specs.Trees.{Block, nil, skip, act, branch, while, times, linearise}
 use Rattle.model.specs.Times.{time}
 use Rattle.records.specs.declared.Record.{Record}
-use Rattle.records.specs.Records.{recordOf}
-use Rattle.records.specs.Blocks.{blockBytes, skipBytes, Wrote}
+use Rattle.records.specs.{Records.recordOf, Blocks.blockBytes, Blocks.skipBytes, Blocks.Wrote}
 use Rattle.records.proofs.Over.{Part, lent, back, part-first, part-room, part-fits-last}
-use Rattle.records.proofs.Laying.{record-wrote, wrote-room, wrote-last}
-use Rattle.records.proofs.Blocks.{waiting-bytes, act-bytes}
+use Rattle.records.proofs.{Laying.record-wrote, Laying.wrote-room, Laying.wrote-last, Blocks.waiting-bytes, Blocks.act-bytes}
 use Rattle.reading.specs.{Closing.opensBlock, Walks.StatementAt}
 use Rattle.reading.specs.Ranges.{Stands, firstSize, afterFirst}
 use Rattle.reading.proofs.FirstKinds.{IsAct, shut}

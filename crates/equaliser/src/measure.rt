@@ -74,7 +74,8 @@ fn measure_loop(
     wait: u64,
     pads: &mut [u32; PADS],
 ) -> Extent
-    requires { ⌜ (StatementAsks (now file) i to wait (now pads)) × (recordOf r ≡ recordAt (now file) i) × (opensBlock (kindAt (now file) i) ≡ true) × (kindAt (now file) i ≡ IF → ⊥) ⌝ }
+    requires { ⌜ (StatementAsks (now file) i to wait (now pads)) × (recordOf r ≡ recordAt (now file) i) × (opensBlock (kindAt (now file) i) ≡ true)
+        × (kindAt (now file) i ≡ IF → ⊥) ⌝ }
     ensures { λ e. ⌜ StatementSize (now (file .entry)) i to rack wait (now (pads .entry)) (now (pads .exit)) e ⌝ }
 {
     let body = measure_block(file, i + 1, to, rack, pads);

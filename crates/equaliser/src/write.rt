@@ -36,7 +36,8 @@ fn write_loop(
     pads: &[u32; PADS],
     out: &mut [u8],
 ) -> Written
-    requires { ⌜ (StatementFits (now file) i to 0 (now pads) (now out)) × (recordOf r ≡ recordAt (now file) i) × (opensBlock (kindAt (now file) i) ≡ true) × (kindAt (now file) i ≡ IF → ⊥) ⌝ }
+    requires { ⌜ (StatementFits (now file) i to 0 (now pads) (now out)) × (recordOf r ≡ recordAt (now file) i) × (opensBlock (kindAt (now file) i) ≡ true)
+        × (kindAt (now file) i ≡ IF → ⊥) ⌝ }
     ensures { λ w. ⌜ StatementWritten (now (file .entry)) i to 0 (now (pads .entry)) (now (out .entry)) (now (out .exit)) w ⌝ }
 {
     put_loop_head(out, r);

@@ -18,8 +18,7 @@ use Rattle.placing.specs.declared.clock.State.{State}
 use Rattle.placing.specs.States.{Laying, Stepped, Skipped, backTo}
 use Rattle.layout.specs.Measured.{Meeting, Meets, Entered, Statement}
 use Rattle.layout.specs.declared.skips.Idle.{Idle}
-use Rattle.layout.specs.Idling.{AllIdle, IdleEnds}
-use Rattle.layout.specs.Meetings.{Noting, BlockMeasured, StatementMeasured}
+use Rattle.layout.specs.{Idling.AllIdle, Idling.IdleEnds, Meetings.Noting, Meetings.BlockMeasured, Meetings.StatementMeasured}
 use Rattle.layout.specs.Lent.{loaded, placeIn, passage, Stored, Placed}
 use Rattle.layout.specs.Clocked.{StepStarts, StepEnds, BlockLent, StatementLent, BlockClocked, StatementClocked}
 use Rattle.layout.proofs.{Lending.passage-is, Passing.statement-next, Passing.passing-on, PassingRounds.Loop}

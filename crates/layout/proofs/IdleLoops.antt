@@ -11,8 +11,7 @@ use Rattle.model.specs.declared.Settings.{Settings}
 use Rattle.model.specs.Records.{Rec, kindAt, recordAt, SKIP, TIMES}
 use Rattle.model.specs.Trees.{Test, check, Block, nil, skip, act, _⧺_, size}
 use Rattle.model.specs.{Times.time, Placement.Fits}
-use Rattle.model.specs.Layout.{before, idle, idles}
-use Rattle.model.specs.Standing.{OfForm}
+use Rattle.model.specs.{Layout.before, Layout.idle, Layout.idles, Standing.OfForm}
 use Rattle.theory.specs.Windows.{Free}
 use Rattle.model.proofs.{Trees.⧺-nil, Trees.⧺-assoc}
 use Rattle.theory.proofs.{Times.time-⧺, Windows.idles-longer}

@@ -164,7 +164,7 @@ module _ {s : List ℕ} {i to : ℕ} {σ : Settings} {from : State} {last : ℕ}
 -- AN IF
 
 module _ {s : List ℕ} {i to : ℕ} {σ : Settings} {from test : State} (I : Tested s i to σ from test) (h : test .tick ≤ σ .period) {k : ℕ} (few : k ≤ 1821) where
-  -- the first place behind its own
+  -- the first place after its own
   module _ {n : ℕ} (e : n ≡ min (k + 1) 1821) {old mid : List ℕ} {a : Passage} (A : BlockMeasured s (i + 1) to σ test n old mid a) (l : a .state .tick ≤ σ .period) where
     first-noted : Noted σ (ifs.first I) (test .tick) n (a .ifs) old mid
     first-noted = A .noted (ifs.one I) (ifs.sides I .first) (in-time (A .passed .right (ifs.one I) (ifs.sides I .first)) l)

@@ -7,11 +7,9 @@ use Rattle.model.specs.Trees.{Block, _⧺_, size}
 use Rattle.model.specs.{Times.time, Equalising.merge, Layout.fill, Layout.filled}
 use Rattle.records.specs.Blocks.{skipRecords}
 use Rattle.placing.specs.declared.clock.State.{State}
-use Rattle.placing.specs.Merging.{settled, waits}
-use Rattle.placing.specs.States.{Fillable, FillCounted, backTo}
+use Rattle.placing.specs.{Merging.settled, Merging.waits, States.Fillable, States.FillCounted, States.backTo}
 use Rattle.layout.specs.Measured.{metAt, Meeting, Meets}
-use Rattle.placing.proofs.Settling.{waits-⧺, size-settled, size-merge}
-use Rattle.placing.proofs.Moves.{shows-on}
+use Rattle.placing.proofs.{Settling.waits-⧺, Settling.size-settled, Settling.size-merge, Moves.shows-on}
 
 -- merging one block after another
 pub size-merges : (n : ℕ) (a b : Block) → size (merge n (a ⧺ b)) ≡ size (settled n a) + size (merge (waits n a) b)

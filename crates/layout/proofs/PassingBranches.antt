@@ -5,13 +5,11 @@ use mathlib.Core.Path.{_≡_, refl, ap, ap₂, sym, subst, _∙_}
 use mathlib.Core.List.{List, [], _∷_, _++_, append-nil}
 use Rattle.model.specs.declared.Settings.{Settings}
 use Rattle.model.specs.declared.Form.the-variants.{Equalised}
-use Rattle.model.specs.Records.{kindAt, recordAt, IF}
+use Rattle.model.specs.{Records.kindAt, Records.recordAt, Records.IF, Layout.before, Layout.fill, Layout.filled}
 use Rattle.model.specs.Trees.{Test, check, Block, nil, act, branch, _⧺_, size}
 use Rattle.model.specs.{Times.time, Equalising.merge, Placement.Fits}
-use Rattle.model.specs.Layout.{before, fill, filled}
 use Rattle.theory.specs.Windows.{Free}
-use Rattle.theory.proofs.Times.{time-⧺}
-use Rattle.theory.proofs.Windows.{later, free-tested, free-later}
+use Rattle.theory.proofs.{Times.time-⧺, Windows.later, Windows.free-tested, Windows.free-later}
 use Rattle.records.proofs.Blocks.{size-waiting}
 use Rattle.reading.specs.{Closing.opensBlock, Walks.IfAt}
 use Rattle.reading.specs.Ranges.{InFile, firstPart, secondPart, afterFirst, testOf}
@@ -23,8 +21,7 @@ use Rattle.layout.specs.Measured.{laid, Passes, Met, Meeting, Meets, Rea
 use Rattle.layout.specs.Meetings.{meetings}
 use Rattle.placing.proofs.{Settling.waits-⧺, Settling.size-settled, Moves.shows-on}
 use Rattle.reading.proofs.Walking.{first-in, if-at, second-in}
-use Rattle.layout.proofs.Noting.{meetings-⧺, plain-before, plain-fill}
-use Rattle.layout.proofs.Unrolled.{laid-branch, laid-free, filled-ends}
+use Rattle.layout.proofs.{Noting.meetings-⧺, Noting.plain-before, Noting.plain-fill, Unrolled.laid-branch, Unrolled.laid-free, Unrolled.filled-ends}
 use Rattle.layout.proofs.Passing.{in-time, too-late, passed, passed-late, laying-on}
 use Rattle.layout.proofs.PassingSteps.{LaidAs, laid-as, answered, block}
 

@@ -5,10 +5,9 @@ use mathlib.Core.Path.{_≡_, refl, ap, sym, subst, _∙_}
 use mathlib.Core.List.{List}
 use Rattle.model.specs.declared.Settings.{Settings}
 use Rattle.model.specs.declared.Form.the-variants.{Equalised}
-use Rattle.model.specs.Records.{kindAt, recordAt, TIMES}
+use Rattle.model.specs.{Records.kindAt, Records.recordAt, Records.TIMES, Standing.OfForm}
 use Rattle.model.specs.Trees.{Test, check, Block, nil, act, times, _⧺_, size}
 use Rattle.model.specs.{Times.time, Layout.before, Placement.Fits}
-use Rattle.model.specs.Standing.{OfForm}
 use Rattle.theory.specs.Windows.{Free}
 use Rattle.theory.proofs.{Times.time-⧺}
 use Rattle.reading.specs.{Closing.opensBlock, Walks.OpenAt}
@@ -62,7 +61,7 @@ module _ {s : List ℕ} {i to : ℕ} {σ : Settings} {from : State} {last : ℕ}
   pub body-form : OfForm Equalised body
   body-form = opened .first .fills .of-form
 
-  -- it is laid as its rounds, and the CHECK behind them
+  -- it is laid as its rounds, and the CHECK after them
   abbrev pub check-tick : ℕ
   check-tick = from .tick + time σ (rounds σ body last (from .tick))
 

@@ -2,7 +2,7 @@
 use Prim.Native.Nat.{ℕ, _+_, _*_, _≤_, _<_}
 use native.Mathlib.Omega.{arith}
 use mathlib.Core.Path.{_≡_, refl, ap, ap₂, sym, subst, _∙_}
-use mathlib.Core.Bool.{Bool, true, false, _||_, or-true}
+use mathlib.Core.Bool.{Bool, true, false, or-true}
 use mathlib.Core.List.{List, [], _∷_}
 use lib.{ListN.length, Dec.ltb}
 use borrow.Author.Tests.{ltb-true, ltb-false, lt-ltb, le-ltb}
@@ -13,23 +13,16 @@ use Rattle.model.specs.Trees.{Block, size, linearise, fileTree}
 use Rattle.model.specs.Layout.{unroll, opened, layout, total}
 use Rattle.model.specs.Answers.{Verdict, finished, refusal, laidOut, kept}
 use Rattle.model.specs.Replies.{turnDown, shortWindow, noRoom, layOutRows, laidTree, layOutReply, layOutOut}
-use Rattle.theory.proofs.Accepted.{in-range, fits, room-left}
-use Rattle.theory.proofs.Laid.{total-longer}
+use Rattle.theory.proofs.{Accepted.in-range, Accepted.fits, Accepted.room-left, Laid.total-longer}
 use Rattle.reading.specs.declared.Checked.the-variants.{Valid, Refused}
 use Rattle.records.specs.Blocks.{blockBytes, skipRecords}
-use Rattle.records.proofs.Blocks.{one-skip, length-block}
+use Rattle.records.proofs.Blocks.{one-skip, length-block, above-all}
 use Rattle.reading.specs.{Answers.Reads, Ranges.SoundFile}
 use Rattle.reading.proofs.{Entry.read-settings, Entry.read-sound, Standing.stands-file}
 use Rattle.placing.specs.declared.clock.State.{State}
 use Rattle.placing.specs.States.{Layable, After, started}
 use Rattle.layout.specs.{Measured.FilePassed, Meetings.FileMeasured, Written.FileFits, Answers.InRange, Answers.LaysOutSound}
 use Rattle.layout.proofs.Whole.{few-ifs, opened-total, total-is, size-is}
-
--- ROWS
-
--- a result of more records than a file can have finds no room anywhere
-above-all : (room n : ℕ) → 5461 < n → noRoom room n ≡ true
-above-all room n h = ap (λ (x : Bool). ltb room (12 * n) || x) (lt-ltb 5461 n h) ∙ or-true (ltb room (12 * n))
 
 -- A FILE THAT WAS READ
 

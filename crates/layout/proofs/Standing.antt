@@ -6,8 +6,7 @@ use mathlib.Core.{Bool.false≢true, Logic.inr, List.List}
 use Rattle.model.specs.declared.Form.the-variants.{Equalised}
 use Rattle.model.specs.Records.{kindAt, recordAt, SKIP, IF, TIMES}
 use Rattle.model.specs.Trees.{Block, nil, skip, act, branch, while, times}
-use Rattle.reading.specs.Ranges.{Stands, firstSize, testOf}
-use Rattle.reading.specs.Walks.{StatementAt}
+use Rattle.reading.specs.{Ranges.Stands, Ranges.firstSize, Ranges.testOf, Walks.StatementAt}
 use Rattle.reading.proofs.{FirstKinds.kind-is, FirstKinds.IsAct, Walking.some, Walking.times-at}
 use Rattle.timing.proofs.Firsts.{loop-count}
 

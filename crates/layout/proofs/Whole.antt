@@ -13,20 +13,17 @@ use Rattle.model.specs.{Times.time, Equalising.waiting, Equalising.merge, Recor
 use Rattle.model.specs.Layout.{unroll, commands, left, lay, opened, body, lastValue, layout, total}
 use Rattle.theory.specs.Windows.{Free, round}
 use Rattle.model.proofs.Trees.{⧺-assoc}
-use Rattle.theory.proofs.Times.{time-⧺}
-use Rattle.theory.proofs.Windows.{window-pos, commands-0, free-start}
+use Rattle.theory.proofs.{Times.time-⧺, Windows.window-pos, Windows.commands-0, Windows.free-start}
 use Rattle.records.specs.Blocks.{blockBytes, skipRecords, skipBytes, Wrote}
 use Rattle.records.proofs.Blocks.{size-⧺, size-waiting, bytes-⧺, waiting-bytes, act-bytes, length-block}
 use Rattle.records.proofs.Over.{Part, lent, back, part-first, part-fits, part-lent}
 use Rattle.placing.specs.declared.clock.State.{State}
 use Rattle.layout.specs.declared.measure.Passage.{Passage}
-use Rattle.placing.specs.Merging.{settled, waits}
+use Rattle.placing.specs.{Merging.settled, Merging.waits, Placed.bytesOf, Placed.Lays, Placed.tailBytes}
 use Rattle.placing.specs.States.{Layable, Shows, Laying, After, started}
 use Rattle.reading.specs.Ranges.{SoundFile}
-use Rattle.layout.specs.Measured.{laid, Entered}
+use Rattle.layout.specs.{Measured.laid, Measured.Entered, Written.BlockFits, Written.BlockLaid, Written.FileFits}
 use Rattle.layout.specs.Meetings.{meetings, Holds, BlockMeasured, FileMeasured}
-use Rattle.placing.specs.Placed.{bytesOf, Lays, tailBytes}
-use Rattle.layout.specs.Written.{BlockFits, BlockLaid, FileFits}
 use Rattle.placing.proofs.Settling.{settled-⧺, waits-⧺, merge-settled, Alike, alike-eq, alike-sym, alike-trans, alike-skip}
 use Rattle.placing.proofs.{Going.after-⧺, Going.after-alike, Ticking.left-is}
 use Rattle.layout.proofs.Noting.{holds-notes, meetings-⧺, few-meetings}
@@ -175,7 +172,7 @@ module _ {σ : Settings} (L : Layable σ) where
           let l = left-is L S (omega (arith, eqb-false (s .«ticks_left») 0 e)) in
           rw (ne-eqb (s .tick % σ .window) 0 (λ z. omega (arith, S .below)), l) (alike-eq refl)
 
-  -- what the state behind the last step tells of the whole
+  -- what the state after the last step tells of the whole
   module _ (b : Block) {r : State} (A : After σ (opened σ (unroll b)) started r) where
     abbrev c : Block
     c = opened σ (unroll b)
@@ -220,7 +217,7 @@ module _ {s : List ℕ} {σ : Settings} {table out : List ℕ} (F : FileFits s �
   abbrev whole : List ℕ
   whole = blockBytes (layout σ (fileTree s))
 
-  -- what is laid behind the commands of tick 0 up to the last step, and then the tail
+  -- what is laid after the commands of tick 0 up to the last step, and then the tail
   abbrev middle : Block
   middle = settled 0 (lay σ (unroll (fileTree s)) (σ .beat + σ .save))
 

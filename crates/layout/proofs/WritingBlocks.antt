@@ -66,7 +66,7 @@ module _ {s : List ℕ} {from to : ℕ} {σ : Settings} {at state : State} {next
     split : Writing σ (laid σ (P .all .block) (at .tick)) (one P ⧺ two P) at state old new
     split = writing-same (W .writing) (alike-eq (first P))
 
-    -- the meetings in the statement, and those behind it
+    -- the meetings in the statement, and those after it
     both : Holds (meetings σ (one P) (state .tick) ++ meetings σ (two P) (state .tick + time σ (one P))) n table
     both = subst (λ (ms : List ℕ). Holds ms n table) (ap (λ (c : Block). meetings σ c (state .tick)) (first P) ∙ meetings-⧺ σ (one P) (two P) (state .tick)) (W .holds)
 

@@ -18,8 +18,7 @@ use Rattle.reading.specs.Ranges.{InFile, firstPart, secondPart, afterFirst, tes
 use Rattle.placing.specs.declared.clock.State.{State}
 use Rattle.layout.specs.declared.measure.Passage.{Passage}
 use Rattle.placing.specs.{Merging.settled, Merging.waits, States.cap, States.backTo}
-use Rattle.layout.specs.Measured.{laid, Met, Statement}
-use Rattle.layout.specs.Meetings.{meetings, Holds}
+use Rattle.layout.specs.{Measured.laid, Measured.Met, Measured.Statement, Meetings.meetings, Meetings.Holds}
 use Rattle.placing.specs.Placed.{bytesOf, stepBytes, StepLaid}
 use Rattle.layout.specs.Written.{LaidFits, SideFits, SideLays, SideLaid, StatementFits, StatementLaid}
 use Rattle.placing.proofs.{Settling.size-settled, Settling.bytes-settled, Writing.laidBytes}

@@ -17,10 +17,9 @@ use Rattle.layout.specs.{Measured.laid, Measured.BlockPassed, Meetings.m
 use Rattle.placing.specs.Placed.{stepBytes, StepLaid}
 use Rattle.layout.specs.Written.{LaidFits, StatementFits, BlockFits, BlockLaid, LaysTo, StatementLaid}
 use Rattle.placing.proofs.Settling.{alike-eq}
-use Rattle.layout.proofs.Unrolled.{rounds, rounds-none, rounds-first}
+use Rattle.layout.proofs.{Unrolled.rounds, Unrolled.rounds-none, Unrolled.rounds-first, Passing.passed}
 use Rattle.placing.proofs.Writing.{laidBytes, Writing, writing-start, writing-same, writing-room, writing-next, writing-end}
 use Rattle.layout.proofs.Noting.{holds-left, holds-right, meetings-⧺, plain-step}
-use Rattle.layout.proofs.Passing.{passed}
 use Rattle.layout.proofs.PassingRounds.{Loop, body, test, opened, body-form, check-tick, whole, times-as}
 use Rattle.layout.proofs.PassingRounds.{Rounding, rounding-start, body-entered, more, rounding-next, at-end}
 use Rattle.layout.proofs.WritingSteps.{fits-as, holds-as, answered-as, step-fits, step-lays}

@@ -5,8 +5,7 @@ use mathlib.Core.Path.{_≡_, ap, ap₂, sym, subst, _∙_}
 use mathlib.Core.List.{List, _++_, append-assoc}
 use lib.ListN.{length, length-append}
 use Rattle.model.specs.declared.Settings.{Settings}
-use Rattle.model.specs.Records.{Rec, recordBytes, over}
-use Rattle.model.specs.Trees.{Block, _⧺_, size}
+use Rattle.model.specs.{Records.Rec, Records.recordBytes, Records.over, Trees.Block, Trees._⧺_, Trees.size}
 use Rattle.model.specs.{Times.time, Equalising.merge, Layout.fill, Layout.filled}
 use Rattle.theory.proofs.Times.{time-⧺}
 use Rattle.records.specs.Blocks.{blockBytes, skipBytes}
@@ -18,9 +17,8 @@ use Rattle.placing.specs.{Merging.settled, Merging.waits, States.After}
 use Rattle.layout.specs.Measured.{laid}
 use Rattle.placing.specs.Placed.{bytesOf, closingBytes, EndFits, Closed, EndLaid}
 use Rattle.layout.specs.Written.{BlockFits, BlockLaid, LaysTo, sideBytes, SideFits, SideLays, SideLaid}
-use Rattle.placing.proofs.Settling.{waits-⧺, bytes-settled, bytes-merge}
+use Rattle.placing.proofs.{Settling.waits-⧺, Settling.bytes-settled, Settling.bytes-merge, Writing.laidBytes}
 use Rattle.reading.proofs.Walking.{every}
-use Rattle.placing.proofs.Writing.{laidBytes}
 use Rattle.layout.proofs.{Meeting.size-merges, Passing.laying-on}
 
 -- a side that is laid as b, after w ticks of SKIP, filled by c and closed by x: what is settled of b, and then its end

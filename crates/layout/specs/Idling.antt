@@ -65,7 +65,7 @@ pub record IdleFits (σ : Settings) (k : ℕ) (x : Rec) (s : State) (out : List 
 pub record IdleLaid (σ : Settings) (k : ℕ) (x : Rec) (s : State) (old new : List ℕ) (r : State) : Type 0 where
   pub lays : Lays σ (checked σ k (testOf x) (s .tick)) s old new r
 
--- the ticks of SKIP, and behind them the CHECK where x is no SKIP
+-- the ticks of SKIP, and after them the CHECK where x is no SKIP
 pub record SkipsFit (σ : Settings) (k : ℕ) (x : Rec) (s : State) (out : List ℕ) : Type 0 where
   pub laying : Laying σ s
   pub within : s .tick + time σ (idles σ k (s .tick)) ≤ σ .period

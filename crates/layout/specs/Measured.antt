@@ -36,7 +36,14 @@ pub record Met (σ : Settings) (s : State) (a d : Block) (r : State) : Type 0 wh
 
 -- the clock of the later side, after n records and those of what waits there, and of what closes both sides
 abbrev pub metAt : State → ℕ → State
-metAt l n = record { tick = l .tick; «ticks_left» = l .«ticks_left»; «windows_left» = l .«windows_left»; wait = 0; records = cap (n + (2 + skipRecords (l .wait))) }
+metAt l n = record {
+  tick = l .tick;
+  «ticks_left» = l .«ticks_left»;
+  «windows_left» = l .«windows_left»;
+  wait = 0;
+  records = cap
+      (n + (2 + skipRecords (l .wait)));
+}
 
 -- the sides of an IF end at x and y
 pub record Meeting (σ : Settings) (x y : State) : Type 0 where

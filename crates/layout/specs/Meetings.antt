@@ -51,7 +51,8 @@ pub record Holds (ms : List ℕ) (k : ℕ) (table : List ℕ) : Type 0 where
 -- what measuring answers and notes for a block and for a statement of the file, if it ends in time
 pub record BlockMeasured (s : List ℕ) (i to : ℕ) (σ : Settings) (at : State) (k : ℕ) (old new : List ℕ) (r : Passage) : Type 0 where
   pub passed : BlockPassed s i to σ at r
-  pub noted : (b : Block) → Stands Equalised s i to b → at .tick + time σ (laid σ b (at .tick)) ≤ σ .period → Noted σ (laid σ b (at .tick)) (at .tick) k (r .ifs) old new
+  pub noted : (b : Block) → Stands Equalised s i to b → at .tick + time σ (laid σ b (at .tick)) ≤ σ .period
+      → Noted σ (laid σ b (at .tick)) (at .tick) k (r .ifs) old new
 
 pub record StatementMeasured (s : List ℕ) (i to : ℕ) (σ : Settings) (at : State) (k : ℕ) (old new : List ℕ) (r : Passage) : Type 0 where
   pub passed : StatementPassed s i to σ at r
@@ -61,5 +62,6 @@ pub record StatementMeasured (s : List ℕ) (i to : ℕ) (σ : Settings) (at : S
 -- and for the whole file: its meetings, if the table has room for all
 pub record FileMeasured (s : List ℕ) (σ : Settings) (old new : List ℕ) (r : State) : Type 0 where
   pub passed : FilePassed s σ r
-  pub noted : length old ≡ meetingCount → time σ (opened σ (unroll (fileTree s))) ≤ σ .period → length (meetings σ (opened σ (unroll (fileTree s))) 0) ≤ meetingCount
+  pub noted : length old ≡ meetingCount → time σ (opened σ (unroll (fileTree s))) ≤ σ .period
+      → length (meetings σ (opened σ (unroll (fileTree s))) 0) ≤ meetingCount
       → Holds (meetings σ (opened σ (unroll (fileTree s))) 0) 0 new

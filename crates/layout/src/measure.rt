@@ -111,7 +111,8 @@ fn measure_side(
     meets: &mut [u32; MEETINGS],
 ) -> usize
     requires { ⌜ (BlockLent (now file) i to (now t) (now clock)) × (i < to) ⌝ }
-    ensures { λ r. ⌜ BlockClocked (now (file .entry)) i to (now (t .entry)) (now (clock .entry)) (now (clock .exit)) (now (meets .entry)) (now (meets .exit)) r ⌝ }
+    ensures { λ r. ⌜ BlockClocked (now (file .entry)) i to (now (t .entry)) (now (clock .entry)) (now (clock .exit)) (now (meets .entry))
+        (now (meets .exit)) r ⌝ }
 {
     if closes(kind_at(file, i)) {
         return i;
@@ -129,7 +130,8 @@ fn measure_branch(
     meets: &mut [u32; MEETINGS],
 ) -> usize
     requires { ⌜ (StatementLent (now file) i to (now t) (now clock)) × (kindAt (now file) i ≡ IF) ⌝ }
-    ensures { λ r. ⌜ StatementClocked (now (file .entry)) i to (now (t .entry)) (now (clock .entry)) (now (clock .exit)) (now (meets .entry)) (now (meets .exit)) r ⌝ }
+    ensures { λ r. ⌜ StatementClocked (now (file .entry)) i to (now (t .entry)) (now (clock .entry)) (now (clock .exit)) (now (meets .entry))
+        (now (meets .exit)) r ⌝ }
 {
     let test = stepped(settings_in(t), load(clock), 1);
     store(clock, test);
@@ -166,7 +168,8 @@ fn measure_rounds(
     meets: &mut [u32; MEETINGS],
 ) -> usize
     requires { ⌜ (StatementLent (now file) i to (now t) (now clock)) × (kindAt (now file) i ≡ TIMES) × (count ≡ recordAt (now file) i .count) ⌝ }
-    ensures { λ r. ⌜ StatementClocked (now (file .entry)) i to (now (t .entry)) (now (clock .entry)) (now (clock .exit)) (now (meets .entry)) (now (meets .exit)) r ⌝ }
+    ensures { λ r. ⌜ StatementClocked (now (file .entry)) i to (now (t .entry)) (now (clock .entry)) (now (clock .exit)) (now (meets .entry))
+        (now (meets .exit)) r ⌝ }
 {
     let body = i + 1;
     let mut next = body;
@@ -193,7 +196,8 @@ fn measure_inner(
     meets: &mut [u32; MEETINGS],
 ) -> usize
     requires { ⌜ (StatementLent (now file) i to (now t) (now clock)) × ((eqb (kindAt (now file) i) IF || eqb (kindAt (now file) i) TIMES) ≡ true) ⌝ }
-    ensures { λ r. ⌜ StatementClocked (now (file .entry)) i to (now (t .entry)) (now (clock .entry)) (now (clock .exit)) (now (meets .entry)) (now (meets .exit)) r ⌝ }
+    ensures { λ r. ⌜ StatementClocked (now (file .entry)) i to (now (t .entry)) (now (clock .entry)) (now (clock .exit)) (now (meets .entry))
+        (now (meets .exit)) r ⌝ }
 {
     let r = record_at(file, i);
     if r.kind == kinds::IF {
@@ -217,7 +221,8 @@ fn measure_block(
     meets: &mut [u32; MEETINGS],
 ) -> usize
     requires { ⌜ BlockLent (now file) from to (now t) (now clock) ⌝ }
-    ensures { λ r. ⌜ BlockClocked (now (file .entry)) from to (now (t .entry)) (now (clock .entry)) (now (clock .exit)) (now (meets .entry)) (now (meets .exit)) r ⌝ }
+    ensures { λ r. ⌜ BlockClocked (now (file .entry)) from to (now (t .entry)) (now (clock .entry)) (now (clock .exit)) (now (meets .entry))
+        (now (meets .exit)) r ⌝ }
 {
     let mut state = load(clock);
     let mut next = from;

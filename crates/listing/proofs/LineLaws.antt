@@ -3,10 +3,8 @@ use Prim.Native.Nat.{ℕ, _/_, _≤_, _<_}
 use native.Mathlib.Omega.{arith}
 use mathlib.Core.Path.{_≡_, refl, ap, sym}
 use mathlib.Core.Bool.{Bool, true, false, cond, _||_}
-use mathlib.Core.Logic.{_⊎_, inl, inr}
-use mathlib.Core.List.{List, [], _∷_}
-use lib.ListN.{length, getD, take}
-use lib.Dec.{eqb}
+use mathlib.Core.{Logic._⊎_, Logic.inl, Logic.inr, List.List, List.[], List._∷_}
+use lib.{ListN.length, ListN.getD, ListN.take, Dec.eqb}
 use borrow.Author.Tests.{ne-eqb, eqb-true, eqb-false, lt-ltb, le-ltb}
 use Rattle.model.specs.declared.{Line.Line, Shown.Shown}
 use Rattle.model.specs.Records.{Rec, recordAt, SKIP, SET, READ, WRITE, IF, CHECK, BEAT}

@@ -9,11 +9,9 @@ use lib.Seq.{sets}
 use Rattle.model.specs.declared.Form.the-variants.{Laid}
 use Rattle.model.specs.declared.{Refusal.Refusal, LaidOut.LaidOut, Settings.Settings}
 use Rattle.model.specs.{Settings.settingsOf, Settings.badSettings, Times.time, Records.over, Limits.fileLength}
-use Rattle.model.specs.Trees.{Block, size, linearise}
-use Rattle.model.specs.Answers.{finished, refusal, laidOut}
+use Rattle.model.specs.{Trees.Block, Trees.size, Trees.linearise, Answers.finished, Answers.refusal, Answers.laidOut}
+use Rattle.model.specs.{Listing.startTicks, Listing.laidFrom, Listing.listStarts, Standing.At, Standing.OfForm}
 use Rattle.model.specs.Replies.{equaliseReply, laidTotal, layOutReply, equalisedOf, prepareReply, prepareOut}
-use Rattle.model.specs.Listing.{startTicks, laidFrom, listStarts}
-use Rattle.model.specs.Standing.{At, OfForm}
 use Rattle.model.proofs.{Bytes.recordsAt, Bytes.first-bytes, Trees.length-linearise, Passes.length-file, Stands.begins}
 use Rattle.model.proofs.{Sound.sound-file}
 use Rattle.records.specs.declared.settings.Decoded.the-variants.{Refused}
@@ -21,8 +19,7 @@ use Rattle.records.specs.Decoded.{Decodes}
 use Rattle.records.proofs.Stores.{stored-over}
 use Rattle.reading.specs.Ranges.{Stands}
 use Rattle.reading.proofs.Standing.{standing-at}
-use Rattle.theory.proofs.Accepted.{LayOutAccepted, lay-out-accepted, Runnable}
-use Rattle.theory.proofs.Files.{fileOf, laid-runnable}
+use Rattle.theory.proofs.{Accepted.LayOutAccepted, Accepted.lay-out-accepted, Accepted.Runnable, Files.fileOf, Files.laid-runnable}
 use Rattle.preparation.proofs.Chaining.{never-finished, second-done}
 use Rattle.listing.specs.declared.starts.Place.{Place}
 use Rattle.listing.specs.Starts.{Entered, BlockStarted}

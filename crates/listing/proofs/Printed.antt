@@ -3,8 +3,7 @@ use Prim.Native.Nat.{ℕ, zero, suc, _+_, _/_, _≤_, _<_}
 use native.Mathlib.Omega.{arith}
 use mathlib.Core.Path.{_≡_, refl, ap, ap₂, sym, subst, _∙_}
 use mathlib.Core.List.{List, [], _∷_, _++_}
-use lib.ListN.{length, getD, drop}
-use lib.Seq.{length-sets, drop-cons}
+use lib.{ListN.length, ListN.getD, ListN.drop, Seq.length-sets, Seq.drop-cons}
 use Rattle.model.specs.declared.{Line.Line, Shown.Shown, Refusal.Refusal}
 use Rattle.model.specs.{Settings.settingsOf, Trees.Block, Trees.linearise, Limits.fileLength, Replies.prepareReply, Replies.prepareOut}
 use Rattle.model.specs.Records.{Rec, recordAt, firstRecords, over}
@@ -30,7 +29,7 @@ by-index laid table (suc n) i h =
     ap (λ (ls : List Line). lineOf (getD table i 0) (recordAt laid i) ∷ ls) (by-index laid table n (i + 1) (omega arith))
     ∙ ap₂ linesOf (sym first) (sym (recordsAt-suc laid i n))
 
--- ticks behind those of the records show nowhere
+-- ticks after those of the records show nowhere
 no-more : (ts us : List ℕ) (rs : List Rec) → length rs ≤ length ts → linesOf (ts ++ us) rs ≡ linesOf ts rs
 no-more ts us [] h = no-records (ts ++ us) ∙ sym (no-records ts)
 no-more [] us (r ∷ rs) h = absurd (omega arith)

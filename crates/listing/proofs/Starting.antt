@@ -2,8 +2,7 @@
 use Prim.Native.Nat.{ℕ, suc, _+_, max}
 use native.Mathlib.Omega.{arith}
 use mathlib.Core.Path.{_≡_, refl, ap, _∙_}
-use mathlib.Core.Bool.{false≢true}
-use mathlib.Core.List.{_∷_, _++_, append-assoc}
+use mathlib.Core.{Bool.false≢true, List._∷_, List._++_, List.append-assoc}
 use lib.ListN.{length, length-append}
 use Rattle.model.specs.declared.Form.the-variants.{Laid}
 use Rattle.model.specs.declared.Settings.{Settings}

@@ -2,8 +2,7 @@
 use Prim.Native.Nat.{ℕ, _+_, _≤_, _<_}
 use native.Mathlib.Omega.{arith}
 use mathlib.Core.Path.{_≡_, refl, ap, sym, _∙_}
-use mathlib.Core.Bool.{true, false, false≢true}
-use mathlib.Core.List.{List, [], _∷_}
+use mathlib.Core.{Bool.true, Bool.false, Bool.false≢true, List.List, List.[], List._∷_}
 use lib.{ListN.length, ListN.set as setAt, Seq.sets, Seq.length-sets}
 use Rattle.model.specs.declared.Form.the-variants.{Laid}
 use Rattle.model.specs.declared.Settings.{Settings}

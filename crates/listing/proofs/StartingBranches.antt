@@ -7,9 +7,8 @@ use lib.ListN.{length, length-append, length-set, set as setAt}
 use lib.Seq.{sets, length-sets}
 use Rattle.model.specs.declared.Form.the-variants.{Laid}
 use Rattle.model.specs.declared.Settings.{Settings}
-use Rattle.model.specs.Records.{kindAt, recordAt, IF}
+use Rattle.model.specs.{Records.kindAt, Records.recordAt, Records.IF, Trees.Block, Trees.branch, Trees.size}
 use Rattle.model.specs.{Limits.mostTicks, Times.time, Listing.startTicks}
-use Rattle.model.specs.Trees.{Block, branch, size}
 use Rattle.reading.specs.{Closing.opensBlock, Walks.IfAt}
 use Rattle.reading.specs.Ranges.{InFile, firstPart, secondPart, afterFirst, testOf}
 use Rattle.reading.proofs.Walking.{block, first-in, if-at, second-in}

@@ -5,9 +5,8 @@ use mathlib.Core.Bool.{Bool, true, false, cond}
 use mathlib.Core.List.{List, [], _∷_}
 use lib.Dec.{leb}
 use Rattle.model.specs.declared.Settings.{Settings}
-use Rattle.model.specs.Trees.{Block, _⧺_, size}
+use Rattle.model.specs.{Trees.Block, Trees._⧺_, Trees.size, Stopping.none}
 use Rattle.model.specs.Runs.{Step, step, Run, run}
-use Rattle.model.specs.Stopping.{none}
 use Rattle.theory.proofs.{Sequences.run-⧺, Unindexed.unindexed}
 use Rattle.theory.proofs.Views.{see, Alike, alike-refl, alike-sym, alike-trans, alike-eq, alike-⊳, alike-move}
 use Rattle.stepping.specs.Machines.{Machine, machine, acted, cutOff, turn, does, runs}

@@ -1,4 +1,4 @@
--- What is behind a block, and what the kind of a record says.
+-- What is after a block, and what the kind of a record says.
 use Prim.Native.Nat.{ℕ, _+_}
 use mathlib.Core.Path.{_≡_, ap, sym, _∙_}
 use mathlib.Core.{Bool.true, Bool.false, Logic.⊎-elim, List.List}

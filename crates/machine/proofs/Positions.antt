@@ -1,9 +1,8 @@
--- The records of a file with no loop as places from which it is run: what stands at each, and what is left behind it.
+-- The records of a file with no loop as places from which it is run: what stands at each, and what is left after it.
 use Prim.Native.Nat.{ℕ, zero, suc, _+_, _-_, _≤_}
 use native.Mathlib.Omega.{arith}
 use mathlib.Core.Path.{_≡_, refl, ap, sym, subst, _∙_}
-use mathlib.Core.Bool.{Bool, true, false}
-use mathlib.Core.List.{List, [], _∷_}
+use mathlib.Core.{Bool.Bool, Bool.true, Bool.false, List.List, List.[], List._∷_}
 use lib.Dec.{leb}
 use borrow.Author.Tests.{le-leb, lt-leb, leb-true, leb-false}
 use Rattle.model.specs.declared.{Form.Form, Settings.Settings}
@@ -19,7 +18,7 @@ use Rattle.machine.proofs.Sides.{pending-at, stands-past, second-at, si
 
 -- WHAT IS LEFT AT A RECORD OF AN IF
 
--- the record j, with an IF at i and m and n records in its sides: the IF, of the first side or its ELSE, of the second or its END, or behind
+-- the record j, with an IF at i and m and n records in its sides: the IF, of the first side or its ELSE, of the second or its END, or after
 data Split (i m n j : ℕ) : Type 0 where
   here : i ≡ j → Split i m n j
   one : i + 1 ≤ j → j ≤ i + 1 + m → Split i m n j
@@ -59,7 +58,7 @@ abbrev pub joined : List Block → Block
 joined [] = nil
 joined (b ∷ bs) = b ⧺ joined bs
 
--- at the record j stands a block, and it and those behind it are c
+-- at the record j stands a block, and it and those after it are c
 pub record Position (f : Form) (s : List ℕ) (to j : ℕ) (c : Block) : Type 0 where
   pub chain : Chain f s j to
   pub is : chain .file .block ⧺ joined (chain .pending) ≡ c
@@ -78,7 +77,7 @@ module _ {f : Form} {s : List ℕ} {to i j : ℕ} where
         is = ap (λ (x : Block). x ⧺ joined bs) (sym (ap (rest b) z ∙ rest-0 b));
       }
 
-  -- behind a record that opens no block
+  -- after a record that opens no block
   plain : (c b : Block) (bs : List Block) → size c ≡ 1 + size b → ((k : ℕ) → rest c (suc k) ≡ rest b k) → At s (i + 1) b → OfForm f b
       → (Stands f s (i + 1) (extent s) b → Pending f s to (i + 1 + size b) bs → i + 1 ≤ j → Position f s to j (rest b (j - (i + 1)) ⧺ joined bs))
       → Stands f s i (extent s) c → Pending f s to (i + size c) bs → i ≤ j → Position f s to j (rest c (j - i) ⧺ joined bs)

@@ -2,8 +2,7 @@
 use Prim.Native.Nat.{ℕ, _/_, _≤_}
 use native.Mathlib.Omega.{arith}
 use mathlib.Core.Path.{_≡_, refl, sym, subst, _∙_}
-use mathlib.Core.Bool.{Bool, true, false}
-use mathlib.Core.List.{List}
+use mathlib.Core.{Bool.Bool, Bool.true, Bool.false, List.List}
 use lib.ListN.{length}
 use borrow.Author.Tests.{lt-ltb, le-ltb}
 use Rattle.model.specs.declared.{Form.Form, Settings.Settings, Refusal.Refusal}
@@ -14,8 +13,7 @@ use Rattle.theory.proofs.Accepted.{in-range}
 use Rattle.reading.specs.declared.Checked.{Checked}
 use Rattle.reading.specs.declared.Checked.the-variants.{Valid, Refused}
 use Rattle.reading.specs.Answers.{Reads}
-use Rattle.reading.proofs.Filled.{fills-file}
-use Rattle.reading.proofs.Entry.{none, read-sound, read-settings}
+use Rattle.reading.proofs.{Filled.fills-file, Entry.none, Entry.read-sound, Entry.read-settings}
 use Rattle.timing.specs.declared.ticks.Time.{Time}
 use Rattle.timing.specs.declared.ticks.Time.the-variants.{Ticks, OverPeriod}
 use Rattle.timing.specs.{Times.Gives, Blocks.BlockTimes}

@@ -2,8 +2,7 @@
 use Prim.Native.Nat.{ℕ, _+_, _≤_, _<_}
 use native.Mathlib.Omega.{arith}
 use mathlib.Core.Path.{_≡_, refl, ap, sym, subst, _∙_}
-use mathlib.Core.Bool.{Bool, true, false}
-use mathlib.Core.List.{List, _∷_}
+use mathlib.Core.{Bool.Bool, Bool.true, Bool.false, List.List, List._∷_}
 use Rattle.model.specs.declared.Settings.{Settings}
 use Rattle.model.specs.Records.{Rec, kindAt, recordAt, IF}
 use Rattle.model.specs.Trees.{Test, Block, branch, size}
@@ -12,8 +11,7 @@ use Rattle.reading.specs.Closing.{closesBlock}
 use Rattle.reading.specs.Ranges.{Stands, firstSize, firstPart, secondPart, afterFirst, testOf}
 use Rattle.reading.proofs.Walking.{if-at}
 use Rattle.stepping.specs.declared.progress.Progress.{Progress}
-use Rattle.stepping.specs.Machines.{held, runs}
-use Rattle.stepping.specs.Steps.{going, halted, Ran}
+use Rattle.stepping.specs.{Machines.held, Machines.runs, Steps.going, Steps.halted, Steps.Ran}
 use Rattle.machine.specs.Contracts.{extent, passed, chosen, firstRun, ahead, Begun, Running, Past}
 use Rattle.machine.proofs.Doing.{choose-then, choose-cut, choose-first, choose-second}
 use Rattle.machine.proofs.Sides.{pending-at, second-at, side, side-there, side-after, side-passed, side-pending}

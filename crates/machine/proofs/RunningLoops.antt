@@ -16,8 +16,7 @@ use Rattle.reading.specs.Ranges.{firstSize, firstPart, afterFirst, testOf}
 use Rattle.reading.proofs.Filled.{fills-none}
 use Rattle.reading.proofs.Walking.{open-at, first-in, while-at, times-at}
 use Rattle.stepping.specs.declared.progress.Progress.{Progress}
-use Rattle.stepping.specs.Machines.{held, runs}
-use Rattle.stepping.specs.Steps.{going, halted, Ran}
+use Rattle.stepping.specs.{Machines.held, Machines.runs, Steps.going, Steps.halted, Steps.Ran}
 use Rattle.machine.specs.Contracts.{closing, at-end, Chain, firstRun, Begun, Statement, RecordsRan, StatementRan}
 use Rattle.machine.proofs.Doing.{spin-cut, spin-end, spin-round, rounds-nothing}
 use Rattle.machine.proofs.Running.{runs-same, given-at, onward, cutAt, never, ran-early, ran-on, ran-halted, ran-from}

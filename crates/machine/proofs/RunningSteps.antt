@@ -3,8 +3,7 @@ use Prim.Native.Nat.{ℕ, _+_, _≤_}
 use native.Mathlib.Omega.{arith}
 use mathlib.Core.Path.{_≡_, refl, ap, ap₂, sym, subst, _∙_}
 use mathlib.Core.Bool.{Bool, true, false, _||_}
-use mathlib.Core.Logic.{⊎-elim}
-use mathlib.Core.List.{List, [], _∷_}
+use mathlib.Core.{Logic.⊎-elim, List.List, List.[], List._∷_}
 use lib.Dec.{eqb}
 use borrow.Author.Tests.{eqb-true, eqb-false}
 use Rattle.model.specs.declared.{Form.Form, Settings.Settings}
@@ -14,10 +13,8 @@ use Rattle.model.specs.{Times.ticks, Standing.Fit}
 use Rattle.model.specs.Refusals.{between, unused, testFits, fieldsFit}
 use Rattle.model.specs.Runs.{Effect, nothing, effect, Run, single, step}
 use Rattle.model.proofs.Shapes.{and-left, or-cases}
-use Rattle.reading.specs.Closing.{opensBlock, closesBlock}
-use Rattle.reading.specs.Ranges.{Stands, firstSize, afterFirst}
-use Rattle.reading.proofs.Standing.{stands-once}
-use Rattle.reading.proofs.Walking.{some, skip-at, act-at}
+use Rattle.reading.specs.{Closing.opensBlock, Closing.closesBlock, Ranges.Stands, Ranges.firstSize, Ranges.afterFirst}
+use Rattle.reading.proofs.{Standing.stands-once, Walking.some, Walking.skip-at, Walking.act-at}
 use Rattle.timing.specs.Times.{stepTicks}
 use Rattle.timing.proofs.Firsts.{act-ticks}
 use Rattle.stepping.specs.declared.progress.Progress.{Progress}

@@ -1,4 +1,4 @@
--- What is left behind a block, and the sides of an IF: where each starts, and where the run goes on behind it.
+-- What is left after a block, and the sides of an IF: where each starts, and where the run goes on after it.
 use Prim.Native.Nat.{ℕ, _+_, _≤_, _<_}
 use native.Mathlib.Omega.{arith}
 use mathlib.Core.Path.{_≡_, refl, ap, ap₂, sym, subst, _∙_}
@@ -88,7 +88,7 @@ module _ {f : Form} {s : List ℕ} {i : ℕ} (q : Test) (a d b : Block) (C : Sta
       let m = ap (kindAt s) (sym e) ∙ kind-is s (i + 2 + size a + size d) (C .fills .stands .0 .last) in
       rw m (omega (arith, second-at))
 
-  -- behind it, what follows the IF is left
+  -- after it, what follows the IF is left
   pub side-pending : {to : ℕ} {bs : List Block} (o : Bool) → Pending f s to (i + size (branch q a d b)) bs → Pending f s to (chosen s i o + size (side o)) (b ∷ bs)
   side-pending o p =
       let e = side-passed o in

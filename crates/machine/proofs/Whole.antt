@@ -15,7 +15,8 @@ use Rattle.model.specs.Replies.{ended, badLengths, isSaved, stopRows, imageOver
 use Rattle.model.specs.Answers.{Verdict, finished, refused, bit, kept}
 use Rattle.model.proofs.{Trees.⧺-nil}
 use Rattle.model.specs.{Placement.LoopFree, Standing.Bytes}
-use Rattle.theory.proofs.{Accepted.neither, Sequences.⊳-nil, Reached.rest-reached, Stops.upto-all, Within.run-within}
+use Rattle.model.proofs.Shapes.{neither}
+use Rattle.theory.proofs.{Sequences.⊳-nil, Reached.rest-reached, Stops.upto-all, Within.run-within}
 use Rattle.reading.proofs.Walking.{whole-file}
 use Rattle.stepping.specs.declared.progress.Progress.{Progress}
 use Rattle.stepping.specs.Machines.{Held, held, Machine, machine, does, runs}
@@ -216,7 +217,7 @@ module _ {file : List ℕ} {σ : Settings} {v ins l m : List ℕ} (R : ReadyToRu
     loop-free : LoopFree (fileTree file)
     loop-free = rest-reached (R .form) file j (R .sound .sound) a
 
-    -- what stands at the record, and is left behind it
+    -- what stands at the record, and is left after it
     place : Position (R .form) file (length file / 12) j (rest (fileTree file) (j - 0) ⧺ nil)
     place = position (fileTree file) 0 j [] loop-free (whole-chain R .file .stands) (whole-chain R .follows) (omega arith) (omega (arith, in-file, file-size (R .sound)))
 

@@ -25,14 +25,14 @@ use Rattle.stepping.specs.Steps.{Lent, going, halted, Ran}
 abbrev pub extent : List ℕ → ℕ
 extent s = length s / 12
 
--- the ELSE or END that closes the block behind k, and the record behind that
+-- the ELSE or END that closes the block after k, and the record after that
 unfoldable pub closing : List ℕ → ℕ → ℕ
 closing s k = closingIn s (extent s - (k + 1)) (k + 1) 0
 
 abbrev pub closed : List ℕ → ℕ → ℕ
 closed s k = closing s k + 1
 
--- where a run goes on from the ELSE or END at k: behind the END of the IF, or behind the END itself
+-- where a run goes on from the ELSE or END at k: after the END of the IF, or after the END itself
 abbrev pub passed : List ℕ → ℕ → ℕ
 passed s k = cond (eqb (kindAt s k) ELSE) (closed s k) (k + 1)
 
@@ -44,18 +44,18 @@ chosen s i o = cond o (i + 1) (closed s i)
 abbrev pub isLoop : ℕ → Bool
 isLoop k = eqb k WHILE || eqb k TIMES
 
--- a block stands behind the ELSE or END at k, which is before `to`
+-- a block stands after the ELSE or END at k, which is before `to`
 pub record Behind (f : Form) (s : List ℕ) (to k : ℕ) (b : Block) : Type 0 where
   pub before : k < to
   pub on : k < passed s k
   pub stands : Stands f s (passed s k) (extent s) b
 
--- of the records up to `to`, these blocks are left behind one that ends at k: each is what follows an IF that is open there
+-- of the records up to `to`, these blocks are left after one that ends at k: each is what follows an IF that is open there
 pub data Pending (f : Form) (s : List ℕ) (to : ℕ) : ℕ → List Block → Type 0 where
   at-end : {k : ℕ} → k ≡ to → Pending f s to k []
   and-behind : {k : ℕ} {b : Block} {bs : List Block} → Behind f s to k b → Pending f s to (passed s k + size b) bs → Pending f s to k (b ∷ bs)
 
--- a block stands at i, and of the records up to `to` these blocks are left behind it
+-- a block stands at i, and of the records up to `to` these blocks are left after it
 pub record Chain (f : Form) (s : List ℕ) (i to : ℕ) : Type 0 where
   pub file : InFile f s i (extent s)
   pub pending : List Block
@@ -72,12 +72,12 @@ firstRun σ ins (branch q a d b) i = choose i q (run σ ins a (i + 1)) (run σ i
 firstRun σ ins (while q n a b) i = spin i n q (run σ ins a (i + 1))
 firstRun σ ins (times q n a b) i = rounds n (run σ ins a (i + 1)) ⊳ single 1 i (lastTest q)
 
--- of the blocks that are left behind one that ends at k
+-- of the blocks that are left after one that ends at k
 abbrev pub after : Settings → List ℕ → List ℕ → ℕ → List Block → Run
 after σ ins s k [] = λ v. []
 after σ ins s k (b ∷ bs) = run σ ins b (passed s k) ⊳ after σ ins s (passed s k + size b) bs
 
--- of a block at i, and of those that are left behind it
+-- of a block at i, and of those that are left after it
 abbrev pub ahead : Settings → List ℕ → List ℕ → ℕ → Block → List Block → Run
 ahead σ ins s i b bs = run σ ins b i ⊳ after σ ins s (i + size b) bs
 
@@ -94,7 +94,7 @@ pub record Given (s closings ins w : List ℕ) (limit t : ℕ) : Type 0 where
   pub lent : Lent ins w
   pub early : t ≤ limit
 
--- a sound file is run from the record i on: a block, and those that are left behind it
+-- a sound file is run from the record i on: a block, and those that are left after it
 pub record Started (s : List ℕ) (i : ℕ) (ins w : List ℕ) (limit t : ℕ) : Type 0 where
   pub form : Form
   pub sound : SoundFile form s
@@ -102,7 +102,7 @@ pub record Started (s : List ℕ) (i : ℕ) (ins w : List ℕ) (limit t : ℕ) :
   pub early : t ≤ limit
   pub chain : Chain form s i (extent s)
 
--- the records from i up to `to` are run: a block, and those that are left behind it
+-- the records from i up to `to` are run: a block, and those that are left after it
 pub record Begun (s : List ℕ) (i to : ℕ) (closings ins w : List ℕ) (limit t : ℕ) : Type 0 where
   pub given : Given s closings ins w limit t
   pub form : Form
@@ -146,7 +146,7 @@ pub record Past (s : List ℕ) (i to : ℕ) (closings : List ℕ) (σ : Settings
   pub moved : Moved s i to closings σ ins limit t old new r
   pub on : halted r ≡ false → i < r .next
 
--- whatever is left behind it
+-- whatever is left after it
 pub record OneRan (s : List ℕ) (i : ℕ) (closings : List ℕ) (σ : Settings) (ins : List ℕ) (limit t : ℕ) (old new : List ℕ) (r : Progress) : Type 0 where
   pub past : (to : ℕ) → Begun s i to closings ins old limit t → i < to → Past s i to closings σ ins limit t old new r
 

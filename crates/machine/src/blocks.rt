@@ -37,7 +37,7 @@ fn wide(x: u16) -> usize
     x as usize
 }
 
-// The ELSE or END that closes the block behind k.
+// The ELSE or END that closes the block after k.
 fn last(file: &[u8], k: usize, ends: &[u16]) -> usize
     requires { ⌜ Inner (now file) k (now ends) ⌝ }
     ensures { λ r. ⌜ (r ≡ closing (now (file .entry)) k) × (r < 65536) ⌝ }
@@ -45,7 +45,7 @@ fn last(file: &[u8], k: usize, ends: &[u16]) -> usize
     wide(ends[k + 1])
 }
 
-// The record behind it.
+// The record after it.
 fn behind(file: &[u8], k: usize, ends: &[u16]) -> usize
     requires { ⌜ Inner (now file) k (now ends) ⌝ }
     ensures { λ r. ⌜ r ≡ closed (now (file .entry)) k ⌝ }
@@ -76,8 +76,10 @@ fn run_while(
     tick: u32,
     cells: &mut [u32],
 ) -> Progress
-    requires { ⌜ (Statement (now file) i (now ends) (now inputs) (now cells) limit tick) × (recordOf r ≡ recordAt (now file) i) × (kindAt (now file) i ≡ WHILE) ⌝ }
-    ensures { λ e. ⌜ StatementRan (now (file .entry)) i (settingsIn (now (table .entry))) (now (inputs .entry)) limit tick (now (cells .entry)) (now (cells .exit)) e ⌝ }
+    requires { ⌜ (Statement (now file) i (now ends) (now inputs) (now cells) limit tick) × (recordOf r ≡ recordAt (now file) i)
+        × (kindAt (now file) i ≡ WHILE) ⌝ }
+    ensures { λ e. ⌜ StatementRan (now (file .entry)) i (settingsIn (now (table .entry))) (now (inputs .entry)) limit tick (now (cells .entry))
+        (now (cells .exit)) e ⌝ }
 {
     let body = i + 1;
     let to = last(file, i, ends);
@@ -114,8 +116,10 @@ fn run_times(
     tick: u32,
     cells: &mut [u32],
 ) -> Progress
-    requires { ⌜ (Statement (now file) i (now ends) (now inputs) (now cells) limit tick) × (recordOf r ≡ recordAt (now file) i) × (kindAt (now file) i ≡ TIMES) ⌝ }
-    ensures { λ e. ⌜ StatementRan (now (file .entry)) i (settingsIn (now (table .entry))) (now (inputs .entry)) limit tick (now (cells .entry)) (now (cells .exit)) e ⌝ }
+    requires { ⌜ (Statement (now file) i (now ends) (now inputs) (now cells) limit tick) × (recordOf r ≡ recordAt (now file) i)
+        × (kindAt (now file) i ≡ TIMES) ⌝ }
+    ensures { λ e. ⌜ StatementRan (now (file .entry)) i (settingsIn (now (table .entry))) (now (inputs .entry)) limit tick (now (cells .entry))
+        (now (cells .exit)) e ⌝ }
 {
     let body = i + 1;
     let to = last(file, i, ends);
@@ -149,7 +153,8 @@ fn run_loop(
     cells: &mut [u32],
 ) -> Progress
     requires { ⌜ (Statement (now file) i (now ends) (now inputs) (now cells) limit tick) × (isLoop (kindAt (now file) i) ≡ true) ⌝ }
-    ensures { λ e. ⌜ StatementRan (now (file .entry)) i (settingsIn (now (table .entry))) (now (inputs .entry)) limit tick (now (cells .entry)) (now (cells .exit)) e ⌝ }
+    ensures { λ e. ⌜ StatementRan (now (file .entry)) i (settingsIn (now (table .entry))) (now (inputs .entry)) limit tick (now (cells .entry))
+        (now (cells .exit)) e ⌝ }
 {
     let r = record_at(file, i);
     if r.kind == kinds::WHILE {
@@ -213,7 +218,8 @@ fn run_one(
     cells: &mut [u32],
 ) -> Progress
     requires { ⌜ (Reached (now file) i (now ends) (now inputs) (now cells) limit tick) × (recordOf r ≡ recordAt (now file) i) × (isLoop (r .kind) ≡ false) ⌝ }
-    ensures { λ e. ⌜ OneRan (now (file .entry)) i (now (ends .entry)) (settingsIn (now (table .entry))) (now (inputs .entry)) limit tick (now (cells .entry)) (now (cells .exit)) e ⌝ }
+    ensures { λ e. ⌜ OneRan (now (file .entry)) i (now (ends .entry)) (settingsIn (now (table .entry))) (now (inputs .entry)) limit tick (now (cells .entry))
+        (now (cells .exit)) e ⌝ }
 {
     if r.kind == kinds::END {
         return going(tick, i + 1);
@@ -244,7 +250,8 @@ fn run_steps(
     cells: &mut [u32],
 ) -> Progress
     requires { ⌜ Begun (now file) from to (now ends) (now inputs) (now cells) limit tick ⌝ }
-    ensures { λ e. ⌜ StepsRan (now (file .entry)) from to (now (ends .entry)) (settingsIn (now (table .entry))) (now (inputs .entry)) limit tick (now (cells .entry)) (now (cells .exit)) e ⌝ }
+    ensures { λ e. ⌜ StepsRan (now (file .entry)) from to (now (ends .entry)) (settingsIn (now (table .entry))) (now (inputs .entry)) limit tick
+        (now (cells .entry)) (now (cells .exit)) e ⌝ }
 {
     let mut at = tick;
     let mut next = from;
@@ -276,7 +283,8 @@ pub fn run_records(
     cells: &mut [u32],
 ) -> Progress
     requires { ⌜ Begun (now file) from to (now ends) (now inputs) (now cells) limit tick ⌝ }
-    ensures { λ e. ⌜ RecordsRan (now (file .entry)) from to (settingsIn (now (table .entry))) (now (inputs .entry)) limit tick (now (cells .entry)) (now (cells .exit)) e ⌝ }
+    ensures { λ e. ⌜ RecordsRan (now (file .entry)) from to (settingsIn (now (table .entry))) (now (inputs .entry)) limit tick (now (cells .entry))
+        (now (cells .exit)) e ⌝ }
 {
     let mut at = tick;
     let mut next = from;

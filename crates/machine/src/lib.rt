@@ -7,7 +7,8 @@ ghost use mathlib.Core.Path.{_≡_};
 ghost use lib.ListN.{length, replicate};
 ghost use Rattle.model.specs.Limits.{imageLength, portCount};
 ghost use Rattle.model.specs.Answers.{ran, stopped};
-ghost use Rattle.model.specs.Replies.{runReply, runBuffers, stopReply, stopBuffers, stopImage, resumeReply, resumeBuffers, restartReply, restartBuffers, buffersOf, loan};
+ghost use Rattle.model.specs.Replies.{runReply, runBuffers, stopReply, stopBuffers, stopImage, resumeReply, resumeBuffers, restartReply, restartBuffers};
+ghost use Rattle.model.specs.Replies.{buffersOf, loan};
 ghost use Rattle.machine.specs.Calls.{ReadyToRun, RunWhole, StopsSound, Resumes};
 use model::Form;
 use model::Ran;
@@ -72,7 +73,8 @@ pub fn run(
     levels: &mut [u32],
     marks: &mut [u8],
 ) -> Ran
-    ensures { λ r. ⌜ (let c = loan (now (settings .entry)) form (now (file .entry)) (now (variables .entry)) (now (inputs .entry)) (now (levels .entry)) (now (marks .entry)) in
+    ensures { λ r. ⌜ (let c = loan (now (settings .entry)) form (now (file .entry)) (now (variables .entry)) (now (inputs .entry)) (now (levels .entry))
+        (now (marks .entry)) in
         ((ran r ≡ runReply c) × (buffersOf (now (variables .exit)) (now (levels .exit)) (now (marks .exit)) ≡ runBuffers c))) ⌝ }
 {
     let bad = bad_buffers(
@@ -108,7 +110,8 @@ fn run_until_ready(
     stop: u32,
 ) -> Stopped
     requires { ⌜ (ReadyToRun (now file) rack (now variables) (now inputs) (now levels) (now marks)) × (length (now image) ≡ imageLength) ⌝ }
-    ensures { λ r. ⌜ StopsSound (now (file .entry)) rack (now (inputs .entry)) stop (now (variables .entry)) (now (levels .entry)) (now (marks .entry)) (now (image .entry))
+    ensures { λ r. ⌜ StopsSound (now (file .entry)) rack (now (inputs .entry)) stop (now (variables .entry)) (now (levels .entry)) (now (marks .entry))
+        (now (image .entry))
         (now (variables .exit)) (now (levels .exit)) (now (marks .exit)) (now (image .exit)) r ⌝ }
 {
     let mut cells: [u32; CELLS] = [0; CELLS];
@@ -134,7 +137,8 @@ pub fn run_until(
     image: &mut [u8],
     stop: u32,
 ) -> Stopped
-    ensures { λ r. ⌜ (let c = loan (now (settings .entry)) form (now (file .entry)) (now (variables .entry)) (now (inputs .entry)) (now (levels .entry)) (now (marks .entry)) in
+    ensures { λ r. ⌜ (let c = loan (now (settings .entry)) form (now (file .entry)) (now (variables .entry)) (now (inputs .entry)) (now (levels .entry))
+        (now (marks .entry)) in
         ((stopped r ≡ stopReply c (now (image .entry)) stop)
         × (buffersOf (now (variables .exit)) (now (levels .exit)) (now (marks .exit)) ≡ stopBuffers c (now (image .entry)) stop)
         × (now (image .exit) ≡ stopImage c (now (image .entry)) stop))) ⌝ }
@@ -166,7 +170,8 @@ fn resume_ready(
     image: &[u8],
 ) -> Ran
     requires { ⌜ (ReadyToRun (now file) rack (now variables) (now inputs) (now levels) (now marks)) × (length (now image) ≡ imageLength) ⌝ }
-    ensures { λ r. ⌜ Resumes (now (file .entry)) rack (now (inputs .entry)) (now (variables .entry)) (now (levels .entry)) (now (marks .entry)) (now (image .entry))
+    ensures { λ r. ⌜ Resumes (now (file .entry)) rack (now (inputs .entry)) (now (variables .entry)) (now (levels .entry)) (now (marks .entry))
+        (now (image .entry))
         (now (variables .exit)) (now (levels .exit)) (now (marks .exit)) r ⌝ }
 {
     let mut words: [u32; 18] = [0; 18];
@@ -202,7 +207,8 @@ pub fn resume(
     marks: &mut [u8],
     image: &[u8],
 ) -> Ran
-    ensures { λ r. ⌜ (let c = loan (now (settings .entry)) form (now (file .entry)) (now (variables .entry)) (now (inputs .entry)) (now (levels .entry)) (now (marks .entry)) in
+    ensures { λ r. ⌜ (let c = loan (now (settings .entry)) form (now (file .entry)) (now (variables .entry)) (now (inputs .entry)) (now (levels .entry))
+        (now (marks .entry)) in
         ((ran r ≡ resumeReply c (now (image .entry)))
         × (buffersOf (now (variables .exit)) (now (levels .exit)) (now (marks .exit)) ≡ resumeBuffers c (now (image .entry))))) ⌝ }
 {
@@ -230,7 +236,8 @@ pub fn restart(
     levels: &mut [u32],
     marks: &mut [u8],
 ) -> Ran
-    ensures { λ r. ⌜ (let c = loan (now (settings .entry)) form (now (file .entry)) (now (variables .entry)) (now (inputs .entry)) (now (levels .entry)) (now (marks .entry)) in
+    ensures { λ r. ⌜ (let c = loan (now (settings .entry)) form (now (file .entry)) (now (variables .entry)) (now (inputs .entry)) (now (levels .entry))
+        (now (marks .entry)) in
         ((ran r ≡ restartReply c) × (buffersOf (now (variables .exit)) (now (levels .exit)) (now (marks .exit)) ≡ restartBuffers c))) ⌝ }
 {
     let bad = bad_buffers(

@@ -27,7 +27,8 @@ fn run_by(
     cells: &mut [u32],
 ) -> Progress
     requires { ⌜ (Started (now file) from (now inputs) (now cells) limit tick) × (extent (now file) < length (now ends)) ⌝ }
-    ensures { λ e. ⌜ RecordsRan (now (file .entry)) from (extent (now (file .entry))) rack (now (inputs .entry)) limit tick (now (cells .entry)) (now (cells .exit)) e ⌝ }
+    ensures { λ e. ⌜ RecordsRan (now (file .entry)) from (extent (now (file .entry))) rack (now (inputs .entry)) limit tick (now (cells .entry))
+        (now (cells .exit)) e ⌝ }
 {
     let to = file.len() / 12;
     fill(file, to, ends);
@@ -47,7 +48,8 @@ pub fn run_from(
     cells: &mut [u32],
 ) -> Progress
     requires { ⌜ Started (now file) from (now inputs) (now cells) limit tick ⌝ }
-    ensures { λ e. ⌜ RecordsRan (now (file .entry)) from (extent (now (file .entry))) rack (now (inputs .entry)) limit tick (now (cells .entry)) (now (cells .exit)) e ⌝ }
+    ensures { λ e. ⌜ RecordsRan (now (file .entry)) from (extent (now (file .entry))) rack (now (inputs .entry)) limit tick (now (cells .entry))
+        (now (cells .exit)) e ⌝ }
 {
     if file.len() / 12 <= TASK_RECORDS {
         let mut ends: [u16; TASK_PLACES] = [0; TASK_PLACES];

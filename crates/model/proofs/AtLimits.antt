@@ -1,15 +1,13 @@
 -- Document 01, "Why a call is turned down", rows 8 to 12: what the calls answer at the limits and past them. Row 7 is tasks F and G.
 use Prim.Native.Nat.{ℕ}
-use mathlib.Core.Path.{refl}
-use mathlib.Core.List.{List, [], _∷_}
+use mathlib.Core.{Path.refl, List.List, List.[], List._∷_}
 use lib.ListN.{replicate}
 use Rattle.model.specs.declared.Form.the-variants.{Task, Laid}
 use Rattle.model.specs.Records.{firstRecords, records, bytes, SKIP, BEAT, SAVE}
 use Rattle.model.specs.{Settings.settingsOf, Settings.badSettings, Runs.effect, Equalising.equalise, Chain.lend}
 use Rattle.model.specs.Trees.{linearise, stackOf, treeOf, fileTree}
 use Rattle.model.specs.Layout.{before, lastValue, layout, total}
-use Rattle.model.specs.Stopping.{imageBytes, imageOf, takeUp}
-use Rattle.model.specs.Refusals.{fieldsFit, scan, fault}
+use Rattle.model.specs.{Stopping.imageBytes, Stopping.imageOf, Stopping.takeUp, Refusals.fieldsFit, Refusals.scan, Refusals.fault}
 use Rattle.model.specs.Replies.{reading, timeReply, equalisedTree, equaliseReply, laidTree, layOutReply, prepareReply}
 use Rattle.model.specs.Replies.{Loan, ready, stepsOf, runReply, imageAt, stopReply, takenUp, resumeReply}
 use Rattle.model.proofs.Bench.{row, file, settings, junk}

@@ -1,7 +1,6 @@
 -- Document 01, "Bench tasks": the lettered tasks A to K, from their bytes to the replies, as one theorem over a list.
 use Prim.Native.Nat.{ℕ, zero, suc, _-_}
-use mathlib.Core.Path.{_≡_, refl}
-use mathlib.Core.Bool.{Bool, true, false}
+use mathlib.Core.{Path._≡_, Path.refl, Bool.Bool, Bool.true, Bool.false}
 use mathlib.Core.List.{List, [], _∷_, _++_}
 use lib.ListN.{length, getD, take, drop, replicate}
 use Rattle.model.specs.declared.Form.the-variants.{Task}
@@ -10,9 +9,8 @@ use Rattle.model.specs.{Settings.settingsOf, Settings.badSettings, Equal
 use Rattle.model.specs.Trees.{linearise, stackOf, treeOf, fileTree}
 use Rattle.model.specs.Runs.{Effect, nothing, assigns, outputs, beats, saves, overruns, Buffers, isBeat, isSave, starts, holds, result, effect}
 use Rattle.model.specs.Layout.{before, lastValue, layout, total}
-use Rattle.model.specs.Stopping.{imageBytes, imageOf, takeUp}
-use Rattle.model.specs.Refusals.{fieldsFit, scan, fault}
-use Rattle.model.specs.Answers.{Verdict, finished, refused}
+use Rattle.model.specs.{Stopping.imageBytes, Stopping.imageOf, Stopping.takeUp, Refusals.fieldsFit, Refusals.scan, Refusals.fault}
+use Rattle.model.specs.{Answers.Verdict, Answers.finished, Answers.refused}
 use Rattle.model.specs.Replies.{reading, timeReply, equalisedTree, equaliseReply, equaliseOut, laidTree, layOutReply, layOutOut, prepareReply}
 use Rattle.model.specs.Replies.{Loan, ready, stepsOf, runReply, runBuffers, imageAt, stopReply, stopBuffers, stopImage}
 use Rattle.model.specs.Replies.{takenUp, takenBuffers, resumeReply, resumeBuffers, restartReply, restartBuffers}

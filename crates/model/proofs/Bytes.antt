@@ -16,7 +16,7 @@ unfolding bytes
 length-bytes [] = refl
 length-bytes (r ∷ rs) = omega (arith, length-bytes rs)
 
--- whatever stands behind them
+-- whatever stands after them
 pub first-bytes : (rs : List Rec) (rest : List ℕ) → firstRecords (length rs) (bytes rs ++ rest) ≡ rs
 unfolding bytes firstRecords
 first-bytes [] rest = refl

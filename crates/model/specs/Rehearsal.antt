@@ -115,7 +115,8 @@ pub record Admitted (stop : Stop) (k : Chain) : Type 0 where
 abbrev pub Twice : Stop → Chain → Verdict → Type 0
 Twice Stop.Never k r = Unit {0}
 Twice (Stop.At c) k r =
-    (valueAt 7 r ≡ k .stop - lastSaveEnd 0 0 (endedBy (k .stop) 0 (stepsOf (stoppedLoan k)))) × (valueAt 7 r < settingsOf (k .settings) .spacing * settingsOf (k .settings) .window)
+    (valueAt 7 r ≡ k .stop - lastSaveEnd 0 0 (endedBy (k .stop) 0 (stepsOf (stoppedLoan k))))
+    × (valueAt 7 r < settingsOf (k .settings) .spacing * settingsOf (k .settings) .window)
 
 -- not refused once prepared, and alike exactly when the plain ends are
 pub record Confirms (stop : Stop) (k : Chain) (r : Verdict) : Type 0 where

@@ -91,7 +91,7 @@ linearise (while q n a b) = testRec WHILE q n ∷ (linearise a ++ endRec ∷ lin
 linearise (times q n a b) = testRec TIMES q n ∷ (linearise a ++ endRec ∷ linearise b)
 
 -- The tree of records, read from the last record to the first with a stack: its top is the block up to the next ELSE or END that
--- closes a block opened further left, and below it stands the block behind each such ELSE or END.
+-- closes a block opened further left, and below it stands the block after each such ELSE or END.
 abbrev pub top : List Block → Block
 top [] = nil
 top (b ∷ bs) = b

@@ -6,8 +6,7 @@ use Rattle.model.specs.declared.Settings.{Settings}
 use Rattle.model.specs.Trees.{Block, nil, _⧺_, size}
 use Rattle.theory.proofs.Times.{time-⧺}
 use Rattle.placing.specs.declared.clock.State.{State}
-use Rattle.placing.specs.Merging.{settled, waits}
-use Rattle.placing.specs.States.{cap, Shows, After}
+use Rattle.placing.specs.{Merging.settled, Merging.waits, States.cap, States.Shows, States.After}
 use Rattle.placing.proofs.Settling.{waits-⧺, size-settled, Alike}
 
 module _ {σ : Settings} where

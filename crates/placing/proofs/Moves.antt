@@ -11,8 +11,7 @@ use Rattle.records.specs.Blocks.{skipRecords}
 use Rattle.records.proofs.Blocks.{size-waiting}
 use Rattle.placing.specs.declared.clock.State.{State}
 use Rattle.placing.specs.States.{cap, Shows, Laying, After, Readied, Stepped}
-use Rattle.placing.proofs.Going.{after-nil, after-⧺, after-alike}
-use Rattle.placing.proofs.Ticking.{commands-due, before-waits, before-none}
+use Rattle.placing.proofs.{Going.after-nil, Going.after-⧺, Going.after-alike, Ticking.commands-due, Ticking.before-waits, Ticking.before-none}
 
 -- s moved k ticks on, while w ticks of SKIP wait and n records are laid
 abbrev pub on : State → ℕ → ℕ → ℕ → State

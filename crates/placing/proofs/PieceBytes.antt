@@ -14,9 +14,7 @@ use Rattle.records.specs.Blocks.{blockBytes, skipRecords, skipBytes, Wrote}
 use Rattle.records.proofs.Blocks.{length-block, waiting-bytes}
 use Rattle.records.proofs.Over.{Part, lent, back, part-first, part-end, part-last}
 use Rattle.placing.specs.declared.clock.State.{State}
-use Rattle.placing.specs.Merging.{settled, waits}
-use Rattle.placing.specs.States.{Laying, After, backTo}
-use Rattle.placing.specs.Placed.{bytesOf, Lays, Closed}
+use Rattle.placing.specs.{Merging.settled, Merging.waits, States.Laying, States.After, States.backTo, Placed.bytesOf, Placed.Lays, Placed.Closed}
 use Rattle.placing.proofs.{Settling.size-merge, Moves.shows-on, Writing.laidBytes}
 use Rattle.placing.proofs.Ticking.{commands-due, before-waits, before-none}
 
@@ -97,7 +95,7 @@ pub lays-wrote : {σ : Settings} {s r : State} {n : ℕ} (c : Block) {old new : 
     → n ≡ laidBytes s r → Wrote (bytesOf s c) old new n
 lays-wrote {s = s} c L h e = record { laid = L .wrote; count = omega (arith, L .after .records, length-block (settled (s .wait) c)) }
 
--- what waits behind a piece is counted with it
+-- what waits after a piece is counted with it
 pub settled-few : (m n : ℕ) (c : Block) → m + size (merge n c) ≤ 5461 → m + size (settled n c) ≤ 5461
 settled-few m n c h = omega (arith, size-merge n c)
 

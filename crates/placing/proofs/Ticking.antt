@@ -1,15 +1,13 @@
 -- A state's counts tell what the definitions work out by remainders: the commands that are due, the ticks left, what stands before a step.
 use Prim.Native.Nat.{ℕ, _+_, _*_, _-_, _%_, _≤_, _<_}
-use native.Mathlib.Omega.{arith}
-use native.Mathlib.Nat.{add-zero, mod-lt, mul-le-mul-left}
+use native.Mathlib.{Omega.arith, Nat.add-zero, Nat.mod-lt, Nat.mul-le-mul-left}
 use mathlib.Core.Path.{_≡_, refl, ap, sym, _∙_}
 use mathlib.Core.Bool.{Bool, true, false, cond}
 use lib.Dec.{eqb, ltb}
 use borrow.Author.Tests.{ltb-true, ltb-false, lt-ltb, le-ltb, eqb-true, eqb-false, eq-eqb, ne-eqb}
 use Rattle.model.specs.declared.Settings.{Settings}
 use Rattle.model.specs.Trees.{beat, save, Block, nil, skip, act}
-use Rattle.model.specs.Times.{time, longest}
-use Rattle.model.specs.Layout.{commands, left, before}
+use Rattle.model.specs.{Times.time, Times.longest, Layout.commands, Layout.left, Layout.before}
 use Rattle.theory.specs.Windows.{round}
 use Rattle.model.proofs.Trees.{⧺-nil}
 use Rattle.theory.proofs.{Times.time-⧺, Sequences.either, Clock.mod-within, Clock.mod-over}

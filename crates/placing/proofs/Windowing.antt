@@ -17,9 +17,8 @@ use Rattle.records.proofs.Blocks.{one-skip}
 use Rattle.placing.specs.declared.clock.State.{State}
 use Rattle.placing.specs.States.{cap, Layable, Shows, Laying, After, Idled, Skipped, Fillable, FillCounted}
 use Rattle.placing.proofs.Settling.{Alike, alike-eq, alike-sym, alike-trans, alike-⧺, alike-skip, size-settled, size-merge, waits-⧺}
-use Rattle.placing.proofs.Going.{after-nil, after-⧺, after-alike}
-use Rattle.placing.proofs.Ticking.{commands-due, before-waits, before-none}
-use Rattle.placing.proofs.Moves.{on, shows-on}
+use Rattle.placing.proofs.{Going.after-nil, Going.after-⧺, Going.after-alike, Ticking.commands-due, Ticking.before-waits, Ticking.before-none}
+use Rattle.placing.proofs.{Moves.on, Moves.shows-on}
 use Rattle.placing.proofs.Filling.{idles-filled, fill-more, before-on, ticks-on}
 
 -- more ticks than there are up to e change nothing

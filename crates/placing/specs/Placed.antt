@@ -48,7 +48,7 @@ pub record EndFits (σ : Settings) (s : State) (e : ℕ) (x : Rec) (out : List �
   pub few : s .records + size (merge (s .wait) (fill σ (e - s .tick) (s .tick) e)) ≤ fileRecords
   pub room : length (closingBytes σ s e x) ≤ length out
 
--- the state behind c, laid from s on, and the record that closes it
+-- the state after c, laid from s on, and the record that closes it
 pub record Closed (σ : Settings) (c : Block) (s r : State) : Type 0 where
   pub shows : Shows σ r
   pub tick : r .tick ≡ s .tick + time σ c

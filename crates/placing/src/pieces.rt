@@ -72,7 +72,8 @@ pub fn put_step(rack: Settings, from: State, d: u32, r: Record, out: &mut [u8]) 
 
 // So many single ticks of SKIP, window by window.
 pub fn put_skips(rack: Settings, from: State, count: u32, out: &mut [u8]) -> State
-    requires { ⌜ (Laying rack from) × (from .tick + time rack (idles rack count (from .tick)) ≤ rack .period) × (Room (idles rack count (from .tick)) from (now out)) ⌝ }
+    requires { ⌜ (Laying rack from) × (from .tick + time rack (idles rack count (from .tick)) ≤ rack .period)
+        × (Room (idles rack count (from .tick)) from (now out)) ⌝ }
     ensures { λ r. ⌜ Lays rack (idles rack count (from .tick)) from (now (out .entry)) (now (out .exit)) r ⌝ }
 {
     let mut s = from;

@@ -8,9 +8,8 @@ use Rattle.model.specs.declared.{Line.Line, Shown.Shown, Refusal.Refusal, LaidO
 use Rattle.model.specs.{Records.recordAt, Records.over, Answers.row, Answers.laidOut, Limits.fileLength}
 use Rattle.model.specs.{Replies.prepareReply, Replies.prepareOut}
 use Rattle.model.specs.Listing.{lineOf, lineAt, listStarts, ascii, decimal, lineText, linesText, listed, turnedDown, printed, printedText}
-use Rattle.listing.proofs.LineLaws.{at-most-four, line-there}
+use Rattle.listing.proofs.{LineLaws.at-most-four, LineLaws.line-there, Printed.Listing, Printed.listing-written, Printed.printed-refused}
 use Rattle.listing.specs.Lines.{linesIn}
-use Rattle.listing.proofs.Printed.{Listing, listing-written, printed-refused}
 use Rattle.records.proofs.Stores.{stored-over}
 use Rattle.text.specs.Pieces.{Put}
 use Rattle.text.proofs.Pieces.{put-same, put-then}

@@ -48,7 +48,7 @@ fn put_lines(page: &mut [u8], laid: &[u8], starts: &[u32], records: usize) -> us
     to
 }
 
-// The lines, and the total behind them.
+// The lines, and the total after them.
 fn put_listing(page: &mut [u8], laid: &[u8], starts: &[u32], records: usize, total: u32) -> usize
     requires { ⌜ Room (now laid) (now starts) records (now page) ⌝ }
     ensures { λ r. ⌜ (Put (printedText (listed (linesIn (now (laid .entry)) (now (starts .entry)) 0 records) total)) 0 (now (page .entry)) (now (page .exit)) r)

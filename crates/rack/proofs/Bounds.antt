@@ -1,20 +1,19 @@
 -- How large the values of a finished result can be, and that C reads them back from the bits of the number that it gets.
 use Prim.Native.Nat.{ℕ, _+_, _*_, _/_, _%_, _^_, _≤_}
 use native.Mathlib.Omega.{arith}
-use mathlib.Core.Path.{_≡_, ap, sym}
+use mathlib.Core.{Path._≡_, Path.ap, Path.sym, List.List, List.[], List._∷_}
 use mathlib.Core.Bool.{Bool, true, false, not, _||_}
-use mathlib.Core.List.{List, [], _∷_}
 use lib.{Dec.leb, ListN.getD}
 use borrow.Author.Tests.{ltb-false, leb-false, not-false}
 use Rattle.model.specs.declared.Form.{Form}
 use Rattle.model.specs.{Settings.settingsOf, Trees.fileTree, Times.time, Refusals.sound, Refusals.fault, Limits.fileLength}
-use Rattle.model.specs.Runs.{Step, duration, overran}
+use Rattle.model.specs.{Runs.Step, Runs.duration, Runs.overran, Answers.Verdict, Answers.finished, Answers.bit}
 use Rattle.model.specs.Stopping.{Image, imageOf, start, rest, takeUp}
-use Rattle.model.specs.Answers.{Verdict, finished, bit}
 use Rattle.model.specs.Replies.{turnDown, above, fileTime, timeReply, equaliseReply, layOutReply, equalisedOf, prepareReply}
 use Rattle.model.specs.Replies.{Loan, badBuffers, badImageLength, ready, ended, stepsOf, runReply, stopReply, imageAt, isSaved, takenUp, afterSave, strayImage, resumeReply, restartReply}
+use Rattle.model.proofs.Shapes.{neither}
 use Rattle.theory.proofs.{Within.run-within, Left.rest-0, Reached.rest-reached}
-use Rattle.theory.proofs.Accepted.{neither, passed, read, in-range, equalise-accepted, lay-out-accepted}
+use Rattle.theory.proofs.Accepted.{passed, read, in-range, equalise-accepted, lay-out-accepted}
 use Rattle.preparation.proofs.Chaining.{second-done}
 use Rattle.machine.proofs.Positions.{rest-shorter}
 use Rattle.rack.specs.Words.{fileWord, runWord}

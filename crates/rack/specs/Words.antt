@@ -17,7 +17,8 @@ abbrev pub firstIn : Verdict → ℕ
 firstIn (finished xs) = getD xs 0 0
 firstIn (refused n xs) = 0
 
--- A refusal: bit 63, its number in bits 56 to 62, and in bits 0 to 55 the value, or the largest number that has room there; 0 where the number is returned alone.
+-- A refusal: bit 63, its number in bits 56 to 62, and in bits 0 to 55 the value, or the largest number that has room there; 0 where the number is returned
+-- alone.
 abbrev pub refusedWord : ℕ → ℕ → ℕ
 refusedWord n x = 2 ^ 63 + 2 ^ 56 * n + min x (2 ^ 56 - 1)
 

@@ -72,7 +72,8 @@ pub extern "C" fn rack_run(
     levels: &mut [u32],
     marks: &mut [u8],
 ) -> u64
-    ensures { λ r. ⌜ (let c = loan (now (settings .entry)) (formOf form) (now (file .entry)) (now (variables .entry)) (now (inputs .entry)) (now (levels .entry)) (now (marks .entry)) in
+    ensures { λ r. ⌜ (let c = loan (now (settings .entry)) (formOf form) (now (file .entry)) (now (variables .entry)) (now (inputs .entry))
+        (now (levels .entry)) (now (marks .entry)) in
         ((r ≡ packed runWord (runReply c)) × (buffersOf (now (variables .exit)) (now (levels .exit)) (now (marks .exit)) ≡ runBuffers c))) ⌝ }
 {
     let end = run(
@@ -100,7 +101,8 @@ pub extern "C" fn rack_run_until(
     image: &mut [u8],
     stop: u32,
 ) -> u64
-    ensures { λ r. ⌜ (let c = loan (now (settings .entry)) (formOf form) (now (file .entry)) (now (variables .entry)) (now (inputs .entry)) (now (levels .entry)) (now (marks .entry)) in
+    ensures { λ r. ⌜ (let c = loan (now (settings .entry)) (formOf form) (now (file .entry)) (now (variables .entry)) (now (inputs .entry))
+        (now (levels .entry)) (now (marks .entry)) in
         ((r ≡ packed runWord (stopReply c (now (image .entry)) stop))
         × (buffersOf (now (variables .exit)) (now (levels .exit)) (now (marks .exit)) ≡ stopBuffers c (now (image .entry)) stop)
         × (now (image .exit) ≡ stopImage c (now (image .entry)) stop))) ⌝ }
@@ -131,7 +133,8 @@ pub extern "C" fn rack_resume(
     marks: &mut [u8],
     image: &[u8],
 ) -> u64
-    ensures { λ r. ⌜ (let c = loan (now (settings .entry)) (formOf form) (now (file .entry)) (now (variables .entry)) (now (inputs .entry)) (now (levels .entry)) (now (marks .entry)) in
+    ensures { λ r. ⌜ (let c = loan (now (settings .entry)) (formOf form) (now (file .entry)) (now (variables .entry)) (now (inputs .entry))
+        (now (levels .entry)) (now (marks .entry)) in
         ((r ≡ packed runWord (resumeReply c (now (image .entry))))
         × (buffersOf (now (variables .exit)) (now (levels .exit)) (now (marks .exit)) ≡ resumeBuffers c (now (image .entry))))) ⌝ }
 {
@@ -159,7 +162,8 @@ pub extern "C" fn rack_restart(
     levels: &mut [u32],
     marks: &mut [u8],
 ) -> u64
-    ensures { λ r. ⌜ (let c = loan (now (settings .entry)) (formOf form) (now (file .entry)) (now (variables .entry)) (now (inputs .entry)) (now (levels .entry)) (now (marks .entry)) in
+    ensures { λ r. ⌜ (let c = loan (now (settings .entry)) (formOf form) (now (file .entry)) (now (variables .entry)) (now (inputs .entry))
+        (now (levels .entry)) (now (marks .entry)) in
         ((r ≡ packed runWord (restartReply c)) × (buffersOf (now (variables .exit)) (now (levels .exit)) (now (marks .exit)) ≡ restartBuffers c))) ⌝ }
 {
     let restarted = restart(

@@ -40,7 +40,7 @@ stop s m i n e = rw e
 same : (s : List ℕ) (m i j n : ℕ) → i ≡ j → closingIn s m i n ≡ closingIn s m j n
 same s m i j n e = ap (λ (k : ℕ). closingIn s m k n) e
 
--- the scan of m records from i on comes out behind b, with l records left and the same count
+-- the scan of m records from i on comes out after b, with l records left and the same count
 abbrev Through : List ℕ → Block → Type 0
 Through s b = (m l i n : ℕ) → At s i b → m ≡ size b + l → closingIn s m i n ≡ closingIn s l (i + size b) n
 

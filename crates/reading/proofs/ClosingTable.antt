@@ -1,4 +1,4 @@
--- The table of closings: each entry follows from those behind it.
+-- The table of closings: each entry follows from those after it.
 use Prim.Native.Nat.{ℕ, _+_, _*_, _-_, _≤_, _<_}
 use native.Mathlib.Omega.{arith}
 use mathlib.Core.Path.{_≡_, refl, ap, sym, subst, _∙_}
@@ -15,8 +15,7 @@ use Rattle.model.proofs.Shapes.{or-cases, neither}
 use Rattle.reading.specs.Closing.{opensBlock, closesBlock, passTo, closingIn, ClosingsFrom, Closings, On}
 use Rattle.reading.specs.Ranges.{Stands, InFile, Fillable, firstSize, firstPart, secondPart}
 use Rattle.reading.specs.Walks.{StatementAt}
-use Rattle.reading.proofs.BlockEnds.{ends-block, step, stop}
-use Rattle.reading.proofs.Filled.{size-first}
+use Rattle.reading.proofs.{BlockEnds.ends-block, BlockEnds.step, BlockEnds.stop, Filled.size-first}
 use Rattle.reading.proofs.Standing.{ending, stands-last, stands-one, stands-two, stands-body}
 use Rattle.reading.proofs.Walking.{block, some, behind, while-at, times-at, open-at, first-in, if-at, second-in}
 
@@ -86,7 +85,7 @@ pub closing-plain : {s : List ℕ} (i : ℕ) {to : ℕ} {ends : List ℕ} → Cl
     → opensBlock (kindAt s i) ≡ false → getD ends (i + 1) 0 ≡ closingIn s (to - i) i 0
 closing-plain {s} i {to} T l k o = T .at (i + 1) (omega arith) (omega arith) ∙ sym (step s (to - i) (to - (i + 1)) i 0 (omega arith) (pass-plain (kindAt s i) o k))
 
--- a record of a file that opens a block, with the table behind it
+-- a record of a file that opens a block, with the table after it
 pub record Opener (s : List ℕ) (i to : ℕ) (closings : List ℕ) : Type 0 where
   pub fillable : Fillable s to closings
   pub behind : ClosingsFrom s (i + 1) to closings

@@ -2,8 +2,7 @@
 use Prim.Native.Nat.{ℕ, _≤_}
 use native.Mathlib.Omega.{arith}
 use mathlib.Core.Path.{_≡_, refl, sym, subst, _∙_}
-use mathlib.Core.Bool.{Bool, true, false}
-use mathlib.Core.List.{List, []}
+use mathlib.Core.{Bool.Bool, Bool.true, Bool.false, List.List, List.[]}
 use Rattle.model.specs.declared.{Form.Form, Settings.Settings, Refusal.Refusal}
 use Rattle.model.specs.{Limits.mostTicks, Settings.badSettings, Answers.Verdict, Answers.finished}
 use Rattle.model.specs.Refusals.{Fault, sound, faulty, fault}

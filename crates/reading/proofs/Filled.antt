@@ -1,8 +1,7 @@
 -- Laws of a block that fills a range: its first statement, what follows it, and the tree of a sound file.
 use Prim.Native.Nat.{ℕ, _+_, _/_, _≤_, _<_}
 use native.Mathlib.Omega.{arith}
-use mathlib.Core.Path.{_≡_, refl, subst}
-use mathlib.Core.List.{List}
+use mathlib.Core.{Path._≡_, Path.refl, Path.subst, List.List}
 use lib.ListN.{length}
 use Rattle.model.specs.declared.Form.{Form}
 use Rattle.model.specs.Trees.{Block, nil, skip, act, branch, while, times, size, depth}

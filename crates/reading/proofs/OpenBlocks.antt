@@ -2,8 +2,7 @@
 use Prim.Native.Nat.{ℕ, _+_, _*_, _-_, _/_, _%_, _^_, _≤_, _<_}
 use native.Mathlib.{Omega.arith, Nat.two-pow-succ}
 use mathlib.Core.Path.{_≡_, refl, ap, ap₂}
-use mathlib.Core.List.{List, [], _∷_}
-use mathlib.Core.Logic.{_⊎_, inl, inr}
+use mathlib.Core.{List.List, List.[], List._∷_, Logic._⊎_, Logic.inl, Logic.inr}
 use borrow.Author.Tests.{ne-eqb}
 use lib.{ListN.length, Pow.pow-mono}
 use Rattle.model.specs.Records.{IF, ELSE, WHILE, END, TIMES}

@@ -1,21 +1,18 @@
--- The blocks of a file by where they start: there is one at each place, and the blocks inside a statement stand behind its record.
+-- The blocks of a file by where they start: there is one at each place, and the blocks inside a statement stand after its record.
 use Prim.Native.Nat.{ℕ, _+_, _-_, _/_, _≤_, _<_}
 use native.Mathlib.Omega.{arith}
 use mathlib.Core.Path.{_≡_, refl, ap, sym, subst, _∙_}
-use mathlib.Core.Bool.{Bool, true, false}
-use mathlib.Core.List.{List}
+use mathlib.Core.{Bool.Bool, Bool.true, Bool.false, List.List}
 use lib.{Dec.ltb, ListN.length}
 use borrow.Author.Tests.{ltb-true, ltb-false}
 use Rattle.model.specs.declared.Form.{Form}
-use Rattle.model.specs.Records.{Rec, kindAt, recordAt}
+use Rattle.model.specs.{Records.Rec, Records.kindAt, Records.recordAt, Standing.At, Standing.LoopAt, Standing.OfForm}
 use Rattle.model.specs.Trees.{Test, Block, nil, skip, act, branch, while, times, size, fileTree}
-use Rattle.model.specs.Standing.{At, LoopAt, OfForm}
 use Rattle.model.proofs.{Stands.stands-once as one-stands, Sound.sound-file}
 use Rattle.reading.specs.Closing.{opensBlock, closesBlock, closingIn}
 use Rattle.reading.specs.{Walks.OpenAt, Ranges.SoundFile, Ranges.Stands}
-use Rattle.reading.proofs.BlockEnds.{found, ends-block, ran-out}
-use Rattle.reading.proofs.FirstKinds.{kind-is, act-opens, shut}
-use Rattle.reading.proofs.Filled.{fills-none}
+use Rattle.reading.proofs.{BlockEnds.found, BlockEnds.ends-block, BlockEnds.ran-out, FirstKinds.kind-is, FirstKinds.act-opens, FirstKinds.shut}
+use Rattle.reading.proofs.{Filled.fills-none}
 
 -- the tree of a sound file
 pub stands-file : (f : Form) (s : List ℕ) → SoundFile f s → Stands f s 0 (length s / 12) (fileTree s)
@@ -83,7 +80,7 @@ module _ {f : Form} {s : List ℕ} {i to : ℕ} where
   pub stands-body : {k : ℕ} {q : Test} {n : ℕ} (a : Block) → LoopAt s i k q n (size a) → At s (i + 1) a → OfForm f a → i + (2 + size a) ≤ to → Stands f s (i + 1) to a
   stands-body a L at o h = standing-at a at o (omega arith) (λ l. closes s (i + 1 + size a) (L .last) refl)
 
-  -- the block behind a record that opens one, which is closed in the file
+  -- the block after a record that opens one, which is closed in the file
   pub stands-open : (b : Block) → Stands f s i to b → i < i + size b → opensBlock (kindAt s i) ≡ true → OpenAt f s i to b
   stands-open nil B h o = absurd (omega arith)
   stands-open (skip n b) B h o = absurd (shut s i (B .fills .stands .0) refl o)

@@ -2,8 +2,7 @@
 use Prim.Native.Nat.{ℕ, _+_, _/_, _≤_, _<_}
 use native.Mathlib.{Omega.arith, Nat.lt-of-not-le}
 use mathlib.Core.Path.{_≡_, refl, ap, sym, subst, _∙_}
-use mathlib.Core.Bool.{true, false, true≢false}
-use mathlib.Core.List.{List}
+use mathlib.Core.{Bool.true, Bool.false, Bool.true≢false, List.List}
 use lib.ListN.{length}
 use Rattle.model.specs.declared.Form.the-variants.{Task}
 use Rattle.model.specs.declared.Form.{Form}
@@ -54,7 +53,7 @@ module _ {f : Form} {s : List ℕ} {i to : ℕ} (A : StatementAt f s i to) where
   abbrev pub elsewhere : {j : ℕ} (a : Block) → Stands f s j to a → InFile f s j to
   elsewhere a S = record { block = a; stands = S; inside = A .file .inside }
 
-  -- the block behind it
+  -- the block after it
   fills-behind : Fills f s (i + firstSize block) (i + size block) (depth block) (afterFirst block)
   fills-behind = fills-after f s i (i + size block) (depth block) block begun (A .file .stands .fills)
 
@@ -111,7 +110,7 @@ module _ {f : Form} {s : List ℕ} {i to : ℕ} (A : StatementAt f s i to) where
           ends = omega (arith, B .ends);
         }
 
-    -- the second side behind the ELSE at m
+    -- the second side after the ELSE at m
     abbrev pub second-in : {m : ℕ} → m ≡ i + 1 + size (firstPart block) → InFile f s (m + 1) to
     second-in e = elsewhere (secondPart block) (subst (λ (j : ℕ). Stands f s (j + 1) to (secondPart block)) (sym e) (if-at .second))
 

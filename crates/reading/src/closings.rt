@@ -8,7 +8,7 @@ use crate::blocks::opens;
 use records::kind_at;
 use records::kinds;
 
-// The closing at i, with those behind it known.
+// The closing at i, with those after it known.
 fn closing_of(file: &[u8], i: usize, to: usize, ends: &[u16]) -> u16
     requires { ⌜ (Fillable (now file) to (now ends)) × (i ≤ to) × (ClosingsFrom (now file) (i + 1) to (now ends)) ⌝ }
     ensures { λ r. ⌜ r ≡ closingIn (now (file .entry)) (to - i) i 0 ⌝ }

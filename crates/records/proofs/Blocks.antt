@@ -1,12 +1,14 @@
 -- Blocks one after the other, and after waiting ticks of SKIP: how many records they have, and which bytes.
-use Prim.Native.Nat.{ℕ, zero, suc, _+_, _*_, _≤_}
+use Prim.Native.Nat.{ℕ, zero, suc, _+_, _*_, _≤_, _<_}
 use native.Mathlib.Omega.{arith}
-use mathlib.Core.Path.{_≡_, refl, sym}
+use mathlib.Core.Path.{_≡_, refl, ap, sym, _∙_}
+use mathlib.Core.Bool.{Bool, true, _||_, or-true}
 use mathlib.Core.List.{List, [], _∷_, _++_, append-assoc, append-nil}
-use lib.ListN.{length}
+use lib.{Dec.ltb, ListN.length}
+use borrow.Author.Tests.{lt-ltb}
 use Rattle.model.specs.Records.{Rec, recordBytes, bytes, IF}
 use Rattle.model.specs.Trees.{Test, Act, Block, nil, skip, act, branch, while, times, _⧺_, testRec, actRec, elseRec, endRec, size, linearise}
-use Rattle.model.specs.Equalising.{waiting}
+use Rattle.model.specs.{Limits.fileRecords, Equalising.waiting, Replies.noRoom}
 use Rattle.model.proofs.Passes.{length-file}
 use Rattle.records.specs.Blocks.{blockBytes, skipRecords, skipBytes}
 
@@ -15,6 +17,10 @@ waiting-⧺ zero a b = refl
 waiting-⧺ (suc n) a b = refl
 
 -- SIZES
+
+-- a result of more records than a file can have finds no room anywhere
+pub above-all : (room n : ℕ) → fileRecords < n → noRoom room n ≡ true
+above-all room n h = ap (λ (x : Bool). ltb room (12 * n) || x) (lt-ltb fileRecords n h) ∙ or-true (ltb room (12 * n))
 
 pub size-⧺ : (a b : Block) → size (a ⧺ b) ≡ size a + size b
 size-⧺ nil b = omega arith

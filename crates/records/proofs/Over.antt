@@ -11,14 +11,14 @@ use Rattle.model.specs.Records.{over}
 over-length : (w old : List ℕ) {new : List ℕ} → new ≡ over w old → length w ≤ length old → length new ≡ length old
 over-length w old e h = ap length e ∙ simp (length-append, length-drop) (omega arith)
 
--- one store behind p
+-- one store after p
 over-put : (p xs : List ℕ) (v : ℕ) → length p < length xs → set (over p xs) (length p) v ≡ over (p ++ v ∷ []) xs
 over-put p xs v h =
     ap (λ (r : List ℕ). set (p ++ r) (length p) v) (drop-cons xs (length p) 0 h)
     ∙ set-at p _ _ v (length p) refl
     ∙ simp (length-append, add-one, append-assoc)
 
--- a callee was lent what lies behind p, and laid q over its front
+-- a callee was lent what lies after p, and laid q over its front
 over-lent : (p q xs : List ℕ) (k : ℕ) → length p + length q ≤ length xs → length xs ≤ length p + k
     → take (length p) (over p xs) ++ (over q (drop (length p) (over p xs)) ++ drop k (drop (length p) (over p xs))) ≡ over (p ++ q) xs
 over-lent p q xs k h g =

@@ -4,8 +4,7 @@ use native.Mathlib.Omega.{arith}
 use mathlib.Core.Path.{_≡_, refl, ap, sym, _∙_}
 use mathlib.Core.List.{List, []}
 use lib.ListN.{length}
-use Rattle.model.specs.Records.{recordBytes, bytes, over}
-use Rattle.model.specs.Trees.{skipRec, linearise}
+use Rattle.model.specs.{Records.recordBytes, Records.bytes, Records.over, Trees.skipRec, Trees.linearise}
 use Rattle.records.specs.Blocks.{blockBytes, skipBytes, Wrote}
 
 -- no ticks are no record

@@ -1,9 +1,8 @@
 -- Two ends, compared: what the comparisons compute, and that they hold exactly of equals.
 use Prim.Native.Nat.{ℕ, suc, _+_, _≤_, _<_}
 use mathlib.Core.Path.{_≡_, refl, sym, ap₂, subst, _∙_}
-use mathlib.Core.Logic.{_↔_}
+use mathlib.Core.{Logic._↔_, List.List, List.[], List._∷_}
 use mathlib.Core.Bool.{Bool, true, false, not, Bool·beq, false≢true, and-false, and-eq-true-iff, _&&_}
-use mathlib.Core.List.{List, [], _∷_}
 use native.Mathlib.{Numerals.add-one, Omega.arith}
 use lib.{Dec.eqb, Seq.drop-cons}
 use lib.ListN.{length, getD, drop, drop-of-length-le}

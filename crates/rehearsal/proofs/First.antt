@@ -1,14 +1,12 @@
 -- The task on the first set: its refusal ends the chain, and its end goes into what follows.
 use Prim.Native.Nat.{ℕ}
 use mathlib.Core.Path.{_≡_, ap, ap₂, sym, _∙_}
-use mathlib.Core.Bool.{Bool}
-use mathlib.Core.List.{List, [], _∷_}
+use mathlib.Core.{Bool.Bool, List.List, List.[], List._∷_}
 use lib.ListN.{replicate}
 use Rattle.model.specs.declared.{Refusal.Refusal, Ran.Ran, Stop.Stop}
 use Rattle.model.specs.{Runs.Buffers, Rehearsal.wholeOf, Rehearsal.stoppedOf}
 use Rattle.model.specs.Answers.{Verdict, finished, bit, refusal, ran, andThen}
-use Rattle.model.specs.Replies.{Loan, runReply, runBuffers}
-use Rattle.model.specs.Chain.{End, endOf, runEnd}
+use Rattle.model.specs.{Replies.Loan, Replies.runReply, Replies.runBuffers, Chain.End, Chain.endOf, Chain.runEnd}
 use Rattle.rehearsal.specs.Contracts.{secondOf}
 use Rattle.preparation.proofs.Chaining.{refused-first}
 

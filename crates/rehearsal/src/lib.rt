@@ -42,7 +42,8 @@ fn rehearse_laid(
 ) -> Rehearsed
     requires { ⌜ (length (now one) ≡ variableCount) × (length (now two) ≡ variableCount) ⌝ }
     ensures { λ r. ⌜ (let c = lend (now (settings .entry)) Task (now (task .entry)) (now («one_inputs» .entry)) (now (one .entry)) zeroOutputs in
-        rehearsed r ≡ andThen (runReply c) (secondOf stop (runEnd c) total (laidLoan (now (settings .entry)) (now (file .entry)) (now (two .entry)) (now («two_inputs» .entry))))) ⌝ }
+        rehearsed r ≡ andThen (runReply c) (secondOf stop (runEnd c) total
+        (laidLoan (now (settings .entry)) (now (file .entry)) (now (two .entry)) (now («two_inputs» .entry))))) ⌝ }
 {
     let mut variables: [u32; VARIABLES] = [0; VARIABLES];
     copy(one, &mut variables);
@@ -90,7 +91,8 @@ pub fn rehearse(
     two_inputs: &[u32],
     stop: Stop,
 ) -> Rehearsed
-    ensures { λ r. ⌜ Rehearses (now (settings .entry)) (now (task .entry)) (setOf (now (one .entry)) (now («one_inputs» .entry))) (setOf (now (two .entry)) (now («two_inputs» .entry))) stop r ⌝ }
+    ensures { λ r. ⌜ Rehearses (now (settings .entry)) (now (task .entry)) (setOf (now (one .entry)) (now («one_inputs» .entry)))
+        (setOf (now (two .entry)) (now («two_inputs» .entry))) stop r ⌝ }
 {
     let mut laid: [u8; FILE_LENGTH] = [0; FILE_LENGTH];
     let r = prepare(settings, task, &mut laid);

@@ -44,7 +44,8 @@ pub fn whole(
     inputs: &[u32],
 ) -> Rehearsed
     requires { ⌜ (Full first) × (length (now two) ≡ variableCount) ⌝ }
-    ensures { λ r. ⌜ rehearsed r ≡ wholeOf (endIn first) total (laidLoan (now (settings .entry)) (now (file .entry)) (now (two .entry)) (now (inputs .entry))) ⌝ }
+    ensures { λ r. ⌜ rehearsed r ≡ wholeOf (endIn first) total
+        (laidLoan (now (settings .entry)) (now (file .entry)) (now (two .entry)) (now (inputs .entry))) ⌝ }
 {
     let mut variables: [u32; VARIABLES] = [0; VARIABLES];
     copy(two, &mut variables);

@@ -7,8 +7,7 @@ use lib.ListN.{length, getD, take, drop, set, length-append, length-drop, drop-o
 use lib.Seq.{length-take-le, take-set-le, take-set-lt, drop-set-lt, drop-set-add}
 use lib.Seq.{take-append-le, drop-append-le, drop-at, drop-drop, getD-take}
 use borrow.Author.Tests.{ne-eqb}
-use Rattle.model.specs.Runs.{assigns, outputs, saves}
-use Rattle.model.specs.Stopping.{saved}
+use Rattle.model.specs.{Runs.assigns, Runs.outputs, Runs.saves, Stopping.saved}
 use Rattle.stepping.specs.Machines.{held, affect, imageIn}
 
 pub held-variable : (w : List ℕ) (a : ℕ) → a < 16 → getD w a 0 ≡ getD (held w .variables) a 0
@@ -19,7 +18,7 @@ pub held-assign : (w : List ℕ) (a x : ℕ) → a < 16 → held (set w a x) ≡
 unfolding held
 held-assign w a x h = rw (take-set-lt 16 w a x h, drop-set-lt 16 w a x (omega arith), drop-set-lt 24 w a x (omega arith), drop-set-lt 32 w a x (omega arith))
 
--- a store behind the first n of the part from m on, and one into it
+-- a store after the first n of the part from m on, and one into it
 part-after : (n m : ℕ) (w : List ℕ) (i x : ℕ) → n ≤ i → take n (drop m (set w (m + i) x)) ≡ take n (drop m w)
 part-after n m w i x h = rw (drop-set-add m w i x, take-set-le n (drop m w) i x h)
 
@@ -38,7 +37,7 @@ held-output w p x h =
     let image : drop 32 (set v (24 + p) 1) ≡ drop 32 w = drop-set-lt 32 v (24 + p) 1 (omega arith) ∙ drop-set-lt 32 w (16 + p) x (omega arith) in
     rw (variables, levels, marks, image)
 
--- a part of the first k stays when something else is put behind them
+-- a part of the first k stays when something else is put after them
 part-front : (n m : ℕ) (p q : List ℕ) → m + n ≤ length p → take n (drop m (p ++ q)) ≡ take n (drop m p)
 part-front n m p q h = rw (drop-append-le m p q (omega arith), take-append-le n (drop m p) q (simp length-drop (omega arith)))
 
@@ -47,7 +46,7 @@ part-kept n m k w z h g =
     let l : m + n ≤ length (take k w) = rw (length-take-le k w g) h in
     part-front n m (take k w) z l ∙ sym (part-front n m (take k w) (drop k w) l) ∙ ap (λ (u : List ℕ). take n (drop m u)) (take-append-drop k w)
 
--- and when two numbers are stored behind it
+-- and when two numbers are stored after it
 part-stored : (n m k : ℕ) (w z : List ℕ) (i j x y : ℕ) → m + n ≤ k → k ≤ length w → n ≤ i → n ≤ j
     → take n (drop m (set (set (take k w ++ z) (m + i) x) (m + j) y)) ≡ take n (drop m w)
 part-stored n m k w z i j x y h g hi hj =

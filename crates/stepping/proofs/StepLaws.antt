@@ -4,8 +4,7 @@ use native.Mathlib.{Omega.arith, Nat.lt-of-not-le}
 use mathlib.Core.Path.{_≡_, refl, sym, subst}
 use mathlib.Core.Bool.{Bool, true, false, cond, not, _&&_}
 use mathlib.Core.List.{List, [], _∷_}
-use lib.Dec.{eqb, leb, ltb}
-use lib.ListN.{getD}
+use lib.{Dec.eqb, Dec.leb, Dec.ltb, ListN.getD}
 use borrow.Author.Tests.{ltb-true, ltb-false, leb-true, eqb-true, eqb-false, le-leb, lt-leb, le-ltb, lt-ltb, ne-eqb}
 use Rattle.model.specs.Records.{Rec, rec, SET, READ, WRITE, CHECK, BEAT, SAVE}
 use Rattle.model.specs.Refusals.{variable, port, unused, opFits, setFits, testFits, fieldsFit}

@@ -1,4 +1,4 @@
--- Pieces of text one behind the other, and how long they can be.
+-- Pieces of text one after the other, and how long they can be.
 use Prim.Native.Nat.{ℕ, _+_, _≤_, _<_}
 use native.Mathlib.{Numerals.add-one, Omega.arith}
 use mathlib.Core.Path.{_≡_, refl, sym, ap, subst, _∙_}
@@ -23,7 +23,7 @@ put-copied a old at h en e = record { page = stored-lent old at a h (e ∙ rw ta
 pub put-none : (old : List ℕ) (at : ℕ) → Put [] at old old at
 put-none old at = record { page = refl; ends = omega arith }
 
--- one piece behind another
+-- one piece after another
 pub put-then : {a b old mid new : List ℕ} {at j r : ℕ} → Put a at old mid j → Put b j mid new r → Put (a ++ b) at old new r
 put-then {a} {b} {old} {at = at} p q =
     record { page = stored-on old at a b (p .page) (sym (p .ends)) (q .page); ends = omega (arith, p .ends, q .ends, length-append a b) }

@@ -1,4 +1,4 @@
-// Text put into a page, each piece behind the one before. A function answers where its piece ends.
+// Text put into a page, each piece after the one before. A function answers where its piece ends.
 ghost use Prim.Native.Nat.{_+_, _≤_};
 ghost use mathlib.Core.Path.{_≡_};
 ghost use lib.ListN.{length, take};

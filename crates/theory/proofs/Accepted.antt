@@ -1,28 +1,22 @@
 -- What a call that is not refused has shown of what was handed over, and what is enough for a call not to be refused.
 use Prim.Native.Nat.{ℕ, _+_, _*_, _≤_, _<_}
 use native.Mathlib.Omega.{arith}
-use mathlib.Core.Path.{_≡_, refl, _∙_}
+use mathlib.Core.{Path._≡_, Path.refl, Path._∙_, List.List, List.[], List._∷_}
 use mathlib.Core.Bool.{Bool, true, false, not, _||_}
-use mathlib.Core.List.{List, [], _∷_}
-use lib.Dec.{eqb, leb, ltb}
-use lib.ListN.{length}
+use lib.{Dec.eqb, Dec.leb, Dec.ltb, ListN.length}
 use borrow.Author.Tests.{not-false, leb-false, eqb-true, eqb-false, ltb-false, le-ltb}
 use Rattle.model.specs.{Limits.fileRecords, Limits.imageLength, Times.time, Times.longest, Runs.duration, Chain.Outputs, Chain.lend}
 use Rattle.model.specs.{Placement.Positive, Placement.Fits}
 use Rattle.model.specs.declared.{Settings.Settings, Form.Form}
 use Rattle.model.specs.declared.Form.the-variants.{Task, Equalised}
-use Rattle.model.specs.Settings.{settingsOf, outOfRange, badSettings}
-use Rattle.model.specs.Trees.{Block, size, fileTree}
+use Rattle.model.specs.{Settings.settingsOf, Settings.outOfRange, Settings.badSettings, Trees.Block, Trees.size, Trees.fileTree}
+use Rattle.model.specs.{Answers.Verdict, Answers.finished, Answers.bit}
 use Rattle.model.specs.Refusals.{Fault, sound, faulty, fault}
-use Rattle.model.specs.Answers.{Verdict, finished, bit}
 use Rattle.model.specs.Replies.{turnDown, unless, reading, shortWindow, above, noRoom, fileTime, timeReply}
 use Rattle.model.specs.Replies.{equalisedTree, equaliseReply, laidTree, laidTotal, layOutReply, Loan, badBuffers, badImageLength, ready, stepsOf, imageAt, isSaved, stopReply}
+use Rattle.model.proofs.Shapes.{neither}
 
 -- ROWS
-
-pub neither : (a b : Bool) → (a || b) ≡ false → (a ≡ false) × (b ≡ false)
-neither true b e = let z : _≡_ {A = ℕ} 0 1 = cc in absurd (omega arith)
-neither false b e = (refl, e)
 
 pub passed : (n : ℕ) (cause : Bool) (next : Verdict) (xs : List ℕ) → turnDown n cause next ≡ finished xs → (cause ≡ false) × (next ≡ finished xs)
 passed n true next xs e = let z : _≡_ {A = ℕ} 0 1 = cc in absurd (omega arith)

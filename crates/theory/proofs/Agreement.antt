@@ -1,16 +1,14 @@
 -- Equalising, merging and unrolling keep what every run leaves.
 use Prim.Native.Nat.{ℕ, zero, suc, _+_}
 use mathlib.Core.Path.{_≡_, refl, ap, _∙_}
-use mathlib.Core.Bool.{Bool, true, false}
-use mathlib.Core.List.{List, []}
+use mathlib.Core.{Bool.Bool, Bool.true, Bool.false, List.List, List.[]}
 use Rattle.model.specs.declared.Settings.{Settings}
 use Rattle.model.specs.Trees.{Test, check, Block, nil, skip, act, branch, while, times, _⧺_, size}
 use Rattle.model.specs.{Times.ticks, Times.time, Layout.copies, Layout.unroll}
 use Rattle.model.specs.Runs.{nothing, holds, lastTest, effect, Run, _⊳_, single, choose, spin, rounds, run}
 use Rattle.model.specs.Equalising.{pad, F, waiting, merge, equalise}
-use Rattle.theory.proofs.Sequences.{⊳-assoc, ⊳-nil, run-⧺}
+use Rattle.theory.proofs.{Sequences.⊳-assoc, Sequences.⊳-nil, Sequences.run-⧺, Traces.traced, Traces.silent-behind}
 use Rattle.theory.proofs.Views.{see, Alike, alike-refl, alike-sym, alike-trans, alike-eq, alike-⊳, alike-single, alike-choose, alike-rounds, alike-spin}
-use Rattle.theory.proofs.Traces.{traced, silent-behind}
 
 -- WHILE AND ITS TIMES
 

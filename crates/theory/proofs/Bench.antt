@@ -2,12 +2,11 @@
 -- computation stand in `model`, so that edits of the definitions there are tried against them.
 use native.Mathlib.Omega.{arith}
 use mathlib.Core.{Path._≡_, Path.refl, Bool.true}
-use Rattle.model.specs.Records.{firstRecords, records, bytes}
+use Rattle.model.specs.{Records.firstRecords, Records.records, Records.bytes, Runs.holds, Runs.result, Runs.effect}
+use Rattle.model.specs.{Refusals.fieldsFit, Refusals.scan, Refusals.fault}
 use Rattle.model.specs.{Settings.settingsOf, Settings.badSettings, Equalising.equalise, Answers.isFinished, Answers.valueAt}
 use Rattle.model.specs.Trees.{linearise, stackOf, treeOf, fileTree}
-use Rattle.model.specs.Runs.{holds, result, effect}
 use Rattle.model.specs.Layout.{before, lastValue, layout, total}
-use Rattle.model.specs.Refusals.{fieldsFit, scan, fault}
 use Rattle.model.specs.Replies.{reading, equalisedTree, equaliseReply, equaliseOut, laidTree, layOutReply, layOutOut, ready, stepsOf, runReply}
 use Rattle.model.specs.Chain.{Chain, Lent, equalising, layingOut, wholeLoan}
 use Rattle.model.proofs.Bench.{lettered, Holds, bench, settings, factorial, chain}

@@ -6,14 +6,12 @@ use lib.ListN.{length}
 use Rattle.model.specs.declared.Settings.{Settings}
 use Rattle.model.specs.declared.Form.the-variants.{Task, Equalised, Laid}
 use Rattle.model.specs.{Records.bytes, Settings.settingsOf, Layout.layout, Layout.total, Answers.finished, Placement.Fits}
-use Rattle.model.specs.Trees.{Block, linearise, fileTree}
+use Rattle.model.specs.{Trees.Block, Trees.linearise, Trees.fileTree, Equalising.F, Equalising.merge, Equalising.equalise}
+use Rattle.model.specs.{Stopping.upto, Stopping.none, Stopping.lastImage, Standing.OfForm}
 use Rattle.model.specs.Runs.{Step, duration, leave, cleared, run}
-use Rattle.model.specs.Equalising.{F, merge, equalise}
-use Rattle.model.specs.Stopping.{upto, none, lastImage}
 use Rattle.model.specs.Replies.{savedAt, fileTime, equalisedTree, equaliseReply, laidTree, laidTotal, layOutReply}
 use Rattle.model.specs.Replies.{Loan, stepsOf, imageAt, stopReply, stopBuffers, imageOver, stopImage}
 use Rattle.model.specs.Chain.{Outputs, lend, takenUpSteps, imageTick}
-use Rattle.model.specs.Standing.{OfForm}
 use Rattle.model.proofs.{Sound.sound-file, Passes.length-file}
 use Rattle.theory.proofs.{Times.time-equalise, Lasts.equalised-lasts, TakenUp.laid-again}
 use Rattle.theory.proofs.Laid.{time-laid, placed-laid, total-longer, last-start, laid-lasts}
@@ -22,8 +20,7 @@ use Rattle.theory.proofs.LaidRuns.{save-follows, no-crossing, laid-tota
 use Rattle.theory.proofs.Stops.{beyond, upto-beyond, upto-only, upto-all, upto-ended}
 use Rattle.theory.proofs.Accepted.{equalise-accepted, lay-out-accepted, Runnable, timed, stop-accepted}
 use Rattle.theory.proofs.Files.{task-runnable, equalised-runnable, equalised-written, laid-runnable, laid-written}
-use Rattle.theory.proofs.Running.{good-lengths, steps, run-steps}
-use Rattle.theory.proofs.StoppedOnce.{tick-taken, steps-taken, answered}
+use Rattle.theory.proofs.{Running.good-lengths, Running.steps, Running.run-steps, StoppedOnce.tick-taken, StoppedOnce.steps-taken, StoppedOnce.answered}
 use Rattle.theory.specs.Demand2.{Equalises, LaidSteps, TakesUp, LaysOut, Stops, Demand2}
 
 equalises : (s task out xs : List ℕ) → equaliseReply s task (length out) ≡ finished xs → Equalises s task out xs

@@ -1,6 +1,5 @@
 -- Where each part of demand 3 is proved.
-use mathlib.Core.Path.{_≡_, sym, _∙_}
-use mathlib.Core.Logic.{_↔_}
+use mathlib.Core.{Path._≡_, Path.sym, Path._∙_, Logic._↔_}
 use Rattle.model.specs.Chain.{End, plainEndOne, plainEndTwo, wholeEnd, stoppedEnd}
 use Rattle.theory.proofs.Preparing.{prepares-reply, prepares-out, prepares-refused}
 use Rattle.theory.proofs.Ends.{plain-runs, whole-runs, whole-same, stop-runs, take-up-runs, stopped-same, twice, counted, few}

@@ -1,7 +1,6 @@
 -- A fact about each step, the variables before it and the steps after it: where it holds at one step, and how it comes to hold along a run.
 use Prim.Native.Nat.{ℕ}
-use mathlib.Core.Path.{sym, subst}
-use mathlib.Core.Bool.{false, cond, _||_}
+use mathlib.Core.{Path.sym, Path.subst, Bool.false, Bool.cond, Bool._||_}
 use mathlib.Core.List.{List, [], _∷_, _++_}
 use Rattle.model.specs.Trees.{Test}
 use Rattle.model.specs.Runs.{Effect, nothing, isOverrun, Step, step, onVariables, variablesAfter, overran, holds, Run, _⊳_, single, choose}

@@ -1,18 +1,15 @@
 -- What equalising and laying out wrote is read back: the tree that the rules give, of its form, with the time that was stated.
 use Prim.Native.Nat.{ℕ, _*_}
 use native.Mathlib.Omega.{arith}
-use mathlib.Core.Path.{_≡_, refl}
-use mathlib.Core.List.{List, [], _∷_}
-use lib.ListN.{length, take, drop}
-use lib.Seq.{take-append-seam}
+use mathlib.Core.{Path._≡_, Path.refl, List.List, List.[], List._∷_}
+use lib.{ListN.length, ListN.take, ListN.drop, Seq.take-append-seam}
 use Rattle.model.specs.declared.Form.the-variants.{Task, Equalised, Laid}
 use Rattle.model.specs.{Records.bytes, Records.over, Settings.settingsOf}
 use Rattle.model.specs.Trees.{Block, size, linearise, fileTree}
 use Rattle.model.specs.Answers.{Verdict, finished, kept, valueAt}
 use Rattle.model.specs.Replies.{fileTime, equalisedTree, equaliseReply, equaliseOut, laidTree, laidTotal, layOutReply, layOutOut}
 use Rattle.model.specs.Standing.{OfForm}
-use Rattle.model.proofs.Sound.{Sound, sound-file}
-use Rattle.model.proofs.Passes.{passes, tree-back, length-file}
+use Rattle.model.proofs.{Sound.Sound, Sound.sound-file, Passes.passes, Passes.tree-back, Passes.length-file}
 use Rattle.theory.proofs.{Times.time-equalise, Forms.equalised-of-form, Forms.depth-equalise}
 use Rattle.theory.proofs.Laid.{time-laid, laid-of-form, depth-laid}
 use Rattle.theory.proofs.Accepted.{EqualiseAccepted, equalise-accepted, LayOutAccepted, lay-out-accepted, Runnable}

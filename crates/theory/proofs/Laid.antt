@@ -1,7 +1,6 @@
 -- What laying out makes of an equalised file: its time, its records, its depth, what its runs leave, and that its records are in place.
 use Prim.Native.Nat.{ℕ, zero, suc, _+_, _-_, _%_, _≤_}
-use native.Mathlib.Omega.{arith}
-use native.Mathlib.Nat.{div-eq-of-lt, div-le-of-le-mul, mul-le-mul-right}
+use native.Mathlib.{Omega.arith, Nat.div-eq-of-lt, Nat.div-le-of-le-mul, Nat.mul-le-mul-right}
 use mathlib.Core.Path.{_≡_, refl, ap, _∙_}
 use mathlib.Core.{Bool.false, List.List}
 use borrow.Author.Tests.{le-leb}
@@ -12,10 +11,9 @@ use Rattle.model.specs.{Times.time, Refusals.fieldsFit, Placement.Fits, Placeme
 use Rattle.model.specs.Runs.{overran, duration, effect, run}
 use Rattle.model.specs.Layout.{unroll, body, ceiling, lastValue, closed, layout, total}
 use Rattle.model.specs.Standing.{Fit, OfForm}
-use Rattle.theory.proofs.Times.{time-⧺, time-merge, time-unroll}
+use Rattle.theory.proofs.{Times.time-⧺, Times.time-merge, Times.time-unroll, Views.Alike, Views.alike-trans, Views.alike-eq}
 use Rattle.theory.proofs.{Sequences.run-⧺, Traces.traced, Traces.silent-behind, Agreement.run-merge, Agreement.run-unroll}
 use Rattle.theory.proofs.{Placing.placed-even, Placing.placed-merge, Lasts.even-lasts}
-use Rattle.theory.proofs.Views.{Alike, alike-trans, alike-eq}
 use Rattle.theory.proofs.Forms.{Formed, formed, formed-⧺, merged-of-form, depth-⧺, depth-merge}
 use Rattle.theory.proofs.Unrolling.{unrolled-loop-free, unrolled-command-free, unrolled-formed, depth-unroll}
 use Rattle.theory.proofs.Windows.{placed-body, body-ends, body-longer, window-pos}

@@ -12,9 +12,8 @@ use Rattle.model.specs.{Trees.Block, Times.time}
 use Rattle.model.specs.Runs.{Effect, nothing, assigns, outputs, beats, saves, overruns, isBeat, isSave, isOverrun, Step, step, starts}
 use Rattle.model.specs.Runs.{duration, onVariables, overran, run}
 use Rattle.model.specs.Layout.{unroll, body, ceiling, lastValue, layout, total}
-use Rattle.model.specs.Placement.{Fits, LoopFree, StepsPlaced}
+use Rattle.model.specs.{Placement.Fits, Placement.LoopFree, Placement.StepsPlaced, Standing.OfForm}
 use Rattle.model.specs.Timeline.{picks, multiples, beatList, EndsInBeat}
-use Rattle.model.specs.Standing.{OfForm}
 use Rattle.theory.proofs.{Sequences.duration-++, Sequences.overran-++, Forms.formed}
 use Rattle.theory.proofs.{Unrolling.unrolled-loop-free, Unrolling.unrolled-command-free}
 use Rattle.theory.proofs.{Placing.placed-loop-free, Placing.placed-run, Every.Every, Resuming.overrun-last}

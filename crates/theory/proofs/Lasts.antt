@@ -9,8 +9,7 @@ use Rattle.model.specs.Trees.{Test, Block, nil, skip, act, branch, while, times
 use Rattle.model.specs.Times.{ticks, time}
 use Rattle.model.specs.Runs.{Effect, nothing, duration, variablesAfter, overran, holds, lastTest, effect, Run, _⊳_, single, choose, rounds, run}
 use Rattle.model.specs.Equalising.{F, waiting, merge, equalise}
-use Rattle.theory.proofs.Times.{time-⧺, time-merge, time-equalise}
-use Rattle.theory.proofs.Sequences.{duration-++, overran-++}
+use Rattle.theory.proofs.{Times.time-⧺, Times.time-merge, Times.time-equalise, Sequences.duration-++, Sequences.overran-++}
 
 pub record Lasts (f : Run) (n : ℕ) : Type 0 where
   pub in-all : (v : List ℕ) → overran (f v) ≡ false → duration (f v) ≡ n

@@ -1,18 +1,15 @@
 -- After each step of a block with no loop, what is left to do: nothing after an overrun, and after a SAVE what taking up does.
 use Prim.Native.Nat.{ℕ, suc, _+_, _-_, _≤_}
 use native.Mathlib.{Omega.arith, Nat.add-zero}
-use mathlib.Core.Path.{_≡_, refl, sym}
-use mathlib.Core.Bool.{true, false, false≢true}
-use mathlib.Core.List.{List, []}
+use mathlib.Core.{Path._≡_, Path.refl, Path.sym, Bool.true, Bool.false, Bool.false≢true, List.List, List.[]}
 use borrow.Author.Tests.{lt-leb, le-leb}
 use Rattle.model.specs.declared.Settings.{Settings}
 use Rattle.model.specs.Trees.{Test, Act, set, read, write, check, beat, save, Block, nil, skip, act, branch, while, times, _⧺_, size}
 use Rattle.model.specs.{Times.ticks, Stopping.rest, Placement.LoopFree}
 use Rattle.model.specs.Runs.{Effect, nothing, assigns, outputs, beats, saves, overruns, isSave, isOverrun, Step, step}
 use Rattle.model.specs.Runs.{onVariables, effect, Run, _⊳_, run}
-use Rattle.theory.proofs.Sequences.{⊳-assoc, ⊳-nil, run-⧺}
+use Rattle.theory.proofs.{Sequences.⊳-assoc, Sequences.⊳-nil, Sequences.run-⧺, Unindexed.unindexed}
 use Rattle.theory.proofs.Views.{see, Alike, alike-refl, alike-trans, alike-eq, alike-⊳, alike-move}
-use Rattle.theory.proofs.Unindexed.{unindexed}
 use Rattle.theory.proofs.Every.{Every, every-nil, every-single, every-choose}
 
 -- an overrun is the last step, of one tick; after a SAVE, R at the next record does what is left
@@ -66,7 +63,7 @@ module _ (σ : Settings) (ins : List ℕ) (R : ℕ → Run) where
   continues-here : (i : ℕ) (b : Block) (g : Run) → Continues i b g → Alike unindexed (R i) (run σ ins b i ⊳ g)
   continues-here i b g c = rw (rest-0 b, add-zero i) at (c .at 0 (omega arith))
 
-  -- behind a record that is no IF
+  -- after a record that is no IF
   continues-tail : (i : ℕ) (s b : Block) (g : Run) → size s ≡ 1 + size b → ((j : ℕ) → rest s (suc j) ≡ rest b j) → Continues i s g → Continues (i + 1) b g
   continues-tail i s b g n r c = record { at = λ j l. let e : i + 1 + j ≡ i + suc j = omega arith in rw (e, ← r j) (c .at (suc j) (omega arith)) }
 

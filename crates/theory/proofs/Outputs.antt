@@ -1,8 +1,7 @@
 -- What steps do to the outputs and the variables: their number stays, and to write again what was written changes nothing.
 use Prim.Native.Nat.{ℕ}
 use mathlib.Core.Path.{_≡_, refl, ap, sym, _∙_}
-use mathlib.Core.Bool.{Bool, true, false}
-use mathlib.Core.List.{List, [], _∷_}
+use mathlib.Core.{Bool.Bool, Bool.true, Bool.false, List.List, List.[], List._∷_}
 use lib.{Dec.eqb, ListN.length, ListN.length-set, ListN.set as setAt, Seq.set-set, Seq.set-comm}
 use borrow.Author.Tests.{eqb-true, eqb-false}
 use Rattle.model.specs.Runs.{Effect, nothing, assigns, outputs, beats, saves, overruns, Step, onVariables, variablesAfter, onOutputs, outputsAfter}

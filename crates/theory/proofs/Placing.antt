@@ -1,7 +1,6 @@
 -- The runs of a block in place are in place, and merging keeps a block in place.
 use Prim.Native.Nat.{ℕ, zero, suc, _+_, _%_, max, _≤_, _<_}
-use native.Mathlib.Omega.{arith}
-use native.Mathlib.Nat.{add-zero, add-assoc, zero-add}
+use native.Mathlib.{Omega.arith, Nat.add-zero, Nat.add-assoc, Nat.zero-add}
 use mathlib.Core.Path.{_≡_, refl, sym, _∙_}
 use mathlib.Core.Bool.{Bool, true, false, cond, false≢true}
 use mathlib.Core.List.{List, [], _∷_, _++_, append-nil}

@@ -1,9 +1,8 @@
 -- `lay`, `startTicks` and `rest` are meant for blocks with no loop, `rest` only past record 0: no reply or listing reaches them with another.
 use Prim.Native.Nat.{ℕ, _-_, _/_}
 use native.Mathlib.Omega.{arith}
-use mathlib.Core.Path.{_≡_, refl, subst}
+use mathlib.Core.{Path._≡_, Path.refl, Path.subst, List.List}
 use mathlib.Core.Bool.{Bool, true, false, cond, false≢true}
-use mathlib.Core.List.{List}
 use lib.{Dec.eqb, Dec.ltb, ListN.length, ListN.List·getD-eq-default}
 use borrow.Author.Tests.{ltb-true, ltb-false, eqb-true}
 use Rattle.model.specs.declared.Form.{Form}
@@ -11,9 +10,7 @@ use Rattle.model.specs.declared.Form.the-variants.{Task, Equalised, Laid}
 use Rattle.model.specs.{Records.kindAt, Records.SAVE, Settings.settingsOf, Layout.unroll, Layout.layout, Answers.finished}
 use Rattle.model.specs.{Placement.LoopFree}
 use Rattle.model.specs.Trees.{Block, nil, skip, act, branch, while, times, fileTree}
-use Rattle.model.specs.Refusals.{kindFits, sound, fault}
-use Rattle.model.specs.Replies.{laidTree, layOutReply, afterSave}
-use Rattle.model.specs.Standing.{OfForm}
+use Rattle.model.specs.{Refusals.kindFits, Refusals.sound, Refusals.fault, Replies.laidTree, Replies.layOutReply, Replies.afterSave, Standing.OfForm}
 use Rattle.model.proofs.Sound.{sound-file, sound-kind}
 use Rattle.theory.proofs.{Forms.formed, Unrolling.unrolled-loop-free, Placing.placed-loop-free, Laid.placed-laid}
 use Rattle.theory.proofs.{Accepted.lay-out-accepted}

@@ -1,8 +1,7 @@
 -- What the calls that run a file answer and leave, once nothing refuses: whole, stopped, and taken up.
 use Prim.Native.Nat.{ℕ, _≤_, _<_}
 use mathlib.Core.Path.{_≡_, refl, ap, _∙_}
-use mathlib.Core.Bool.{true, false, not}
-use mathlib.Core.List.{List, [], _∷_}
+use mathlib.Core.{Bool.true, Bool.false, Bool.not, List.List, List.[], List._∷_}
 use lib.{Dec.eqb, ListN.length}
 use borrow.Author.Tests.{not-false, eqb-true, eq-eqb, lt-leb, le-ltb}
 use Rattle.model.specs.declared.Form.{Form}
@@ -11,7 +10,8 @@ use Rattle.model.specs.Runs.{Step, duration, Buffers, leave, cleared, run}
 use Rattle.model.specs.Stopping.{upto, Image, imageOf, start, takeUp}
 use Rattle.model.specs.Replies.{savedAt, badBuffers, badImageLength, ended, stepsOf, runReply, runBuffers, imageAt, isSaved, stopReply, stopBuffers, imageOver, stopImage}
 use Rattle.model.specs.Replies.{takenUp, takenBuffers, afterSave, resumeReply, resumeBuffers, restartReply, restartBuffers}
-use Rattle.theory.proofs.Accepted.{neither, Runnable, readied}
+use Rattle.model.proofs.Shapes.{neither}
+use Rattle.theory.proofs.Accepted.{Runnable, readied}
 
 -- what steps from an image on leave, with the outputs o before
 abbrev pub onward : List Step → Image → Outputs → Buffers

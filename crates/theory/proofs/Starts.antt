@@ -9,8 +9,7 @@ use lib.Dec.{eqb, leb, ltb}
 use borrow.Author.Tests.{ltb-true, ltb-false, leb-true, leb-false, eqb-true, eqb-false, eq-eqb, ne-eqb}
 use Rattle.model.specs.declared.Settings.{Settings}
 use Rattle.model.specs.Runs.{Effect, isBeat, isSave, Step, starts, duration}
-use Rattle.model.specs.Placement.{Fits, InPlace, StepsPlaced}
-use Rattle.model.specs.Timeline.{picks, multiples, EndsInBeat}
+use Rattle.model.specs.{Placement.Fits, Placement.InPlace, Placement.StepsPlaced, Timeline.picks, Timeline.multiples, Timeline.EndsInBeat}
 use Rattle.theory.specs.Windows.{round}
 use Rattle.theory.proofs.Clock.{mod-within, mod-over}
 use Rattle.theory.proofs.Windows.{window-pos, window-round, round-pos, round-small, window-on}

@@ -9,9 +9,8 @@ use Rattle.model.specs.declared.Form.the-variants.{Laid}
 use Rattle.model.specs.{Settings.settingsOf, Trees.Block}
 use Rattle.model.specs.Runs.{Step, duration, outputsAfter, level, mark, overran, leave, cleared, run}
 use Rattle.model.specs.Stopping.{upto, Image, Saved, none, saved, imageBytes, imageOf, start, takeUp}
-use Rattle.model.specs.Answers.{bit, valueAt, isFinished}
+use Rattle.model.specs.{Answers.bit, Answers.valueAt, Answers.isFinished, Placement.Fits, Placement.Placed, Placement.StepsPlaced}
 use Rattle.model.specs.Replies.{savedAt, Loan, badBuffers, ended, isSaved, imageOver, stopBuffers, stopImage, takenUp, resumeReply, resumeBuffers, restartReply, restartBuffers}
-use Rattle.model.specs.Placement.{Fits, Placed, StepsPlaced}
 use Rattle.model.specs.Chain.{Outputs, lend, hasImage, takingUp, takenUpBuffers, takenUpSteps, imageTick, End, endOf, takenUpEnd}
 use Rattle.model.proofs.{Images.image-length, Images.image-back, Injective.bit-back}
 use Rattle.theory.proofs.{Within.run-within, Placing.placed-loop-free, Placing.placed-run, Twice.savedTick, Twice.few-twice}

@@ -5,10 +5,9 @@ use mathlib.Core.Path.{_≡_, refl, sym, _∙_, subst}
 use mathlib.Core.Bool.{true, false, false≢true}
 use mathlib.Core.List.{List, [], _∷_, _++_}
 use Rattle.model.specs.declared.Settings.{Settings}
-use Rattle.model.specs.Trees.{Block}
+use Rattle.model.specs.{Trees.Block, Placement.Fits, Placement.LoopFree, Placement.StepsPlaced}
 use Rattle.model.specs.Runs.{Effect, nothing, assigns, outputs, beats, saves, overruns, isBeat, isSave, Step, duration, overran, run}
 use Rattle.model.specs.Stopping.{upto, Saved, none, saved, lastImage, takeUp}
-use Rattle.model.specs.Placement.{Fits, LoopFree, StepsPlaced}
 use Rattle.theory.proofs.{Sequences.duration-++, Sequences.overran-++, Views.see, Views.same-overran}
 use Rattle.theory.proofs.{Unindexed.unindexed, Unindexed.same-duration, Stops.beyond, LastImage.made, LastImage.made-within}
 use Rattle.theory.proofs.{Values.StepsValued, LaidRuns.dueValue, LaidRuns.LaidFrom}

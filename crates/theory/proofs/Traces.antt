@@ -48,7 +48,7 @@ traced = record {
   any-index = λ d i j w. refl;
 }
 
--- a run that leaves no trace, behind another
+-- a run that leaves no trace, after another
 pub record Silent (f : Run) : Type 0 where
   pub none : (v : List ℕ) → see traced (f v) ≡ []
 

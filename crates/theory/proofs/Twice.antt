@@ -9,8 +9,7 @@ use borrow.Author.Tests.{ltb-true, ltb-false, eq-eqb, ne-eqb}
 use Rattle.model.specs.declared.Settings.{Settings}
 use Rattle.model.specs.Runs.{isSave, Step, duration, onVariables}
 use Rattle.model.specs.Stopping.{Image, Saved, none, saved, lastImage}
-use Rattle.model.specs.Placement.{Fits, InPlace, StepsPlaced}
-use Rattle.model.specs.Timeline.{lastSaveEnd}
+use Rattle.model.specs.{Placement.Fits, Placement.InPlace, Placement.StepsPlaced, Timeline.lastSaveEnd}
 use Rattle.theory.specs.Windows.{round}
 use Rattle.theory.proofs.Clock.{mod-within, mod-over}
 use Rattle.theory.proofs.Windows.{window-pos, window-round, round-pos, round-small, round-ends}

@@ -5,10 +5,8 @@ use mathlib.Core.{Path._≡_, Path.refl, Bool.false≢true}
 use Rattle.model.specs.declared.Form.the-variants.{Equalised, Laid}
 use Rattle.model.specs.{Records.IF, Records.TIMES, Runs.nothing, Layout.copies, Layout.unroll}
 use Rattle.model.specs.Trees.{Act, set, read, write, check, beat, save, Block, nil, skip, act, branch, while, times, _⧺_}
-use Rattle.model.specs.Trees.{depth, testRec, actRec}
-use Rattle.model.specs.Refusals.{between, testFits, fieldsFit}
-use Rattle.model.specs.Placement.{command, CommandFree, LoopFree}
-use Rattle.model.specs.Standing.{Fit}
+use Rattle.model.specs.{Trees.depth, Trees.testRec, Trees.actRec, Refusals.between, Refusals.testFits, Refusals.fieldsFit}
+use Rattle.model.specs.{Placement.command, Placement.CommandFree, Placement.LoopFree, Standing.Fit}
 use Rattle.model.proofs.Shapes.{and-left}
 use Rattle.theory.proofs.Forms.{Formed, depth-⧺}
 

@@ -9,9 +9,8 @@ use Rattle.model.specs.Trees.{Act, set, read, write, check, beat, save, Block, 
 use Rattle.model.specs.{Times.ticks, Times.time, Equalising.waiting, Equalising.merge}
 use Rattle.model.specs.Runs.{Effect, nothing, assigns, outputs, beats, saves, overruns, Step, step, isBeat, starts, duration}
 use Rattle.model.specs.Runs.{onVariables, overran, holds, effect, Run, _⊳_, run}
-use Rattle.model.specs.Layout.{body, lastValue, closed}
+use Rattle.model.specs.{Layout.body, Layout.lastValue, Layout.closed, Timeline.picks, Timeline.beatAt, Timeline.beatList}
 use Rattle.model.specs.Placement.{Each, command, CommandFree, LoopFree}
-use Rattle.model.specs.Timeline.{picks, beatAt, beatList}
 use Rattle.theory.proofs.{Times.time-merge, Sequences.run-⧺, Within.run-within, Weaving.woven-body, Weaving.woven-each}
 use Rattle.theory.proofs.Every.{Every, every-nil, every-single, every-choose}
 

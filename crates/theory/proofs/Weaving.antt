@@ -1,7 +1,6 @@
 -- Laying out weaves SKIPs, BEATs of value 1 and SAVEs into a block, and leaves the rest of it as it was.
 use Prim.Native.Nat.{ℕ, zero, suc, _+_, _%_, _*_, _-_, max}
-use mathlib.Core.Path.{_≡_, refl, subst}
-use mathlib.Core.List.{List}
+use mathlib.Core.{Path._≡_, Path.refl, Path.subst, List.List}
 use lib.Dec.{eqb, ltb}
 use Rattle.model.specs.declared.Settings.{Settings}
 use Rattle.model.specs.Trees.{Test, Act, beat, save, Block, nil, skip, act, branch, while, times, _⧺_, size, depth}
@@ -30,7 +29,7 @@ woven-⧺ (skips n p) q = skips n (woven-⧺ p q)
 woven-⧺ (acts r p) q = acts r (woven-⧺ p q)
 woven-⧺ (branches r x y p) q = branches r x y (woven-⧺ p q)
 
--- more behind it
+-- more after it
 behind : {a a′ e : Block} → Woven a a′ → Woven nil e → Woven a (a′ ⧺ e)
 behind {a} {a′} {e} p q = subst (λ (x : Block). Woven x (a′ ⧺ e)) (⧺-nil a) (woven-⧺ p q)
 

@@ -1,4 +1,4 @@
--- Laying out puts each record in place: the commands at the multiples of H, and each step behind them, within its window.
+-- Laying out puts each record in place: the commands at the multiples of H, and each step after them, within its window.
 use Prim.Native.Nat.{ℕ, zero, suc, _+_, _-_, _%_, _/_, max, _≤_, _<_}
 use native.Mathlib.Omega.{arith}
 use native.Mathlib.Nat.{mod-lt, lt-of-not-le, mod-mod-of-dvd, dvd-mul-left, mul-le-mul-left, mul-le-mul-right, mod-eq-of-lt, zero-mod, add-zero, zero-add, add-assoc}
@@ -338,7 +338,7 @@ module _ (σ : Settings) (fits : Fits σ) where
   free-lay (while q n a b) ε t p c l f = absurd p
   free-lay (times q n a b) ε t p c l f = absurd p
 
-  -- what the places lead to, for crates above: behind a block, behind a test, and where filling ends
+  -- what the places lead to, for crates above: after a block, after a test, and where filling ends
   pub free-behind : (b : Block) (ε t : ℕ) → LoopFree b → CommandFree b → ε ≤ 1 → Free σ ε t → Free σ ε (t + time σ (lay σ b t))
   free-behind b ε t p c l f = free-lay b ε t p c l f .there
 
@@ -354,7 +354,7 @@ module _ (σ : Settings) (fits : Fits σ) where
   pub commands-0 : commands σ 0 ≡ act (beat 1) (act (save 0) nil)
   commands-0 = rw (zero-mod (σ .window), zero-mod (round σ))
 
-  -- and behind them
+  -- and after them
   clear-0 : Commanded σ 0 (act (beat 1) (act (save 0) nil))
   clear-0 = rw commands-0 at (commanded 0 (zero-mod (σ .window)))
 

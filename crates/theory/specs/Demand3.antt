@@ -51,7 +51,8 @@ Demand3 = (k : Chain) → Lent k → isFinished (equalising k) ≡ true → isFi
 -- any buffer lent between them
 pub record PreparesAlike (k : Chain) : Type 0 where
   pub answers : (xs : List ℕ) → equalising k ≡ finished xs → prepareReply (k .settings) (k .task) (length (k .laidRoom)) ≡ layingOut k
-  pub writes : (xs : List ℕ) → equalising k ≡ finished xs → prepareOut (k .settings) (k .task) (k .laidRoom) ≡ layOutOut (k .settings) (equalisedFile k) (k .laidRoom)
+  pub writes : (xs : List ℕ) → equalising k ≡ finished xs → prepareOut (k .settings) (k .task) (k .laidRoom) ≡ layOutOut (k .settings) (equalisedFile k)
+      (k .laidRoom)
   -- a refusal is equalising's, unless the lent buffer was too short
   pub refuses : (n : ℕ) (xs : List ℕ) → equalising k ≡ refused n xs → (n ≡ 9 → ⊥) → prepareReply (k .settings) (k .task) (length (k .laidRoom)) ≡ refused n xs
 

@@ -2,9 +2,7 @@
 use Prim.Native.Nat.{ℕ, _+_, _≤_}
 use native.Mathlib.{Nat.mul-le-mul-right, Omega.arith}
 use mathlib.Core.Path.{_≡_, refl, ap, sym, _∙_}
-use mathlib.Core.Bool.{false, _&&_, false≢true}
-use mathlib.Core.Logic.{_⊎_, inl, inr}
-use mathlib.Core.List.{List}
+use mathlib.Core.{Bool.false, Bool._&&_, Bool.false≢true, Logic._⊎_, Logic.inl, Logic.inr, List.List}
 use Rattle.model.specs.declared.{Form.Form, Settings.Settings}
 use Rattle.model.specs.Records.{kindAt, recordAt, WHILE, TIMES}
 use Rattle.model.specs.Trees.{Test, Act, set, read, write, check, beat, save, Block, nil, skip, act, branch, while, times, actRec, testRec}

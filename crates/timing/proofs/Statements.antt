@@ -16,10 +16,8 @@ use Rattle.reading.proofs.Walking.{block, some, open-at, first-in, if-at, secon
 use Rattle.timing.specs.declared.ticks.Time.{Time}
 use Rattle.timing.specs.declared.ticks.Time.the-variants.{OverPeriod}
 use Rattle.timing.specs.declared.blocks.Step.{Step}
-use Rattle.timing.specs.Times.{Gives, stepTicks, loopTicks}
-use Rattle.timing.specs.Blocks.{firstTime, StatementTimes, SequenceTimes}
-use Rattle.timing.proofs.Given.{gives-over, in-time}
-use Rattle.timing.proofs.Firsts.{loop-count, parts-time, plain-at}
+use Rattle.timing.specs.{Times.Gives, Times.stepTicks, Times.loopTicks, Blocks.firstTime, Blocks.StatementTimes, Blocks.SequenceTimes}
+use Rattle.timing.proofs.{Given.gives-over, Given.in-time, Firsts.loop-count, Firsts.parts-time, Firsts.plain-at}
 
 -- what the answer for a sequence says of the block that stands there, which is closed before the end: where it ends, or that it takes too long
 module _ {s : List ℕ} {j to d : ℕ} {σ : Settings} {r : Step} (S : SequenceTimes s j to d σ r) {f : Form} (F : InFile f s j to) (l : depth (F .block) ≤ d) where

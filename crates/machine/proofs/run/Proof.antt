@@ -1,8 +1,7 @@
 use mathlib.Core.{Bool.false, Path.subst}
 use borrow.Author.Needs.{needs}
 use Rattle.machine.specs.Calls.{Readies}
-use Rattle.machine.proofs.Whole.{lent, cleared-ready, cleared-run}
-use Rattle.machine.proofs.Replies.{is-ready, run-refused, run-finished}
+use Rattle.machine.proofs.{Whole.lent, Whole.cleared-ready, Whole.cleared-run, Replies.is-ready, Replies.run-refused, Replies.run-finished}
 use Rattle.machine.proofs.run.Statement.{statement}
 use Rattle.machine.proofs.run.Tie as tie
 

@@ -1,8 +1,7 @@
 -- Every length is that at entry; what is written goes by the laws of Over: four stores, and two loans.
 use borrow.Author.Needs.{needs}
 use native.Mathlib.Omega.{arith}
-use mathlib.Core.Path.{_≡_, refl, _∙_}
-use mathlib.Core.List.{List, _++_}
+use mathlib.Core.{Path._≡_, Path.refl, Path._∙_, List.List, List._++_}
 use Prim.Native.Nat.{ℕ, _≤_}
 use lib.ListN.{length, set, length-set}
 use Rattle.model.specs.Records.{wordBytes, recordBytes, over}

@@ -1,4 +1,4 @@
--- The measure is the range of records that is left: a block inside a statement starts behind the statement's record.
+-- The measure is the range of records that is left: a block inside a statement starts after the statement's record.
 use Prim.Native.Nat.{ℕ, _+_, _*_, _-_, _<_}
 use native.Mathlib.Omega.{arith}
 use mathlib.Core.Bool.{false}

@@ -8,10 +8,8 @@ use Rattle.timing.specs.Times.{settingsIn}
 use Rattle.layout.specs.Lent.{loaded}
 use Rattle.model.specs.Records.{Rec, kindAt}
 use Rattle.reading.specs.Closing.{closesBlock}
-use Rattle.reading.proofs.Standing.{told}
-use Rattle.reading.proofs.Walking.{kind-there, count-there, if-at}
-use Rattle.layout.proofs.PassingRounds.{Loop, opened, at-end}
-use Rattle.layout.proofs.IdleLoops.{idle-inside}
+use Rattle.reading.proofs.{Standing.told, Walking.kind-there, Walking.count-there, Walking.if-at}
+use Rattle.layout.proofs.{PassingRounds.Loop, PassingRounds.opened, PassingRounds.at-end, IdleLoops.idle-inside}
 use Rattle.layout.proofs.Clocking.{kinds-told, Clocking, clocking-start, clocking-empty, store-fits, clocking-closed, clocking-ended, inner-lent, inner-late, inner-on, inner-next}
 use Rattle.layout.proofs.Clocking.{step-starts, step-few, step-late, step-next, ClockingRounds, rounds-start, body-lent, rounds-late}
 use Rattle.layout.proofs.Clocking.{rounds-next, check-laying, check-few, rounds-clocked, other-kind, idle-laying, idle-few, idle-clocked}

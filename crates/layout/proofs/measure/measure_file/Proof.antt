@@ -1,4 +1,4 @@
--- Tick 0 has its commands, and the file's block is measured behind them.
+-- Tick 0 has its commands, and the file's block is measured after them.
 use mathlib.Core.Path.{refl}
 use Rattle.layout.proofs.WholeClocked.{clock-laying, clock-late, clock-lent, clock-measured}
 use borrow.Author.Needs.{needs}

@@ -9,8 +9,7 @@ use Rattle.layout.specs.Idling.{checkRec}
 use Rattle.placing.proofs.Writing.{writing-upto, writing-at}
 use Rattle.model.specs.Records.{kindAt}
 use Rattle.reading.specs.Closing.{closesBlock}
-use Rattle.reading.proofs.Standing.{told}
-use Rattle.reading.proofs.Walking.{kind-there, count-there, if-at}
+use Rattle.reading.proofs.{Standing.told, Walking.kind-there, Walking.count-there, Walking.if-at}
 use Rattle.layout.proofs.{PassingSteps.step-short, PassingRounds.opened, PassingRounds.at-end}
 use Rattle.layout.proofs.{WritingSteps.act-fits, WritingSteps.act-laid}
 use Rattle.layout.proofs.IdleLoops.{skips-fit, skips-laid, no-skip}

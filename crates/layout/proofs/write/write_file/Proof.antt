@@ -6,8 +6,7 @@ use borrow.Author.Needs.{needs}
 use Rattle.model.specs.{Trees.fileTree, Layout.layout}
 use Rattle.records.specs.Blocks.{blockBytes}
 use Rattle.records.proofs.Over.{Part, back, part-at, part-room, part-fits-last, part-last}
-use Rattle.placing.specs.States.{Laying, After, started}
-use Rattle.placing.specs.Placed.{tailBytes}
+use Rattle.placing.specs.{States.Laying, States.After, States.started, Placed.tailBytes}
 use Rattle.layout.proofs.Whole.{opening, laying-start, after-opening, behind, start-fits, start-part, block-fits, counted, tail-part, tail-laying}
 use Rattle.layout.proofs.write.write_file.Statement.{statement}
 use Rattle.layout.proofs.write.write_file.Tie as tie

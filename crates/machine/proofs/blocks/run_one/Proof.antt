@@ -4,9 +4,8 @@ use borrow.Author.Needs.{needs}
 use Rattle.model.specs.Records.{Rec}
 use Rattle.reading.specs.Closing.{opensBlock, closesBlock}
 use Rattle.machine.proofs.Behind.{past-else, past-end, closes-neither, opens-neither}
-use Rattle.machine.proofs.Running.{running-start, past-ran}
+use Rattle.machine.proofs.{Running.running-start, Running.past-ran, RunningBranches.closed-past, RunningBranches.branch-cut, RunningBranches.branch-past}
 use Rattle.machine.proofs.RunningSteps.{reached-statement, fields-fit, test-there, kind-there, step-ran}
-use Rattle.machine.proofs.RunningBranches.{closed-past, branch-cut, branch-past}
 use Rattle.machine.proofs.blocks.run_one.Statement.{statement}
 use Rattle.machine.proofs.blocks.run_one.Tie as tie
 

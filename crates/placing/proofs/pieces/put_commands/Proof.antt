@@ -3,8 +3,7 @@ use borrow.Author.Needs.{needs}
 use native.Mathlib.Omega.{arith}
 use Prim.Native.Nat.{_+_}
 use mathlib.Core.{Path.refl, List._++_}
-use Rattle.model.specs.Records.{recordBytes}
-use Rattle.model.specs.Trees.{beat, save, actRec}
+use Rattle.model.specs.{Records.recordBytes, Trees.beat, Trees.save, Trees.actRec}
 use Rattle.records.proofs.Over.{Part, back, part-at, part-room, part-fits, part-fits-last, part-lent}
 use Rattle.records.proofs.Laying.{record-wrote, wrote-last}
 use Rattle.placing.proofs.PieceBytes.{saveBytes, dueBytes, due-fits, due-skipped, save-none, save-due}

@@ -1,5 +1,4 @@
-use mathlib.Core.Path.{sym, _∙_}
-use mathlib.Core.Logic.{⊎-elim, inl, inr}
+use mathlib.Core.{Path.sym, Path._∙_, Logic.⊎-elim, Logic.inl, Logic.inr}
 use borrow.Author.Needs.{needs}
 use Rattle.model.specs.Refusals.{fieldsFit}
 use Rattle.records.specs.Records.{recordOf}
