@@ -1,13 +1,14 @@
 -- Document 01's limits and lengths, each under the sentence that gives it.
 use Prim.Native.Nat.{ℕ}
 
--- "A task has 0 to 256 records, the other files at most 5,461." Their bytes, at 12 a record:
+-- "A task has 0 to 256 records, the other files at most 5,461."
 abbrev pub taskRecords : ℕ
 taskRecords = 256
 
 abbrev pub fileRecords : ℕ
 fileRecords = 5461
 
+-- the bytes of the longest file, "records of 12 bytes"
 abbrev pub fileLength : ℕ
 fileLength = 65532
 

@@ -43,8 +43,9 @@ above σ t = ltb (σ .period) t
 abbrev pub noRoom : ℕ → ℕ → Bool
 noRoom room n = ltb room (12 * n) || ltb fileRecords n
 
--- TIMING A FILE: settings that were read, and a file's tree
+-- TIMING A FILE
 
+-- "Timing a file answers its time": row 8 and the result, for settings that were read and a file's tree
 abbrev pub timeRows : Settings → Block → Verdict
 timeRows σ b = turnDown 8 (above σ (time σ b)) (finished (time σ b ∷ []))
 
@@ -56,6 +57,7 @@ timeReply s f file = reading s f file (timeRows (settingsOf s) (fileTree file))
 
 -- EQUALISING
 
+-- "equalising answers the bytes written and the time": rows 8 and 9 and the result
 abbrev pub equaliseRows : Settings → Block → ℕ → Verdict
 equaliseRows σ b room =
     let n = size (equalise σ b) in
@@ -78,6 +80,7 @@ equaliseOut s task out = kept (equaliseReply s task (length out)) (over (equalis
 
 -- LAYING OUT
 
+-- "laying out the bytes written and the total": rows 7 to 9 and the result
 abbrev pub layOutRows : Settings → Block → ℕ → Verdict
 layOutRows σ b room =
     let n = size (layout σ b) in
@@ -89,6 +92,7 @@ layOutRows σ b room =
 unfoldable pub layOutReply : List ℕ → List ℕ → ℕ → Verdict
 layOutReply s file room = reading s Equalised file (layOutRows (settingsOf s) (fileTree file) room)
 
+-- the laid file, its bytes and its total
 unfoldable pub laidTree : List ℕ → List ℕ → Block
 laidTree s file = layout (settingsOf s) (fileTree file)
 
