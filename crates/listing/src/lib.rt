@@ -30,9 +30,9 @@ pub fn list_task(
         return r;
     };
     let decoded = records::settings::decode(settings);
-    let Decoded::Valid(n) = decoded else {
+    let Decoded::Valid(rack) = decoded else {
         return r;
     };
-    start_block(laid, 0, bytes / 12, n, 0, starts);
+    start_block(laid, 0, bytes / 12, rack, 0, starts);
     r
 }

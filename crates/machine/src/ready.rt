@@ -30,15 +30,15 @@ pub fn ready(settings: &[u8], form: Form, file: &[u8], bad: bool) -> Checked
     ensures { λ r. ⌜ Readies (now (settings .entry)) form (now (file .entry)) bad r ⌝ }
 {
     let read = reading::read(settings, form, file);
-    let Checked::Valid(n) = read else {
+    let Checked::Valid(rack) = read else {
         return read;
     };
-    let time = block_time(file, 0, file.len() / 12, FILE_DEPTH, n);
+    let time = block_time(file, 0, file.len() / 12, FILE_DEPTH, rack);
     let Time::Ticks(_) = time else {
         return Checked::Refused(Refusal::OverPeriod);
     };
     if bad {
         return Checked::Refused(Refusal::BadBuffers);
     }
-    Checked::Valid(n)
+    Checked::Valid(rack)
 }

@@ -20,8 +20,8 @@ pub fn time_file(settings: &[u8], form: Form, file: &[u8]) -> Timed
     let read = reading::read(settings, form, file);
     match read {
         Checked::Refused(x) => Timed::Refused(x),
-        Checked::Valid(n) => {
-            let time = block_time(file, 0, file.len() / 12, FILE_DEPTH, n);
+        Checked::Valid(rack) => {
+            let time = block_time(file, 0, file.len() / 12, FILE_DEPTH, rack);
             match time {
                 Time::Ticks(t) => Timed::Ticks(t),
                 Time::OverPeriod => Timed::Refused(Refusal::OverPeriod),
