@@ -6,7 +6,7 @@
 // and is aligned as its type asks: uint32_t to 4 bytes, uint8_t to any. The buffers of one call do not overlap.
 // Threads: there is no global data, and a call keeps nothing and uses no heap. Calls may be made from any threads at once, each with
 // buffers of its own.
-// Stack: measured on files nested as deep as may be, a call needs up to 18,128 bytes, and rack_prepare 27,504.
+// Stack: measured on files nested as deep as may be, a call needs up to 18,224 bytes, and rack_prepare 27,536.
 // Settings: heartbeats, totals and taking up are as promised where a task is prepared, run and taken up under settings of the same numbers.
 // Other settings are not refused: the file is then run as its records stand.
 //
