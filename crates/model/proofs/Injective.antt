@@ -5,8 +5,8 @@ use mathlib.Core.Bool.{Bool, true, false, cond}
 use mathlib.Core.List.{List}
 use lib.{Dec.eqb, ListN.length, ListN.getD}
 use Rattle.model.specs.declared.{Refusal.Refusal, Timed.Timed, Equalised.Equalised, LaidOut.LaidOut, Ran.Ran, Stopped.Stopped}
-use Rattle.model.specs.declared.{Rehearsed.Rehearsed}
-use Rattle.model.specs.Answers.{Verdict, finished, refused, bit, refusal, timed, equalised, laidOut, ran, stopped, rehearsed}
+use Rattle.model.specs.declared.{Rehearsed.Rehearsed, Health.Health, Watched.Watched}
+use Rattle.model.specs.Answers.{Verdict, finished, refused, bit, refusal, timed, equalised, laidOut, ran, stopped, healthNumber, watched, rehearsed}
 
 -- a function that can be undone is injective
 undone : {A : Type 0} (f : A → Verdict) (g : Verdict → A) → ((a : A) → g (f a) ≡ a) → (a b : A) → f a ≡ f b → a ≡ b
@@ -29,7 +29,8 @@ read-back done turned (refused n xs) =
     (cond (eqb n 9) Refusal.NoRoom
     (cond (eqb n 10) Refusal.BadBuffers
     (cond (eqb n 11) Refusal.BadImage
-    Refusal.LateStop)))))))))))
+    (cond (eqb n 12) Refusal.LateStop
+    Refusal.BadEntry))))))))))))
 
 turned-back : {A : Type 0} (done : List ℕ → A) (turned : Refusal → A) (r : Refusal) → read-back done turned (refusal r) ≡ turned r
 unfolding read-back
@@ -45,6 +46,7 @@ turned-back done turned Refusal.NoRoom = refl
 turned-back done turned Refusal.BadBuffers = refl
 turned-back done turned Refusal.BadImage = refl
 turned-back done turned Refusal.LateStop = refl
+turned-back done turned Refusal.BadEntry = refl
 
 pub bit-back : (b : Bool) → eqb (bit b) 1 ≡ b
 bit-back true = refl
@@ -107,6 +109,27 @@ stopped-injective = undone stopped (read-back done Stopped.Refused) back
     back : (a : Stopped) → read-back done Stopped.Refused (stopped a) ≡ a
     back (Stopped.At t m) = ap (Stopped.At t) (bit-back m)
     back (Stopped.Refused r) = turned-back done Stopped.Refused r
+
+health-from : ℕ → Health
+health-from n = cond (eqb n 0) Health.Waiting (cond (eqb n 1) Health.Well (cond (eqb n 2) Health.Suspect Health.Failed))
+
+health-back : (h : Health) → health-from (healthNumber h) ≡ h
+unfolding health-from
+health-back Health.Waiting = refl
+health-back Health.Well = refl
+health-back Health.Suspect = refl
+health-back Health.Failed = refl
+
+pub watched-injective : (a b : Watched) → watched a ≡ watched b → a ≡ b
+unfolding read-back
+watched-injective = undone watched (read-back done Watched.Refused) back
+  where
+    done : List ℕ → Watched
+    done xs = Watched.Is (health-from (getD xs 0 0)) (getD xs 1 0)
+
+    back : (a : Watched) → read-back done Watched.Refused (watched a) ≡ a
+    back (Watched.Is h l) = ap (λ (x : Health). Watched.Is x l) (health-back h)
+    back (Watched.Refused r) = turned-back done Watched.Refused r
 
 pub rehearsed-injective : (a b : Rehearsed) → rehearsed a ≡ rehearsed b → a ≡ b
 unfolding read-back

@@ -10,6 +10,8 @@ use Rattle.model.specs.declared.Equalised.{Equalised}
 use Rattle.model.specs.declared.LaidOut.{LaidOut}
 use Rattle.model.specs.declared.Ran.{Ran}
 use Rattle.model.specs.declared.Stopped.{Stopped}
+use Rattle.model.specs.declared.Health.{Health}
+use Rattle.model.specs.declared.Watched.{Watched}
 use Rattle.model.specs.declared.Rehearsed.{Rehearsed}
 
 -- what a call answers: the values of a finished result, or a refusal's number and the value returned with it, if any
@@ -54,6 +56,7 @@ row Refusal.NoRoom = (9, [])
 row Refusal.BadBuffers = (10, [])
 row Refusal.BadImage = (11, [])
 row Refusal.LateStop = (12, [])
+row Refusal.BadEntry = (13, [])
 
 abbrev pub refusal : Refusal → Verdict
 refusal x = refused (row x .0) (row x .1)
@@ -80,6 +83,17 @@ ran (Ran.Refused r) = refusal r
 abbrev pub stopped : Stopped → Verdict
 stopped (Stopped.At t m) = finished (t ∷ 0 ∷ bit m ∷ [])
 stopped (Stopped.Refused r) = refusal r
+
+-- W-201: "waiting, well, suspect or failed", by their numbers. The watcher's calls answer how the entry then is, and its count and 2 more.
+abbrev pub healthNumber : Health → ℕ
+healthNumber Health.Waiting = 0
+healthNumber Health.Well = 1
+healthNumber Health.Suspect = 2
+healthNumber Health.Failed = 3
+
+abbrev pub watched : Watched → Verdict
+watched (Watched.Is h l) = finished (healthNumber h ∷ l ∷ [])
+watched (Watched.Refused r) = refusal r
 
 -- `rehearse` answers whether the ends are alike, the laid length and total, and the end tick; of a stopped run also the stop
 -- tick, whether there is an image and its tick, and the ticks run twice.

@@ -1,4 +1,4 @@
--- The definitions that state document 01, in the paper's order.
+-- The definitions that state document 01, in the paper's order, and then those of document 02.
 pub mod Limits
 pub mod Records
 pub mod Settings
@@ -16,5 +16,8 @@ pub mod Timeline
 pub mod Chain
 pub mod Rehearsal
 pub mod Listing
+-- document 02
+pub mod Watching
+pub mod Periods
 -- for the contracts inside the crates
 pub mod Standing

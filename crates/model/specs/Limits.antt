@@ -44,3 +44,7 @@ settingsLength = 12
 
 abbrev pub imageLength : ℕ
 imageLength = 72
+
+-- W-201: "A table holds at most 32 watched controllers"
+abbrev pub tableEntries : ℕ
+tableEntries = 32

@@ -23,7 +23,7 @@ pub struct Settings {
     pub period: u32,
 }
 
-// Why a call is turned down: document 01's numbers 1 to 12, and the value returned with 1 to 5.
+// Why a call is turned down: document 01's numbers 1 to 12 and those that document 02 adds, and the value returned with 1 to 5.
 pub enum Refusal {
     // 1: the length in bytes.
     BadLength(usize),
@@ -32,7 +32,7 @@ pub enum Refusal {
     BadField(usize),
     BadStructure(usize),
     TooDeep(usize),
-    // 6 to 12: the number alone.
+    // 6 to 13: the number alone.
     BadSettings,
     ShortWindow,
     OverPeriod,
@@ -40,6 +40,7 @@ pub enum Refusal {
     BadBuffers,
     BadImage,
     LateStop,
+    BadEntry,
 }
 
 // A refusal's number, and the value returned with it; 0 where the number is returned alone.
@@ -75,6 +76,33 @@ pub enum Ran {
 // run_until: the stop tick, and whether an image was written
 pub enum Stopped {
     At { tick: u32, saved: bool },
+    Refused(Refusal),
+}
+
+// An entry of the watcher's table: the count and 2 more, the window, and whether it waits for its next beat.
+pub struct Entry {
+    pub left: u32,
+    pub window: u32,
+    pub waiting: bool,
+}
+
+// What happens to an entry: a beat of a value, a look, and a reset with a window.
+pub enum Event {
+    Beat(u32),
+    Look,
+    Reset(u32),
+}
+
+pub enum Health {
+    Waiting,
+    Well,
+    Suspect,
+    Failed,
+}
+
+// beat, look, reset and status: how the entry is afterwards, and its count and 2 more
+pub enum Watched {
+    Is { health: Health, left: u32 },
     Refused(Refusal),
 }
 

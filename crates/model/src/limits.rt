@@ -23,3 +23,5 @@ pub const MOST_ROUNDS: u32 = 65535;
 pub const SETTINGS_LENGTH: usize = 12;
 
 pub const IMAGE_LENGTH: usize = 72;
+// The entries of the watcher's table.
+pub const TABLE_ENTRIES: usize = 32;

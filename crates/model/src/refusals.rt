@@ -13,7 +13,7 @@ fn numbered(number: u64, value: usize) -> Row
 }
 
 pub fn row_of(x: Refusal) -> Row
-    ensures { λ r. ⌜ (r .number ≡ row x .0) × (r .value ≡ getD (row x .1) 0 0) × (r .number ≤ 12) ⌝ }
+    ensures { λ r. ⌜ (r .number ≡ row x .0) × (r .value ≡ getD (row x .1) 0 0) × (r .number ≤ 13) ⌝ }
 {
     match x {
         Refusal::BadLength(n) => numbered(1, n),
@@ -28,5 +28,6 @@ pub fn row_of(x: Refusal) -> Row
         Refusal::BadBuffers => numbered(10, 0),
         Refusal::BadImage => numbered(11, 0),
         Refusal::LateStop => numbered(12, 0),
+        Refusal::BadEntry => numbered(13, 0),
     }
 }
