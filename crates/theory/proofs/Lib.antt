@@ -43,3 +43,7 @@ pub mod Prepared
 pub mod Preparing
 pub mod Ends
 pub mod Reached
+-- the watcher
+pub mod WatchRules
+pub mod WatchTables
+pub mod Silence
