@@ -47,3 +47,8 @@ pub mod Reached
 pub mod WatchRules
 pub mod WatchTables
 pub mod Silence
+pub mod Coverage
+pub mod Looks
+pub mod BeatsEnding
+pub mod CoveredPeriods
+pub mod SteadyBeats

@@ -5,8 +5,8 @@ use native.Mathlib.Nat.{sub-zero}
 use mathlib.Core.Path.{_≡_, refl, ap, _∙_}
 use mathlib.Core.Logic.{_↔_}
 use mathlib.Core.Bool.{true, false}
-use mathlib.Core.List.{List, [], _∷_}
-use lib.ListN.{length, replicate}
+use mathlib.Core.List.{List, _∷_}
+use lib.ListN.{replicate}
 use Rattle.model.specs.declared.Entry.{Entry}
 use Rattle.model.specs.declared.Event.the-variants.{Beat, Look}
 use Rattle.model.specs.declared.Health.the-variants.{Failed}

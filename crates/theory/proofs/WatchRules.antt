@@ -1,18 +1,16 @@
 -- One entry of the watcher's table: which entries have failed, and the rules of W-201 for a beat, a look and a reset.
 use Prim.Native.Nat.{ℕ, zero, suc, _+_, _-_}
 use native.Mathlib.Omega.{arith}
-use mathlib.Core.Path.{_≡_, refl, ap, sym, _∙_}
+use mathlib.Core.Path.{_≡_, refl, ap, sym}
 use mathlib.Core.Bool.{Bool, true, false, cond, true≢false}
 use lib.Dec.{eqb, eqb·suc-zero}
-use borrow.Author.Tests.{ne-eqb}
-use lib.IntN.{ℤ, pos, negsuc, predℤ}
+use lib.IntN.{pos, predℤ}
 use Rattle.model.specs.declared.Entry.{Entry}
-use Rattle.model.specs.declared.Event.the-variants.{Beat, Look, Reset}
 use Rattle.model.specs.declared.Health.{Health}
 use Rattle.model.specs.declared.Health.the-variants.{Waiting, Well, Suspect, Failed}
 use Rattle.model.specs.Answers.{healthNumber}
-use Rattle.model.specs.Watching.{countOf, toldBy, healthOf, hasFailed, heard, beaten, looked, after}
-use Rattle.theory.specs.Watching.{Counts, Rules}
+use Rattle.model.specs.Watching.{countOf, toldBy, healthOf, hasFailed, heard, beaten, looked}
+use Rattle.theory.specs.Watching.{Rules}
 
 -- FAILED OR NOT
 
