@@ -1,22 +1,18 @@
 -- Which beats end at a tick: exactly those of the periods' steps whose start the beat's ticks bring there.
 use Prim.Native.Nat.{ℕ, zero, suc, _+_, _-_, _%_, _≤_, _<_}
-use native.Mathlib.Omega.{arith}
-use native.Mathlib.Nat.{add-assoc, sub-zero}
-use native.Mathlib.Decide.{ℕ-discrete}
-use mathlib.Core.Path.{_≡_, refl, ap, sym, _∙_, subst}
-use mathlib.Core.Logic.{_⊎_, inl, inr, ⊎-elim}
+use native.Mathlib.{Omega.arith, Nat.add-assoc, Decide.ℕ-discrete}
+use mathlib.Core.Path.{_≡_, refl, ap, sym, subst}
+use mathlib.Core.{Logic.⊎-elim, List.List·Memᴰ as Among, List.List·Memᴰ·head as at-head, List.List·Memᴰ·tail as in-tail}
 use mathlib.Core.Bool.{Bool, true, false, cond, true≢false}
 use mathlib.Core.List.{List, [], _∷_, _++_, map}
-use mathlib.Core.List.{List·Memᴰ as Among, List·Memᴰ·head as at-head, List·Memᴰ·tail as in-tail}
 use mathlib.Core.List.{List·Memᴰ·not-nil as none-among, List·Memᴰ·eq-of-singleton as only-among, List·Memᴰ·cases-cons as head-or-tail, List·Memᴰ·append-cases as left-or-right}
 use mathlib.Core.List.{Memᴰ·append-left as in-left, Memᴰ·append-right as in-right, Memᴰ·map as in-map, Memᴰ·of-map as from-map}
 use lib.Dec.{eqb, ltb}
 use borrow.Author.Tests.{eqb-true, eq-eqb, ne-eqb, ltb-true, ltb-false}
 use Rattle.model.specs.declared.Settings.{Settings}
 use Rattle.model.specs.Runs.{Effect, nothing, assigns, outputs, beats, saves, overruns, isBeat, Step}
-use Rattle.model.specs.Placement.{StepsPlaced}
+use Rattle.model.specs.{Placement.StepsPlaced, Periods.beatValue, Periods.beatsEnding, Periods.beatsIn}
 use Rattle.model.specs.Timeline.{picks, multiples, beatAt, beatList}
-use Rattle.model.specs.Periods.{beatValue, beatsEnding, beatsIn}
 
 -- where a condition picks one thing
 from-one : {A : Type 0} (o : Bool) (x y : A) → Among x (cond o (y ∷ []) []) → (o ≡ true) × (x ≡ y)
@@ -141,7 +137,7 @@ some-beat h s x o u e l = go (ℕ-discrete u s)
     go (no q) = (
       1,
       in-listed o u 1 (beatsTo h s x)
-      (in-left ((s, x) ∷ []) (in-map (λ u. (u, 1)) (in-picks (λ t. eqb (t % h) 0) (s - 0) 0 u (eq-eqb (u % h) 0 e) (omega arith) (omega arith)))),
+          (in-left ((s, x) ∷ []) (in-map (λ u. (u, 1)) (in-picks (λ t. eqb (t % h) 0) (s - 0) 0 u (eq-eqb (u % h) 0 e) (omega arith) (omega arith)))),
     )
 
 -- PERIODS

@@ -1,22 +1,16 @@
 -- THE GENERAL LAW of watching: over any timeline of beats and looks, if each beat covers the looks up to the next, the entry keeps enough.
 use Prim.Native.Nat.{ℕ, zero, suc, _+_, _≤_}
-use native.Mathlib.Omega.{arith}
-use native.Mathlib.Nat.{add-assoc, zero-add}
+use native.Mathlib.{Omega.arith, Nat.add-assoc}
 use mathlib.Core.Path.{_≡_, refl, sym, _∙_, subst}
 use mathlib.Core.Bool.{Bool, true, false, cond, true≢false}
 use mathlib.Core.List.{List, [], _∷_, _++_}
 use mathlib.Core.List.{List·Memᴰ as Among, List·Memᴰ·head as at-head, List·Memᴰ·tail as in-tail}
 use lib.Dec.{eqb}
 use borrow.Author.Tests.{ne-eqb, le-ltb}
-use Rattle.model.specs.Limits.{mostTicks}
-use Rattle.model.specs.declared.Entry.{Entry}
-use Rattle.model.specs.declared.Event.{Event}
-use Rattle.model.specs.declared.Event.the-variants.{Beat, Look}
-use Rattle.model.specs.declared.Health.{Health}
-use Rattle.model.specs.declared.Health.the-variants.{Waiting, Suspect, Failed}
-use Rattle.model.specs.Answers.{bit}
-use Rattle.model.specs.Watching.{countOf, toldBy, healthOf, hasFailed, heard, beaten, looked, after, badEvent, afterAll}
-use Rattle.model.specs.Periods.{eventsAt, eventsFrom}
+use Rattle.model.specs.{Limits.mostTicks, Answers.bit, Periods.eventsAt, Periods.eventsFrom}
+use Rattle.model.specs.declared.{Entry.Entry, Event.Event}
+use Rattle.model.specs.declared.Event.the-variants.{Beat}
+use Rattle.model.specs.Watching.{healthOf, hasFailed, heard, looked, after, badEvent, afterAll}
 use Rattle.theory.proofs.{WatchRules.failed-left, WatchRules.live-beaten, WatchRules.waiting-looked, WatchRules.counting-looked, WatchTables.taken-first}
 
 -- WHAT A BEAT COVERS

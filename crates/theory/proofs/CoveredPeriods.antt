@@ -1,16 +1,13 @@
 -- Periods whose BEATs are those of laid files: each beat covers the looks up to the next, if few enough look between.
 use Prim.Native.Nat.{ℕ, zero, suc, _+_, _-_, _%_, _≤_, _<_}
-use native.Mathlib.Omega.{arith}
-use native.Mathlib.Nat.{add-zero, zero-mod, add-mod-right}
+use native.Mathlib.{Omega.arith, Nat.add-zero, Nat.zero-mod, Nat.add-mod-right}
 use mathlib.Core.Path.{_≡_, refl, ap, sym, _∙_, subst}
 use mathlib.Core.Bool.{Bool, true, false}
 use mathlib.Core.List.{List, [], List·Memᴰ as Among, List·Memᴰ·not-nil as none-among}
 use lib.Dec.{ltb}
 use borrow.Author.Tests.{ltb-true, ltb-false}
-use Rattle.model.specs.Runs.{Step}
-use Rattle.model.specs.Periods.{beatsEnding, beatsIn}
-use Rattle.theory.proofs.Coverage.{Quiet, looksIn, Covers}
-use Rattle.theory.proofs.Looks.{next-multiple}
+use Rattle.model.specs.{Runs.Step, Periods.beatsEnding, Periods.beatsIn}
+use Rattle.theory.proofs.{Coverage.Quiet, Coverage.looksIn, Coverage.Covers, Looks.next-multiple}
 use Rattle.theory.proofs.BeatsEnding.{listed, beatsTo, each-beat, some-beat, from-periods, in-all-periods}
 
 quiet-at : (vs : ℕ → List ℕ) (t m j : ℕ) → Quiet vs t m → j < m → vs (t + j) ≡ []

@@ -6,9 +6,7 @@ use mathlib.Core.Path.{_≡_, refl, ap, sym, _∙_, subst}
 use mathlib.Core.Bool.{Bool, true, false, cond, true≢false, false≢true}
 use lib.Dec.{eqb, leb, ltb}
 use borrow.Author.Tests.{leb-true, eqb-true, ltb-true, ltb-false}
-use Rattle.model.specs.Answers.{bit}
-use Rattle.model.specs.Layout.{ceiling}
-use Rattle.model.specs.Periods.{looksEvery}
+use Rattle.model.specs.{Answers.bit, Layout.ceiling, Periods.looksEvery}
 use Rattle.theory.proofs.Coverage.{looksIn}
 
 -- looks at the n ticks from a on are at least h apart

@@ -1,33 +1,20 @@
 -- The BEATs of a course in steady periods, from what demand 2 says of a run of a laid file.
 use Prim.Native.Nat.{ℕ, _+_, _-_, _%_, _≤_}
-use native.Mathlib.Omega.{arith}
-use native.Mathlib.Nat.{add-zero}
+use native.Mathlib.{Omega.arith, Nat.add-zero}
 use mathlib.Core.Path.{_≡_, refl, ap, sym, _∙_, subst}
 use mathlib.Core.Bool.{Bool, true, false, _||_}
-use mathlib.Core.List.{List, List·Memᴰ as Among}
+use mathlib.Core.List.{List}
 use lib.ListN.{length}
-use Rattle.model.specs.Limits.{mostTicks}
+use Rattle.model.specs.{Limits.mostTicks, Settings.settingsOf, Trees.Block, Trees.fileTree, Runs.overran, Layout.ceiling, Layout.layout, Layout.total}
+use Rattle.model.specs.{Placement.StepsPlaced, Answers.bit, Answers.isFinished, Answers.valueAt, Chain.lend, Timeline.beatList}
 use Rattle.model.specs.declared.Settings.{Settings}
 use Rattle.model.specs.declared.Form.the-variants.{Laid}
-use Rattle.model.specs.Settings.{settingsOf}
-use Rattle.model.specs.Trees.{Block, fileTree}
-use Rattle.model.specs.Runs.{overran}
-use Rattle.model.specs.Layout.{ceiling, layout, total}
-use Rattle.model.specs.Placement.{StepsPlaced}
-use Rattle.model.specs.Answers.{bit, isFinished, valueAt}
 use Rattle.model.specs.Replies.{laidTree, laidTotal, above, fileTime, badBuffers, ended, Loan, ready, stepsOf, runReply}
-use Rattle.model.specs.Chain.{lend}
-use Rattle.model.specs.Timeline.{beatList}
 use Rattle.model.specs.Periods.{Course, laying, laidIn, runIn, stepsIn, Steady, beatsEnding}
 use Rattle.theory.specs.Demand2.{laidBytes}
-use Rattle.theory.proofs.Accepted.{read, passed, lay-out-accepted}
-use Rattle.theory.proofs.Files.{laid-file, laid-runnable}
-use Rattle.theory.proofs.Prepared.{finish}
-use Rattle.theory.proofs.Placing.{placed-run}
-use Rattle.theory.proofs.Running.{steps}
-use Rattle.theory.proofs.Laid.{ceiling-below}
-use Rattle.theory.proofs.Demand2.{demand2}
-use Rattle.theory.proofs.BeatsEnding.{listed, beatsTo, ending-listed}
+use Rattle.theory.proofs.{Accepted.read, Accepted.passed, Accepted.lay-out-accepted, Files.laid-file, Files.laid-runnable, Prepared.finish}
+use Rattle.theory.proofs.{Placing.placed-run, Running.steps, Laid.ceiling-below, Demand2.demand2}
+use Rattle.theory.proofs.{BeatsEnding.listed, BeatsEnding.beatsTo, BeatsEnding.ending-listed}
 
 bit-zero : (o : Bool) → bit o ≡ 0 → o ≡ false
 bit-zero true e = absurd (omega arith)

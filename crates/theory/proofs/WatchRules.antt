@@ -3,10 +3,8 @@ use Prim.Native.Nat.{ℕ, zero, suc, _+_, _-_}
 use native.Mathlib.Omega.{arith}
 use mathlib.Core.Path.{_≡_, refl, ap, sym}
 use mathlib.Core.Bool.{Bool, true, false, cond, true≢false}
-use lib.Dec.{eqb, eqb·suc-zero}
-use lib.IntN.{pos, predℤ}
-use Rattle.model.specs.declared.Entry.{Entry}
-use Rattle.model.specs.declared.Health.{Health}
+use lib.{Dec.eqb, Dec.eqb·suc-zero, IntN.pos, IntN.predℤ}
+use Rattle.model.specs.declared.{Entry.Entry, Health.Health}
 use Rattle.model.specs.declared.Health.the-variants.{Waiting, Well, Suspect, Failed}
 use Rattle.model.specs.Answers.{healthNumber}
 use Rattle.model.specs.Watching.{countOf, toldBy, healthOf, hasFailed, heard, beaten, looked}

@@ -4,17 +4,14 @@ use native.Mathlib.Omega.{arith}
 use mathlib.Core.Path.{_≡_, refl, ap, sym, _∙_}
 use mathlib.Core.Bool.{Bool, true, false, cond, _||_}
 use mathlib.Core.List.{List, [], _∷_}
-use lib.Dec.{eqb, leb, ltb}
+use lib.{Dec.eqb, Dec.leb, Dec.ltb, Seq.getD-set-same, Seq.getD-set-other}
 use lib.ListN.{length, set, length-set, replicate}
-use lib.Seq.{getD-set-same, getD-set-other}
 use borrow.Author.Tests.{eqb-true, eqb-false, leb-false}
-use Rattle.model.specs.declared.Entry.{Entry}
-use Rattle.model.specs.declared.Event.{Event}
+use Rattle.model.specs.declared.{Entry.Entry, Event.Event}
 use Rattle.model.specs.declared.Event.the-variants.{Beat, Look, Reset}
 use Rattle.model.specs.declared.Health.the-variants.{Waiting, Failed}
-use Rattle.model.specs.Limits.{tableEntries}
+use Rattle.model.specs.{Limits.tableEntries, Replies.turnDown}
 use Rattle.model.specs.Answers.{Verdict, finished, refused, kept, isFinished, valueAt, healthNumber}
-use Rattle.model.specs.Replies.{turnDown}
 use Rattle.model.specs.Watching.{healthOf, freshOf, after, badEntry, badEvent, told, entryAt, eventReply, eventTable, statusReply}
 use Rattle.model.specs.Watching.{Call, tableAfter, own, afterAll}
 use Rattle.model.proofs.Shapes.{neither}
