@@ -5,7 +5,8 @@ use mathlib.Core.Path.{_≡_, refl, ap, sym, subst}
 use mathlib.Core.{Logic.⊎-elim, List.List·Memᴰ as Among, List.List·Memᴰ·head as at-head, List.List·Memᴰ·tail as in-tail}
 use mathlib.Core.Bool.{Bool, true, false, cond, true≢false}
 use mathlib.Core.List.{List, [], _∷_, _++_, map}
-use mathlib.Core.List.{List·Memᴰ·not-nil as none-among, List·Memᴰ·eq-of-singleton as only-among, List·Memᴰ·cases-cons as head-or-tail, List·Memᴰ·append-cases as left-or-right}
+use mathlib.Core.List.{List·Memᴰ·not-nil as none-among, List·Memᴰ·eq-of-singleton as only-among}
+use mathlib.Core.List.{List·Memᴰ·cases-cons as head-or-tail, List·Memᴰ·append-cases as left-or-right}
 use mathlib.Core.List.{Memᴰ·append-left as in-left, Memᴰ·append-right as in-right, Memᴰ·map as in-map, Memᴰ·of-map as from-map}
 use lib.Dec.{eqb, ltb}
 use borrow.Author.Tests.{eqb-true, eq-eqb, ne-eqb, ltb-true, ltb-false}
@@ -46,43 +47,43 @@ in-picks p (suc n) t u e l m = go (ℕ-discrete t u) (in-picks p n (t + 1) u e)
 -- BEATS LISTED BY THEIR START
 
 -- the values of those that start at u where o + u is c
-abbrev pub listed : ℕ → ℕ → List (ℕ × ℕ) → List ℕ
-listed o c [] = []
-listed o c (y ∷ l) = cond (eqb (o + y .0) c) (y .1 ∷ []) [] ++ listed o c l
+abbrev pub listedEnding : ℕ → ℕ → List (ℕ × ℕ) → List ℕ
+listedEnding o c [] = []
+listedEnding o c (y ∷ l) = cond (eqb (o + y .0) c) (y .1 ∷ []) [] ++ listedEnding o c l
 
-plain : (o : Bool) (xs ys : List ℕ) → xs ≡ ys → cond o [] [] ++ xs ≡ ys
-plain true xs ys e = e
-plain false xs ys e = e
+no-value : (o : Bool) (xs ys : List ℕ) → xs ≡ ys → cond o [] [] ++ xs ≡ ys
+no-value true xs ys e = e
+no-value false xs ys e = e
 
 -- each BEAT in place lasts B
 pub ending-listed : (σ : Settings) (c a : ℕ) (es : List Step) (t : ℕ) → StepsPlaced σ t es
-    → beatsEnding c (a + t) es ≡ listed (a + σ .beat) c (beatList t es)
+    → beatsEnding c (a + t) es ≡ listedEnding (a + σ .beat) c (beatList t es)
 ending-listed σ c a [] t p = refl
 ending-listed σ c a (e ∷ es) t p =
     go (e .does) (p .0 .beat-lasts)
-    (subst (λ (u : ℕ). beatsEnding c u es ≡ listed (a + σ .beat) c (beatList (t + e .lasts) es)) (sym (add-assoc a t (e .lasts)))
+    (subst (λ (u : ℕ). beatsEnding c u es ≡ listedEnding (a + σ .beat) c (beatList (t + e .lasts) es)) (sym (add-assoc a t (e .lasts)))
     (ending-listed σ c a es (t + e .lasts) (p .1)))
   where
-    go : (w : Effect) → (isBeat w ≡ true → e .lasts ≡ σ .beat) → beatsEnding c (a + t + e .lasts) es ≡ listed (a + σ .beat) c (beatList (t + e .lasts) es)
+    go : (w : Effect) → (isBeat w ≡ true → e .lasts ≡ σ .beat) → beatsEnding c (a + t + e .lasts) es ≡ listedEnding (a + σ .beat) c (beatList (t + e .lasts) es)
         → cond (eqb (a + t + e .lasts) c) (beatValue w) [] ++ beatsEnding c (a + t + e .lasts) es
-        ≡ listed (a + σ .beat) c (beatAt t w ++ beatList (t + e .lasts) es)
-    go nothing l ih = plain (eqb (a + t + e .lasts) c) _ _ ih
-    go (assigns x y) l ih = plain (eqb (a + t + e .lasts) c) _ _ ih
-    go (outputs x y) l ih = plain (eqb (a + t + e .lasts) c) _ _ ih
+        ≡ listedEnding (a + σ .beat) c (beatAt t w ++ beatList (t + e .lasts) es)
+    go nothing l ih = no-value (eqb (a + t + e .lasts) c) _ _ ih
+    go (assigns x y) l ih = no-value (eqb (a + t + e .lasts) c) _ _ ih
+    go (outputs x y) l ih = no-value (eqb (a + t + e .lasts) c) _ _ ih
     go (beats x) l ih =
         let q = l refl in
         let f : a + t + e .lasts ≡ a + σ .beat + t = omega arith in
-        rw ih (ap (λ (u : ℕ). cond (eqb u c) (x ∷ []) [] ++ listed (a + σ .beat) c (beatList (t + e .lasts) es)) f)
-    go (saves m) l ih = plain (eqb (a + t + e .lasts) c) _ _ ih
-    go overruns l ih = plain (eqb (a + t + e .lasts) c) _ _ ih
+        rw ih (ap (λ (u : ℕ). cond (eqb u c) (x ∷ []) [] ++ listedEnding (a + σ .beat) c (beatList (t + e .lasts) es)) f)
+    go (saves m) l ih = no-value (eqb (a + t + e .lasts) c) _ _ ih
+    go overruns l ih = no-value (eqb (a + t + e .lasts) c) _ _ ih
 
 -- a value among them is one of the list's, with its start
-record Listed (o c v : ℕ) (l : List (ℕ × ℕ)) : Type 0 where
+record ListedEnding (o c v : ℕ) (l : List (ℕ × ℕ)) : Type 0 where
   begun : ℕ
   ends : o + begun ≡ c
   in-list : Among (begun, v) l
 
-from-listed : (o c v : ℕ) (l : List (ℕ × ℕ)) → Among v (listed o c l) → Listed o c v l
+from-listed : (o c v : ℕ) (l : List (ℕ × ℕ)) → Among v (listedEnding o c l) → ListedEnding o c v l
 from-listed o c v [] m = absurd (none-among m)
 from-listed o c v (y ∷ l) m =
     ⊎-elim
@@ -92,12 +93,12 @@ from-listed o c v (y ∷ l) m =
     (λ a. let r = from-listed o c v l a in record { begun = r .begun; ends = r .ends; in-list = in-tail (r .in-list) })
     (left-or-right (cond (eqb (o + y .0) c) (y .1 ∷ []) []) m)
 
-in-listed : (o u v : ℕ) (l : List (ℕ × ℕ)) → Among (u, v) l → Among v (listed o (o + u) l)
+in-listed : (o u v : ℕ) (l : List (ℕ × ℕ)) → Among (u, v) l → Among v (listedEnding o (o + u) l)
 in-listed o u v [] m = absurd (none-among m)
 in-listed o u v (y ∷ l) m =
     ⊎-elim
     (λ e.
-    in-left (listed o (o + u) l)
+    in-left (listedEnding o (o + u) l)
     (subst (λ (z : ℕ × ℕ). Among v (cond (eqb (o + z .0) (o + u)) (z .1 ∷ []) [])) e (in-one (eqb (o + u) (o + u)) v (eq-eqb (o + u) (o + u) refl))))
     (λ a. in-right (cond (eqb (o + y .0) (o + u)) (y .1 ∷ []) []) (in-listed o u v l a)) (head-or-tail m)
 
@@ -109,10 +110,10 @@ beatsTo h s x = map (λ u. (u, 1)) (multiples h 0 s) ++ (s, x) ∷ []
 
 -- what holds of 1 where a multiple below s brings it to c, and of x where s does, holds of each value there
 pub each-beat : (P : ℕ → Type 0) (h s x o c : ℕ) → ((u : ℕ) → u % h ≡ 0 → u < s → o + u ≡ c → P 1) → (o + s ≡ c → P x)
-    → (v : ℕ) → Among v (listed o c (beatsTo h s x)) → P v
+    → (v : ℕ) → Among v (listedEnding o c (beatsTo h s x)) → P v
 each-beat P h s x o c one last v m = ⊎-elim front back (left-or-right (map (λ u. (u, 1)) (multiples h 0 s)) (r .in-list))
   where
-    r : Listed o c v (beatsTo h s x)
+    r : ListedEnding o c v (beatsTo h s x)
     r = from-listed o c v (beatsTo h s x) m
 
     front : Among {A = ℕ × ℕ} (r .begun, v) (map (λ u. (u, 1)) (multiples h 0 s)) → P v
@@ -129,10 +130,10 @@ each-beat P h s x o c one last v m = ⊎-elim front back (left-or-right (map (λ
         subst P (sym (ap (λ (z : ℕ × ℕ). z .1) w)) (last (omega (arith, e, r .ends)))
 
 -- one ends for each multiple of h up to s
-pub some-beat : (h s x o u : ℕ) → u % h ≡ 0 → u ≤ s → (v : ℕ) × Among v (listed o (o + u) (beatsTo h s x))
+pub some-beat : (h s x o u : ℕ) → u % h ≡ 0 → u ≤ s → (v : ℕ) × Among v (listedEnding o (o + u) (beatsTo h s x))
 some-beat h s x o u e l = go (ℕ-discrete u s)
   where
-    go : Dec (u ≡ s) → (v : ℕ) × Among v (listed o (o + u) (beatsTo h s x))
+    go : Dec (u ≡ s) → (v : ℕ) × Among v (listedEnding o (o + u) (beatsTo h s x))
     go (yes q) = (x, in-listed o u x (beatsTo h s x) (in-right (map (λ u. (u, 1)) (multiples h 0 s)) (at-head (ap (λ (z : ℕ). (z, x)) q))))
     go (no q) = (
       1,

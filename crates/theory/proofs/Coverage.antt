@@ -32,36 +32,37 @@ pub record Covers (keep : ℕ) (vs : ℕ → List ℕ) (looks : ℕ → Bool) (b
 -- AN ENTRY
 
 -- it waits, or has k left
-abbrev pub Holds : ℕ → Entry → Type 0
-Holds k e = e .waiting ≡ false → k ≤ e .left
+abbrev pub HasLeft : ℕ → Entry → Type 0
+HasLeft k e = e .waiting ≡ false → k ≤ e .left
 
-holds-live : (e : Entry) → Holds 1 e → hasFailed (healthOf e) ≡ false
-holds-live e h = failed-left e ∙ go (e .waiting) h
+left-live : (e : Entry) → HasLeft 1 e → hasFailed (healthOf e) ≡ false
+left-live e h = failed-left e ∙ go (e .waiting) h
   where
     go : (w : Bool) → (w ≡ false → 1 ≤ e .left) → cond w false (eqb (e .left) 0) ≡ false
     go true h = refl
     go false h = ne-eqb (e .left) 0 (λ z. let y = h refl in omega arith)
 
 -- the look of a tick, if there is one
-holds-look : (l : Bool) (e : Entry) (k : ℕ) → Holds (bit l + k) e → Holds k (afterAll (eventsAt [] l) e)
-holds-look false e k h = λ w. let y = h w in omega arith
-holds-look true e k h = go (e .waiting) refl
+left-look : (l : Bool) (e : Entry) (k : ℕ) → HasLeft (bit l + k) e → HasLeft k (afterAll (eventsAt [] l) e)
+left-look false e k h = λ w. let y = h w in omega arith
+left-look true e k h = go (e .waiting) refl
   where
-    go : (w : Bool) → e .waiting ≡ w → Holds k (looked e)
+    go : (w : Bool) → e .waiting ≡ w → HasLeft k (looked e)
     go true w = rw (waiting-looked e w) (λ x. absurd (true≢false (sym w ∙ x)))
     go false w = rw (counting-looked e w) (λ x. let y = h w in omega arith)
 
 -- a tick at which beats end
-beats-first : (v : ℕ) (vs : List ℕ) (l : Bool) (e : Entry) → Holds 1 e → v ≤ mostTicks → afterAll (eventsAt (v ∷ vs) l) e ≡ afterAll (eventsAt vs l) (heard (v + 2) e)
-beats-first v vs l e h s = taken-first (Beat v) (eventsAt vs l) e (le-ltb mostTicks v s) ∙ rw (live-beaten e v (holds-live e h))
+beats-first : (v : ℕ) (vs : List ℕ) (l : Bool) (e : Entry) → HasLeft 1 e → v ≤ mostTicks
+    → afterAll (eventsAt (v ∷ vs) l) e ≡ afterAll (eventsAt vs l) (heard (v + 2) e)
+beats-first v vs l e h s = taken-first (Beat v) (eventsAt vs l) e (le-ltb mostTicks v s) ∙ rw (live-beaten e v (left-live e h))
 
-holds-beats : (vs : List ℕ) (v : ℕ) (l : Bool) (e : Entry) (k : ℕ) → Holds 1 e → ((x : ℕ) → Among x (v ∷ vs) → x ≤ mostTicks)
-    → ((x : ℕ) → Among x (v ∷ vs) → bit l + k ≤ x + 2) → Holds k (afterAll (eventsAt (v ∷ vs) l) e)
-holds-beats [] v l e k h small enough =
-    rw (beats-first v [] l e h (small v (at-head refl))) (holds-look l (heard (v + 2) e) k (λ x. enough v (at-head refl)))
-holds-beats (w ∷ vs) v l e k h small enough =
+left-beats : (vs : List ℕ) (v : ℕ) (l : Bool) (e : Entry) (k : ℕ) → HasLeft 1 e → ((x : ℕ) → Among x (v ∷ vs) → x ≤ mostTicks)
+    → ((x : ℕ) → Among x (v ∷ vs) → bit l + k ≤ x + 2) → HasLeft k (afterAll (eventsAt (v ∷ vs) l) e)
+left-beats [] v l e k h small enough =
+    rw (beats-first v [] l e h (small v (at-head refl))) (left-look l (heard (v + 2) e) k (λ x. enough v (at-head refl)))
+left-beats (w ∷ vs) v l e k h small enough =
     rw (beats-first v (w ∷ vs) l e h (small v (at-head refl)))
-    (holds-beats vs w l (heard (v + 2) e) k (λ x. omega arith) (λ x m. small x (in-tail m)) (λ x m. enough x (in-tail m)))
+    (left-beats vs w l (heard (v + 2) e) k (λ x. omega arith) (λ x m. small x (in-tail m)) (λ x m. enough x (in-tail m)))
 
 -- AN ENTRY THAT IS WATCHED
 -- It waits at tick r. `keep` is what its beats leave: 1 for never failed, 2 for never suspect.
@@ -76,11 +77,11 @@ module _ (vs : ℕ → List ℕ) (looks : ℕ → Bool) (keep : ℕ) (least : 1 
   entryAfter n = afterAll (eventsFrom vs looks r n) e
 
   -- as long as no beat ends, it has left what the looks up to then will take, and what it is to keep
-  ahead : (n m : ℕ) → Quiet vs (r + n) m → Holds (looksIn looks (r + n) m + keep) (entryAfter n)
+  ahead : (n m : ℕ) → Quiet vs (r + n) m → HasLeft (looksIn looks (r + n) m + keep) (entryAfter n)
   ahead zero m q = λ w. absurd (true≢false (sym waiting ∙ w))
   ahead (suc n) m q =
-      subst (Holds (looksIn looks (r + suc n) m + keep)) (sym (events-++ (eventsFrom vs looks r n) (eventsAt (vs (r + n)) (looks (r + n))) e))
-      (subst (λ (t : ℕ). Holds (looksIn looks t m + keep) (afterAll (eventsAt (vs (r + n)) (looks (r + n))) (entryAfter n))) (sym next)
+      subst (HasLeft (looksIn looks (r + suc n) m + keep)) (sym (events-++ (eventsFrom vs looks r n) (eventsAt (vs (r + n)) (looks (r + n))) e))
+      (subst (λ (t : ℕ). HasLeft (looksIn looks t m + keep) (afterAll (eventsAt (vs (r + n)) (looks (r + n))) (entryAfter n))) (sym next)
       (go (vs (r + n)) refl (small (r + n)) (covered (r + n)) (ahead n)))
     where
       next : r + suc n ≡ r + n + 1
@@ -90,16 +91,16 @@ module _ (vs : ℕ → List ℕ) (looks : ℕ → Bool) (keep : ℕ) (least : 1 
       quiet = subst (λ (t : ℕ). Quiet vs t m) next q
 
       go : (l : List ℕ) → vs (r + n) ≡ l → ((v : ℕ) → Among v l → v ≤ mostTicks) → ((v : ℕ) → Among v l → Covers keep vs looks (r + n) v)
-          → ((j : ℕ) → Quiet vs (r + n) j → Holds (looksIn looks (r + n) j + keep) (entryAfter n))
-          → Holds (looksIn looks (r + n + 1) m + keep) (afterAll (eventsAt l (looks (r + n))) (entryAfter n))
+          → ((j : ℕ) → Quiet vs (r + n) j → HasLeft (looksIn looks (r + n) j + keep) (entryAfter n))
+          → HasLeft (looksIn looks (r + n + 1) m + keep) (afterAll (eventsAt l (looks (r + n))) (entryAfter n))
       go [] h s c ih =
-          holds-look (looks (r + n)) (entryAfter n) _
-          (subst (λ (k : ℕ). Holds k (entryAfter n)) (add-assoc (bit (looks (r + n))) (looksIn looks (r + n + 1) m) keep) (ih (suc m) (h, quiet)))
+          left-look (looks (r + n)) (entryAfter n) _
+          (subst (λ (k : ℕ). HasLeft k (entryAfter n)) (add-assoc (bit (looks (r + n))) (looksIn looks (r + n + 1) m) keep) (ih (suc m) (h, quiet)))
       go (v ∷ l) h s c ih =
-          holds-beats l v (looks (r + n)) (entryAfter n) _ (λ w. let y = ih 0 tt w in omega arith) s (λ x a. omega (arith, c x a .until m quiet))
+          left-beats l v (looks (r + n)) (entryAfter n) _ (λ w. let y = ih 0 tt w in omega arith) s (λ x a. omega (arith, c x a .until m quiet))
 
-  pub keeps : (n : ℕ) → Holds keep (entryAfter n)
+  pub keeps : (n : ℕ) → HasLeft keep (entryAfter n)
   keeps n = λ w. let y = ahead n 0 tt w in omega arith
 
   pub never-failed : (n : ℕ) → hasFailed (healthOf (entryAfter n)) ≡ false
-  never-failed n = holds-live (entryAfter n) (λ w. let y = keeps n w in omega arith)
+  never-failed n = left-live (entryAfter n) (λ w. let y = keeps n w in omega arith)

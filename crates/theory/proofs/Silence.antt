@@ -8,7 +8,7 @@ use Rattle.model.specs.declared.Entry.{Entry}
 use Rattle.model.specs.declared.Event.the-variants.{Beat, Look}
 use Rattle.model.specs.declared.Health.the-variants.{Failed}
 use Rattle.model.specs.Answers.{isFinished, valueAt, healthNumber}
-use Rattle.model.specs.Watching.{countOf, toldBy, healthOf, heard, badEvent, entryAt, eventReply, statusReply, Call, tableAfter, own, afterAll}
+use Rattle.model.specs.Watching.{countOf, toldBy, healthOf, heard, badEvent, told, entryAt, eventReply, statusReply, Call, tableAfter, own, afterAll}
 use Rattle.theory.proofs.{WatchRules.live, WatchRules.live-beaten, WatchRules.counting-looked}
 use Rattle.theory.proofs.{WatchTables.taken-first, WatchTables.accepted, WatchTables.status-told, WatchTables.status-after}
 
@@ -24,19 +24,18 @@ beat-and-looks : (e : Entry) (v k : ℕ) → badEvent (Beat v) ≡ false → (he
 beat-and-looks e v k taken f =
     taken-first (Beat v) (replicate k Look) e taken ∙ ap (afterAll (replicate k Look)) (live-beaten e v (live e f)) ∙ looks-left k (heard (v + 2) e) refl
 
--- failed is where nothing is left
-none-left : (l : ℕ) → (healthNumber (toldBy (countOf l)) ≡ 3) ↔ (l ≡ 0)
-none-left zero = (λ e. refl, λ e. refl)
-none-left (suc zero) = (λ e. absurd (omega arith), λ e. absurd (omega arith))
-none-left (suc (suc l)) = (λ e. absurd (omega arith), λ e. absurd (omega arith))
-
-pub silent : (t : List Entry) (cs : List Call) (n v k : ℕ) → isFinished (eventReply t n (Beat v)) ≡ true
+-- how an entry is whose own events are these
+pub after-silence : (t : List Entry) (cs : List Call) (n v k : ℕ) → isFinished (eventReply t n (Beat v)) ≡ true
     → (valueAt 0 (statusReply t n) ≡ healthNumber Failed → ⊥) → own n cs ≡ Beat v ∷ replicate k Look
-    → (valueAt 0 (statusReply (tableAfter t cs) n) ≡ healthNumber Failed) ↔ (v + 2 ≤ k)
-silent t cs n v k finishes well mine =
+    → statusReply (tableAfter t cs) n ≡ told (heard (v + 2 - k) (entryAt t n))
+after-silence t cs n v k finishes well mine =
     let e = entryAt t n in
     let a = accepted t n (Beat v) finishes in
     let f : healthOf e ≡ Failed → ⊥ = λ h. well (ap (valueAt 0) (status-told t n (a .0)) ∙ ap healthNumber h) in
-    let z = none-left (v + 2 - k) in
-    rw (status-after t cs n (heard (v + 2 - k) e) (a .0) (rw mine (beat-and-looks e v k (a .1) f)))
-    (λ h. let y = z .0 h in omega arith, λ l. z .1 (omega arith))
+    status-after t cs n (heard (v + 2 - k) e) (a .0) (rw mine (beat-and-looks e v k (a .1) f))
+
+-- failed is where nothing is left
+pub none-left : (l : ℕ) → (healthNumber (toldBy (countOf l)) ≡ healthNumber Failed) ↔ (l ≡ 0)
+none-left zero = (λ e. refl, λ e. refl)
+none-left (suc zero) = (λ e. absurd (omega arith), λ e. absurd (omega arith))
+none-left (suc (suc l)) = (λ e. absurd (omega arith), λ e. absurd (omega arith))

@@ -5,7 +5,7 @@ use mathlib.Core.Path.{_≡_, refl, ap, sym, _∙_, subst}
 use mathlib.Core.Bool.{Bool, true, false, _||_}
 use mathlib.Core.List.{List}
 use lib.ListN.{length}
-use Rattle.model.specs.{Limits.mostTicks, Settings.settingsOf, Trees.Block, Trees.fileTree, Runs.overran, Layout.ceiling, Layout.layout, Layout.total}
+use Rattle.model.specs.{Limits.mostTicks, Settings.settingsOf, Trees.Block, Trees.fileTree, Runs.overran, Runs.run, Layout.ceiling, Layout.layout, Layout.total}
 use Rattle.model.specs.{Placement.StepsPlaced, Answers.bit, Answers.isFinished, Answers.valueAt, Chain.lend, Timeline.beatList}
 use Rattle.model.specs.declared.Settings.{Settings}
 use Rattle.model.specs.declared.Form.the-variants.{Laid}
@@ -14,7 +14,7 @@ use Rattle.model.specs.Periods.{Course, laying, laidIn, runIn, stepsIn, Steady,
 use Rattle.theory.specs.Demand2.{laidBytes}
 use Rattle.theory.proofs.{Accepted.read, Accepted.passed, Accepted.lay-out-accepted, Files.laid-file, Files.laid-runnable, Prepared.finish}
 use Rattle.theory.proofs.{Placing.placed-run, Running.steps, Laid.ceiling-below, Demand2.demand2}
-use Rattle.theory.proofs.{BeatsEnding.listed, BeatsEnding.beatsTo, BeatsEnding.ending-listed}
+use Rattle.theory.proofs.{BeatsEnding.listedEnding, BeatsEnding.beatsTo, BeatsEnding.ending-listed}
 
 bit-zero : (o : Bool) → bit o ≡ 0 → o ≡ false
 bit-zero true e = absurd (omega arith)
@@ -38,7 +38,7 @@ pub record BeatsOf (k : Course) (s x : ℕ) : Type 0 where
   pub in-time : s + settingsOf (k .settings) .beat ≤ settingsOf (k .settings) .period
   pub at-window : s % settingsOf (k .settings) .window ≡ 0
   pub small : x ≤ mostTicks
-  pub beats : (n a c : ℕ) → beatsEnding c a (stepsIn k n) ≡ listed (a + settingsOf (k .settings) .beat) c (beatsTo (settingsOf (k .settings) .window) s x)
+  pub beats : (n a c : ℕ) → beatsEnding c a (stepsIn k n) ≡ listedEnding (a + settingsOf (k .settings) .beat) c (beatsTo (settingsOf (k .settings) .window) s x)
 
 abbrev pub lastStart : Course → ℕ
 lastStart k = laidTotal (k .settings) (k .file) - settingsOf (k .settings) .beat
@@ -75,9 +75,10 @@ beats-of k steady =
           let v = k .sets n .variables in
           let o = k .outputs n in
           let q : stepsIn k n ≡ stepsOf (lend s Laid bytes ins v o) = ap (λ (y : List ℕ). stepsOf (lend s Laid y ins v o)) e in
-          let placed : StepsPlaced σ 0 (stepsIn k n) = subst (StepsPlaced σ 0) (sym (q ∙ steps s Laid bytes b tree ins v o)) (placed-run σ ins b 0 0 (f .placed) v) in
+          let p : run σ ins b 0 v ≡ stepsIn k n = sym (q ∙ steps s Laid bytes b tree ins v o) in
+          let placed : StepsPlaced σ 0 (stepsIn k n) = subst (StepsPlaced σ 0) p (placed-run σ ins b 0 0 (f .placed) v) in
           let whole : overran (stepsIn k n) ≡ false = whole-run (runIn k n) (steady .ran n) (steady .whole n) in
           let l : beatList 0 (stepsIn k n) ≡ beatsTo (σ .window) (lastStart k) (lastBeat k) =
           ap (beatList 0) q ∙ f .steps ins v o .values (ap overran (sym q) ∙ whole) in
-          ap (λ (u : ℕ). beatsEnding c u (stepsIn k n)) (sym (add-zero t)) ∙ ending-listed σ c t (stepsIn k n) 0 placed ∙ ap (listed (t + σ .beat) c) l;
+          ap (λ (u : ℕ). beatsEnding c u (stepsIn k n)) (sym (add-zero t)) ∙ ending-listed σ c t (stepsIn k n) 0 placed ∙ ap (listedEnding (t + σ .beat) c) l;
     }

@@ -16,8 +16,8 @@ use Rattle.theory.specs.Watching.{NeverFailed}
 use Rattle.theory.proofs.Watching.{watching}
 
 -- all steps of 1 tick, H 3, P 4, and no task: BEATs of value 1 and 0 end at ticks 1 and 4 of each period
-abbrev pub idle : Course
-idle = record {
+abbrev pub emptyCourse : Course
+emptyCourse = record {
   settings = 1 ∷ 1 ∷ 1 ∷ 1 ∷ 1 ∷ 1 ∷ 3 ∷ 0 ∷ 4 ∷ 0 ∷ 0 ∷ 0 ∷ [];
   file = [];
   room = replicate 48 0;
@@ -26,26 +26,26 @@ idle = record {
   first = 0;
 }
 
-idle-steady : Steady idle
+empty-steady : Steady emptyCourse
 unfolding
     firstRecords records bytes settingsOf badSettings linearise stackOf treeOf fileTree holds result effect before lastValue layout total fieldsFit
     scan fault reading laidTree layOutReply layOutOut ready stepsOf runReply
-idle-steady = record { laid-out = refl; ran = λ n. refl; whole = λ n. refl }
+empty-steady = record { laid-out = refl; ran = λ n. refl; whole = λ n. refl }
 
-pub idle-never-failed : (a r m : ℕ) → NeverFailed idle a r m
-idle-never-failed = watching .steady idle idle-steady
+pub empty-never-failed : (a r m : ℕ) → NeverFailed emptyCourse a r m
+empty-never-failed = watching .steady emptyCourse empty-steady
 
 -- what the ticks 0 to 4 bring, with looks from tick 1 on, as calls for the one entry of a table
 abbrev pub calls : List Call
 calls = map (λ x. record { entry = 0; event = x }) (Reset 3 ∷ Beat 1 ∷ Look ∷ Beat 0 ∷ Look ∷ [])
 
-pub idle-calls : own 0 calls ≡ watchedFrom idle 1 0 5
+pub empty-calls : own 0 calls ≡ watchedFrom emptyCourse 1 0 5
 unfolding
     firstRecords records bytes settingsOf badSettings linearise stackOf treeOf fileTree holds result effect before lastValue layout total fieldsFit
     scan fault reading laidTree layOutReply layOutOut ready stepsOf runReply
-idle-calls = refl
+empty-calls = refl
 
 -- the last look finds it suspect
-pub idle-suspect : valueAt 0 (statusReply (tableAfter (freshOf 0 ∷ []) calls) 0) ≡ healthNumber Suspect
+pub empty-suspect : valueAt 0 (statusReply (tableAfter (freshOf 0 ∷ []) calls) 0) ≡ healthNumber Suspect
 unfolding eventReply eventTable statusReply
-idle-suspect = refl
+empty-suspect = refl

@@ -67,16 +67,22 @@ last-reaches p t b h l m n o = let y = ceiling-covers (p - t) h l in ceiling-lea
 abbrev pub Reaches : Course → ℕ → Type 0
 Reaches k keep = ceiling (settingsOf (k .settings) .period - lastStart k) (settingsOf (k .settings) .window) + keep ≤ lastBeat k + 2
 
-pub steady-reaches : (k : Course) → Steady k → Reaches k 1
-steady-reaches k steady =
-    let σ = settingsOf (k .settings) in
-    let f = beats-of k steady in
-    let t = laidTotal (k .settings) (k .file) in
-    omega (arith, last-reaches (σ .period) t (σ .beat) (σ .window) (f .window-lasts) (f .beat-in-window) (total-beat σ (fileTree (k .file))) (f .in-time))
+module _ (k : Course) (steady : Steady k) where
+  pub steady-reaches : Reaches k 1
+  steady-reaches =
+      let σ = settingsOf (k .settings) in
+      let f = beats-of k steady in
+      let t = laidTotal (k .settings) (k .file) in
+      omega (arith, last-reaches (σ .period) t (σ .beat) (σ .window) (f .window-lasts) (f .beat-in-window) (total-beat σ (fileTree (k .file))) (f .in-time))
 
--- looks every window
-every-few : (h a : ℕ) → 0 < h → (b j : ℕ) → looksIn (looksEvery h a) b j ≤ ceiling j h + 0
-every-few h a l b j = omega (arith, few-looks h (looksEvery h a) b j l (every-spaced h a b j))
+  -- with looks every window
+  pub every-covered : (keep : ℕ) → keep ≤ 2 → Reaches k keep → (a t v : ℕ) → Among v (beatsAt k t)
+      → Covers keep (beatsAt k) (looksEvery (settingsOf (k .settings) .window) a) t v
+  every-covered keep l m a =
+      let h = settingsOf (k .settings) .window in
+      let f = beats-of k steady in
+      steady-covered k (lastStart k) (lastBeat k) f (looksEvery h a) keep 0 (omega arith) (omega arith)
+      (λ b j. omega (arith, few-looks h (looksEvery h a) b j (f .window-lasts) (every-spaced h a b j)))
 
 -- NO EVENT IS REFUSED
 
@@ -92,24 +98,24 @@ taken-at (v ∷ vs) look small = (le-ltb mostTicks v (small v (at-head refl)), t
 taken-from : (vs : ℕ → List ℕ) (looks : ℕ → Bool) → ((t v : ℕ) → Among v (vs t) → v ≤ mostTicks) → (r n : ℕ) → Taken (eventsFrom vs looks r n)
 taken-from vs looks small r zero = tt
 taken-from vs looks small r (suc n) =
-    taken-++ (eventsFrom vs looks r n) (eventsAt (vs (r + n)) (looks (r + n))) (taken-from vs looks small r n) (taken-at (vs (r + n)) (looks (r + n)) (small (r + n)))
+    taken-++ (eventsFrom vs looks r n) (eventsAt (vs (r + n)) (looks (r + n))) (taken-from vs looks small r n)
+    (taken-at (vs (r + n)) (looks (r + n)) (small (r + n)))
 
 -- NEVER FAILED
 
 pub steady-never-failed : (k : Course) → Steady k → (a r m : ℕ) → NeverFailed k a r m
 steady-never-failed k steady a r m =
     let h = settingsOf (k .settings) .window in
+    let xs = eventsFrom (beatsAt k) (looksEvery h a) r m in
     let f = beats-of k steady in
     let small = steady-small k (lastStart k) (lastBeat k) f in
     let reset : badEvent (Reset h) ≡ false = ne-eqb h 0 (λ z. omega (arith, z, f .window-lasts)) in
-    let covers = steady-covered k (lastStart k) (lastBeat k) f (looksEvery h a) 1 0 (omega arith) (omega (arith, steady-reaches k steady))
-    (every-few h a (f .window-lasts)) in
+    let covers = every-covered k steady 1 (omega arith) (steady-reaches k steady) a in
+    let holds = never-failed (beatsAt k) (looksEvery h a) 1 (omega arith) small covers r (freshOf h) refl m in
     record {
       taken = (reset, taken-from (beatsAt k) (looksEvery h a) small r m);
       never-failed = λ t cs n here mine failed.
-          let g = failed-status (tableAfter t cs) n failed in
-          let e : entryAt (tableAfter t cs) n ≡ afterAll (eventsFrom (beatsAt k) (looksEvery h a) r m) (freshOf h) =
-          own-events cs t n here ∙ ap (λ (xs : List Event). afterAll xs (entryAt t n)) mine
-          ∙ taken-first (Reset h) (eventsFrom (beatsAt k) (looksEvery h a) r m) (entryAt t n) reset in
-          true≢false (sym (ap hasFailed (g .1)) ∙ ap (λ (y : Entry). hasFailed (healthOf y)) e ∙ never-failed (beatsAt k) (looksEvery h a) 1 (omega arith) small covers r (freshOf h) refl m);
+          let e : entryAt (tableAfter t cs) n ≡ afterAll xs (freshOf h) =
+          own-events cs t n here ∙ ap (λ (ys : List Event). afterAll ys (entryAt t n)) mine ∙ taken-first (Reset h) xs (entryAt t n) reset in
+          true≢false (sym (ap hasFailed (failed-status (tableAfter t cs) n failed .1)) ∙ ap (λ (y : Entry). hasFailed (healthOf y)) e ∙ holds);
     }

@@ -12,7 +12,7 @@ use Rattle.theory.specs.Watching.{Rules}
 
 -- FAILED OR NOT
 
-pub number-failed : (h : Health) → healthNumber h ≡ 3 → h ≡ Failed
+pub number-failed : (h : Health) → healthNumber h ≡ healthNumber Failed → h ≡ Failed
 number-failed Waiting e = absurd (omega arith)
 number-failed Well e = absurd (omega arith)
 number-failed Suspect e = absurd (omega arith)

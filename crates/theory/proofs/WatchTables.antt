@@ -56,7 +56,7 @@ pub failed-status : (t : List Entry) (n : ℕ) → valueAt 0 (statusReply t n) �
 unfolding statusReply
 failed-status t n e = go (badEntry (length t) n) refl e
   where
-    go : (o : Bool) → badEntry (length t) n ≡ o → valueAt 0 (turnDown 13 o (told (entryAt t n))) ≡ 3
+    go : (o : Bool) → badEntry (length t) n ≡ o → valueAt 0 (turnDown 13 o (told (entryAt t n))) ≡ healthNumber Failed
         → (badEntry (length t) n ≡ false) × (healthOf (entryAt t n) ≡ Failed)
     go true b e = absurd (omega arith)
     go false b e = (b, number-failed (healthOf (entryAt t n)) e)
