@@ -5,8 +5,8 @@ use mathlib.Core.Path.{_≡_, refl, ap, sym, subst}
 use mathlib.Core.{Logic.⊎-elim, List.List·Memᴰ as Among, List.List·Memᴰ·head as at-head, List.List·Memᴰ·tail as in-tail}
 use mathlib.Core.Bool.{Bool, true, false, cond, true≢false}
 use mathlib.Core.List.{List, [], _∷_, _++_, map}
-use mathlib.Core.List.{List·Memᴰ·not-nil as none-among, List·Memᴰ·eq-of-singleton as only-among}
-use mathlib.Core.List.{List·Memᴰ·cases-cons as head-or-tail, List·Memᴰ·append-cases as left-or-right}
+use mathlib.Core.{List.List·Memᴰ·not-nil as none-among, List.List·Memᴰ·eq-of-singleton as only-among}
+use mathlib.Core.{List.List·Memᴰ·cases-cons as head-or-tail, List.List·Memᴰ·append-cases as left-or-right}
 use mathlib.Core.List.{Memᴰ·append-left as in-left, Memᴰ·append-right as in-right, Memᴰ·map as in-map, Memᴰ·of-map as from-map}
 use lib.Dec.{eqb, ltb}
 use borrow.Author.Tests.{eqb-true, eq-eqb, ne-eqb, ltb-true, ltb-false}

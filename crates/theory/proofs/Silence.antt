@@ -1,5 +1,5 @@
 -- "A silent controller .. is failed at look v + 2 after it and no sooner": each look takes 1 off the v + 2 that its last beat left.
-use Prim.Native.Nat.{ℕ, zero, suc, _+_, _-_, _≤_}
+use Prim.Native.Nat.{ℕ, zero, suc, _+_, _-_}
 use native.Mathlib.{Omega.arith, Nat.sub-zero}
 use mathlib.Core.Path.{_≡_, refl, ap, _∙_}
 use mathlib.Core.{Logic._↔_, Bool.true, Bool.false, List.List, List._∷_}

@@ -4,12 +4,12 @@ use mathlib.Core.Path.{_≡_, refl}
 use mathlib.Core.List.{List, [], _∷_, map}
 use lib.ListN.{replicate}
 use Rattle.model.specs.declared.Event.the-variants.{Beat, Look, Reset}
-use Rattle.model.specs.declared.Health.the-variants.{Suspect}
-use Rattle.model.specs.{Records.firstRecords, Records.records, Records.bytes, Settings.settingsOf, Settings.badSettings, Runs.holds, Runs.result, Runs.effect}
+use Rattle.model.specs.declared.Health.the-variants.{Suspect, Failed}
+use Rattle.model.specs.{Records.firstRecords, Records.records, Records.bytes, Settings.settingsOf, Settings.badSettings, Runs.effect}
 use Rattle.model.specs.{Refusals.fieldsFit, Refusals.scan, Refusals.fault, Answers.valueAt, Answers.healthNumber}
 use Rattle.model.specs.{Periods.Course, Periods.Steady, Periods.watchedFrom}
 use Rattle.model.specs.Trees.{linearise, stackOf, treeOf, fileTree}
-use Rattle.model.specs.Layout.{before, lastValue, layout, total}
+use Rattle.model.specs.Layout.{lastValue, layout, total}
 use Rattle.model.specs.Replies.{reading, laidTree, layOutReply, layOutOut, ready, stepsOf, runReply}
 use Rattle.model.specs.Watching.{freshOf, eventReply, eventTable, statusReply, Call, tableAfter, own}
 use Rattle.theory.specs.Watching.{NeverFailed}
@@ -28,7 +28,7 @@ emptyCourse = record {
 
 empty-steady : Steady emptyCourse
 unfolding
-    firstRecords records bytes settingsOf badSettings linearise stackOf treeOf fileTree holds result effect before lastValue layout total fieldsFit
+    firstRecords records bytes settingsOf badSettings linearise stackOf treeOf fileTree effect lastValue layout total fieldsFit
     scan fault reading laidTree layOutReply layOutOut ready stepsOf runReply
 empty-steady = record { laid-out = refl; ran = λ n. refl; whole = λ n. refl }
 
@@ -41,11 +41,15 @@ calls = map (λ x. record { entry = 0; event = x }) (Reset 3 ∷ Beat 1 ∷ Look
 
 pub empty-calls : own 0 calls ≡ watchedFrom emptyCourse 1 0 5
 unfolding
-    firstRecords records bytes settingsOf badSettings linearise stackOf treeOf fileTree holds result effect before lastValue layout total fieldsFit
+    firstRecords records bytes settingsOf badSettings linearise stackOf treeOf fileTree effect lastValue layout total fieldsFit
     scan fault reading laidTree layOutReply layOutOut ready stepsOf runReply
 empty-calls = refl
 
--- the last look finds it suspect
+-- the last look finds it suspect, and one more would find it failed
 pub empty-suspect : valueAt 0 (statusReply (tableAfter (freshOf 0 ∷ []) calls) 0) ≡ healthNumber Suspect
 unfolding eventReply eventTable statusReply
 empty-suspect = refl
+
+pub empty-one-more : valueAt 0 (eventReply (tableAfter (freshOf 0 ∷ []) calls) 0 Look) ≡ healthNumber Failed
+unfolding eventReply eventTable
+empty-one-more = refl
