@@ -20,7 +20,7 @@ use Rattle.theory.proofs.Windows.{placed-body, body-ends, body-longer, 
 use Rattle.theory.proofs.Weaving.{Woven, done, waits, beats, saves, skips, acts, branches, woven-body, woven-depth, run-woven}
 
 -- a count of windows is at most the ticks that they cover
-ceiling-below : (n d : ℕ) → 1 ≤ d → ceiling n d ≤ n
+pub ceiling-below : (n d : ℕ) → 1 ≤ d → ceiling n d ≤ n
 ceiling-below zero d l = omega (arith, div-eq-of-lt {n = 0 + (d - 1)} {m = d} (omega arith))
 ceiling-below (suc n) d l = div-le-of-le-mul d (omega (arith, mul-le-mul-right n l))
 

@@ -1,6 +1,7 @@
--- The proofs of specs/. Demand2 and Demand3 say where each part is proved; the others stand in the order in which they build on each other.
+-- The proofs of specs/. Demand2, Demand3 and Watching say where each part is proved; the others stand in the order in which they build on each other.
 pub mod Demand2
 pub mod Demand3
+pub mod Watching
 pub mod Bench
 -- times and runs
 pub mod Times
@@ -43,3 +44,14 @@ pub mod Prepared
 pub mod Preparing
 pub mod Ends
 pub mod Reached
+-- the watcher
+pub mod WatchRules
+pub mod WatchTables
+pub mod Silence
+pub mod Coverage
+pub mod Looks
+pub mod BeatsEnding
+pub mod CoveredPeriods
+pub mod SteadyBeats
+pub mod SteadyPeriods
+pub mod SteadyExample
