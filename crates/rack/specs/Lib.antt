@@ -1,2 +1,3 @@
 -- What the contracts of the interface for C cite beside the model's definitions.
 pub mod Words
+pub mod Tables

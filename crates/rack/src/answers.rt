@@ -2,14 +2,16 @@
 ghost use mathlib.Core.Path.{_≡_};
 ghost use Prim.Native.Nat.{_+_, _*_, _^_, _≤_};
 ghost use Rattle.model.specs.Limits.{fileLength};
-ghost use Rattle.model.specs.Answers.{bit, timed, equalised, laidOut, ran, stopped};
+ghost use Rattle.model.specs.Answers.{bit, timed, equalised, laidOut, ran, stopped, healthNumber, watched};
 ghost use Rattle.rack.specs.Words.{fileWord, runWord, packed, firstIn};
 use crate::words::refused;
 use model::Equalised;
+use model::Health;
 use model::LaidOut;
 use model::Ran;
 use model::Stopped;
 use model::Timed;
+use model::Watched;
 
 // Where a file's time or total stands, and the flags of a run.
 const SECOND: u64 = 1 << 24;
@@ -72,5 +74,25 @@ pub fn stopped_word(x: Stopped) -> u64
     match x {
         Stopped::At { tick, saved } => flagged(tick, SAVED, saved),
         Stopped::Refused(y) => refused(y),
+    }
+}
+
+fn health_number(x: Health) -> u64
+    ensures { λ r. ⌜ r ≡ healthNumber x ⌝ }
+{
+    match x {
+        Health::Waiting => 0,
+        Health::Well => 1,
+        Health::Suspect => 2,
+        Health::Failed => 3,
+    }
+}
+
+pub fn watched_word(x: Watched) -> u64
+    ensures { λ r. ⌜ r ≡ packed fileWord (watched x) ⌝ }
+{
+    match x {
+        Watched::Is { health, left } => health_number(health) + SECOND * left as u64,
+        Watched::Refused(y) => refused(y),
     }
 }

@@ -1,24 +1,31 @@
 // The calls as C makes them. Each answers one number, in which specs/Words.antt packs what the paper returns.
 mod answers;
+mod tables;
 mod words;
 
 ghost use mathlib.Core.Path.{_≡_};
 ghost use lib.ListN.{length};
 ghost use Rattle.model.specs.Replies.{timeReply, equaliseReply, equaliseOut, layOutReply, layOutOut, prepareReply, prepareOut, loan, buffersOf};
 ghost use Rattle.model.specs.Replies.{runReply, runBuffers, stopReply, stopBuffers, stopImage, resumeReply, resumeBuffers, restartReply, restartBuffers};
+ghost use Rattle.model.specs.declared.Event.the-variants.{Beat, Look, Reset};
 ghost use Rattle.rack.specs.Words.{formOf, fileWord, runWord, packed};
+ghost use Rattle.rack.specs.Tables.{numbersReply, numbersStatus, numbersTable};
 use answers::equalised_word;
 use answers::laid_word;
 use answers::ran_word;
 use answers::stopped_word;
 use answers::time_word;
+use answers::watched_word;
 use equaliser::equalise;
 use layout::lay_out;
 use machine::restart;
 use machine::resume;
 use machine::run;
 use machine::run_until;
+use model::Event;
 use preparation::prepare;
+use tables::happen;
+use tables::seen;
 use timing::time_file;
 use words::form_of;
 
@@ -176,4 +183,42 @@ pub extern "C" fn rack_restart(
         marks,
     );
     ran_word(restarted)
+}
+
+// watcher::beat
+#[no_mangle]
+pub extern "C" fn rack_beat(table: &mut [u32], entry: u32, value: u32) -> u64
+    ensures { λ r. ⌜ (r ≡ packed fileWord (numbersReply (now (table .entry)) entry (Beat value)))
+        × (now (table .exit) ≡ numbersTable (now (table .entry)) entry (Beat value)) ⌝ }
+{
+    let seen = happen(table, entry, Event::Beat(value));
+    watched_word(seen)
+}
+
+// watcher::look
+#[no_mangle]
+pub extern "C" fn rack_look(table: &mut [u32], entry: u32) -> u64
+    ensures { λ r. ⌜ (r ≡ packed fileWord (numbersReply (now (table .entry)) entry Look))
+        × (now (table .exit) ≡ numbersTable (now (table .entry)) entry Look) ⌝ }
+{
+    let seen = happen(table, entry, Event::Look);
+    watched_word(seen)
+}
+
+// watcher::reset
+#[no_mangle]
+pub extern "C" fn rack_reset(table: &mut [u32], entry: u32, window: u32) -> u64
+    ensures { λ r. ⌜ (r ≡ packed fileWord (numbersReply (now (table .entry)) entry (Reset window)))
+        × (now (table .exit) ≡ numbersTable (now (table .entry)) entry (Reset window)) ⌝ }
+{
+    let seen = happen(table, entry, Event::Reset(window));
+    watched_word(seen)
+}
+
+// watcher::status
+#[no_mangle]
+pub extern "C" fn rack_status(table: &[u32], entry: u32) -> u64
+    ensures { λ r. ⌜ r ≡ packed fileWord (numbersStatus (now (table .entry)) entry) ⌝ }
+{
+    watched_word(seen(table, entry))
 }

@@ -5,11 +5,6 @@ use lib.Dec.{eqb, eqb·suc-zero}
 use Rattle.model.specs.declared.Health.the-variants.{Well}
 use Rattle.model.specs.Watching.{countOf, toldBy, hasFailed}
 
-pub failed-left : (l : ℕ) → hasFailed (toldBy (countOf l)) ≡ eqb l 0
-failed-left zero = refl
-failed-left (suc zero) = refl
-failed-left (suc (suc l)) = sym (eqb·suc-zero (suc l))
-
 pub well-left : (l : ℕ) → (l ≡ 0 → ⊥) → (l ≡ 1 → ⊥) → Well ≡ toldBy (countOf l)
 well-left zero p q = absurd (p refl)
 well-left (suc zero) p q = absurd (q refl)

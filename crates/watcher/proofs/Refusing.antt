@@ -9,6 +9,7 @@ use borrow.Author.Tests.{leb-false}
 use Rattle.model.specs.declared.{Entry.Entry, Event.Event, Watched.Watched}
 use Rattle.model.specs.declared.Refusal.the-variants.{BadEntry}
 use Rattle.model.specs.{Limits.tableEntries, Answers.watched, Answers.refusal, Answers.kept, Replies.turnDown}
+use Rattle.model.proofs.Shapes.{neither}
 use Rattle.model.specs.Watching.{after, badEntry, badEvent, told, entryAt, eventReply, eventTable, statusReply}
 
 -- the cause of refusal 13 of an event
@@ -41,11 +42,6 @@ status-turned-down t n r e a = a ∙ ap (λ (b : Bool). turnDown 13 b (told (ent
 pub status-told : (t : List Entry) (n : ℕ) (r : Watched) → badEntry (length t) n ≡ false → watched r ≡ told (entryAt t n) → watched r ≡ statusReply t n
 unfolding statusReply
 status-told t n r e a = a ∙ ap (λ (b : Bool). turnDown 13 b (told (entryAt t n))) (sym e)
-
--- neither cause holds
-pub neither : (a b : Bool) → (a || b) ≡ false → (a ≡ false) × (b ≡ false)
-neither true b e = absurd (true≢false e)
-neither false b e = (refl, e)
 
 -- an entry of the table
 pub within : (l n : ℕ) → badEntry l n ≡ false → n < l

@@ -45,13 +45,14 @@ use Rattle.model.specs.declared.{Entry.Entry, Event.Event, Watched.Watched}
 use Rattle.model.specs.declared.Refusal.the-variants.{BadEntry}
 use Rattle.model.specs.Answers.{watched, refusal}
 use Rattle.model.specs.Watching.{after, badEntry, badEvent, told, freshOf, entryAt, eventReply, eventTable}
+use Rattle.model.proofs.Shapes.{neither}
 use Rattle.model.proofs.Entry as T
 use Rattle.model.proofs.Entry.Laws as T′
 use Rattle.model.proofs.Watched as S
 use Rattle.model.proofs.Watched.Laws as S′
 use Rattle.watcher.proofs.Asks.{Gives, Of, gives, asks}
 use Rattle.watcher.proofs.TestLaws.{is-true, is-false}
-use Rattle.watcher.proofs.Refusing.{cause, Answers, turned-down, replaced, neither, within, place-fits}
+use Rattle.watcher.proofs.Refusing.{cause, Answers, turned-down, replaced, within, place-fits}
 use Rattle.watcher.proofs.Callees.{R, low, Told, Refused, told-gives, refused-gives}
 use Rattle.watcher.proofs.entries.told.Symbol.{name as #told}
 use Rattle.watcher.proofs.checks.refused.Symbol.{name as #refused}

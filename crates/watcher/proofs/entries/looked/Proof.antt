@@ -1,5 +1,6 @@
-use borrow.Author.{Needs.needs, Tests.ne-eqb}
-use Rattle.watcher.proofs.EntryLaws.{failed-left}
+use mathlib.Core.Path.{sym, _∙_}
+use borrow.Author.Needs.{needs}
+use Rattle.theory.proofs.WatchRules.{counting-looked}
 use Rattle.watcher.proofs.entries.looked.Statement.{statement}
 use Rattle.watcher.proofs.entries.looked.Tie as tie
 
@@ -10,5 +11,5 @@ looked-spec =
     (λ c. search needs)
     (search needs)
     (λ c.
-    let k = c .before .before .before in
-    simp (k .before .if1 .left, failed-left (k .before .before .args .e .left), ne-eqb _ _ (c .before .before .if2 .left)) (c .heard-from .ensures)))
+    let k = c .before .before .before .before in
+    c .heard-from .ensures ∙ sym (counting-looked (k .before .args .e) (k .if1 .left))))
