@@ -61,8 +61,10 @@ pub fn watching() {
     measure("status", |t| of_rack(rack::status(t, LAST)), |t| of_second(second::status(t, LAST)));
 }
 
+type Watches = fn(&mut Table) -> Result<rack::Watched, rack::Refusal>;
+
 /// The watcher's calls by name, for the table of stacks.
-pub const CALLS: [(&str, fn(&mut Table) -> Result<rack::Watched, rack::Refusal>); 4] = [
+pub const CALLS: [(&str, Watches); 4] = [
     ("beat", |t| rack::beat(t, LAST, 1)),
     ("look", |t| rack::look(t, LAST)),
     ("reset", |t| rack::reset(t, LAST, 20)),

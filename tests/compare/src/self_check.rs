@@ -171,20 +171,20 @@ impl Control {
     /// A last BEAT that tells no window left: only the watch over steady
     /// periods can tell that looks then fail its controller.
     fn late_beats(&mut self, settings: &Settings) {
-        let late = |last: Option<u32>| {
+        let noticed = |last: u32| {
             let (mut comparer, mut random) = (Comparer::new(), Random::new(2));
             comparer.quiet = true;
             let steady = Steady::new(&mut comparer, &mut random, settings, &factorial());
             if let Some(mut steady) = steady {
-                let told = |beat: &&mut Beat| beat.value == 3;
-                let lasts = steady.beats.iter_mut().filter(told);
-                lasts.for_each(|beat| beat.value = last.unwrap_or(3));
+                let is_last = |beat: &&mut Beat| beat.value == 3;
+                let lasts = steady.beats.iter_mut().filter(is_last);
+                lasts.for_each(|beat| beat.value = last);
                 steady.watch(&mut comparer, &mut random, 0, 0);
             }
             comparer.differences > 0
         };
         self.tried += 1;
-        self.missed += u64::from(late(None) || !late(Some(0)));
+        self.missed += u64::from(noticed(3) || !noticed(0));
     }
 }
 

@@ -17,6 +17,7 @@ pub fn part(comparer: &mut Comparer, seed: u64, rounds: u64) {
     for value in SILENT {
         silence(&mut Watch::fresh(comparer, 1), 0, value);
     }
+    longest_silence(comparer);
     bad_input(comparer, &mut random);
     long_sequences(comparer, random.next(), rounds);
 }
@@ -78,6 +79,21 @@ pub fn silence(watch: &mut Watch, entry: u32, value: u32) {
     let waiting = watched(Health::Waiting, 2);
     watch.expect(Kind::Reset, entry, 7, &waiting);
     watch.expect(Kind::Look, entry, 0, &waiting);
+}
+
+/// The same of the largest value. These looks are made by the first
+/// implementation alone, and are not counted as calls.
+fn longest_silence(comparer: &mut Comparer) {
+    let mut table = [2, 0, 1];
+    let heard = rack::beat(&mut table, 0, MOST_VALUE);
+    let mut failed = || {
+        let answer = rack::look(&mut table, 0);
+        answer.is_ok_and(|watched| watched.health == rack::Health::Failed)
+    };
+    let early = (0..=MOST_VALUE).any(|_| failed());
+    if heard.is_err() || early || !failed() {
+        comparer.fault("the longest silence shows at another look than v + 2");
+    }
 }
 
 /// Lengths, entries and numbers at the limits and past them, each with each,
