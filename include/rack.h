@@ -25,13 +25,16 @@ extern "C" {
 #endif
 
 // Raised with every change of a call, a number or a format.
-#define RACK_VERSION 1
+#define RACK_VERSION 2
 
 // The form of a file. Any other number is taken as laid.
 enum { RACK_TASK = 0, RACK_EQUALISED = 1, RACK_LAID = 2 };
 
 // The flags of a finished run.
 enum { RACK_OVERRAN = 1, RACK_SAVED = 2 };
+
+// The health of a watched controller.
+enum { RACK_WAITING = 0, RACK_WELL = 1, RACK_SUSPECT = 2, RACK_FAILED = 3 };
 
 // The numbers of the refusals, and the value returned with each; 0 where none is named.
 enum {
@@ -46,7 +49,8 @@ enum {
     RACK_NO_ROOM = 9,
     RACK_BAD_BUFFERS = 10,
     RACK_BAD_IMAGE = 11,
-    RACK_LATE_STOP = 12
+    RACK_LATE_STOP = 12,
+    RACK_BAD_ENTRY = 13
 };
 
 // Lengths that a call asks for, in elements.
@@ -54,6 +58,9 @@ enum { RACK_SETTINGS = 12, RACK_VARIABLES = 16, RACK_PORTS = 8, RACK_IMAGE = 72 
 
 // The bytes of a record, the most records of a task and of any file, and the bytes of the longest file.
 enum { RACK_RECORD = 12, RACK_TASK_RECORDS = 256, RACK_RECORDS = 5461, RACK_LONGEST = 65532 };
+
+// The numbers of an entry of a watcher's table, and the most entries.
+enum { RACK_ENTRY = 3, RACK_ENTRIES = 32 };
 
 // The parts of an answer. Ask rack_refused first: a refused one has a number and a value, a finished one first, second and flags.
 static inline int rack_refused(uint64_t answer) { return (int)(answer >> 63); }
@@ -110,6 +117,27 @@ uint64_t rack_resume(const uint8_t *settings, size_t settings_length, uint8_t fo
 uint64_t rack_restart(const uint8_t *settings, size_t settings_length, uint8_t form, const uint8_t *file, size_t file_length,
                       uint32_t *variables, size_t variables_length, const uint32_t *inputs, size_t inputs_length, uint32_t *levels,
                       size_t levels_length, uint8_t *marks, size_t marks_length);
+
+// A spare controller watches others by a table of at most RACK_ENTRIES entries, RACK_ENTRY numbers each: the count + 2, the window, and 1 while
+// the entry waits for a beat. Any number but 0 counts as waiting there, and all others are taken as they stand. Reset each entry of a new
+// table: three zeros are an entry that has failed. table_length is in numbers.
+// The four calls answer what the entry is afterwards, and leave all others alone. First value: its health; second: its count + 2. Once an
+// entry no longer waits, its count tells its health: well from 0 on, suspect at -1, failed at -2, and that holds until it is reset.
+// Refusal 13: a length that is no multiple of RACK_ENTRY, more than RACK_ENTRIES entries, an entry that is not in the table, a window of 0,
+// or a value above 1,000,000.
+
+// A BEAT of this value has ended: the entry no longer waits, and its count is the value. One that has failed stays so. Where a beat and a look
+// share a tick, this call goes first.
+uint64_t rack_beat(uint32_t *table, size_t table_length, uint32_t entry, uint32_t value);
+
+// A window has passed: takes 1 off the count of an entry that neither waits nor has failed.
+uint64_t rack_look(uint32_t *table, size_t table_length, uint32_t entry);
+
+// Gives the entry a window, that of the file which its controller runs, and the count 0; it waits for its next beat.
+uint64_t rack_reset(uint32_t *table, size_t table_length, uint32_t entry, uint32_t window);
+
+// Changes nothing.
+uint64_t rack_status(const uint32_t *table, size_t table_length, uint32_t entry);
 
 // What a run is lent and leaves. A port's level counts where its mark is 1.
 struct rack_state {

@@ -7,6 +7,7 @@ mod clock;
 mod file;
 mod stack;
 mod table;
+mod watch;
 
 use calls::{Form, Input, Measured};
 use file::{made, Shape, LONGEST, MOST_ROUNDS, PERIOD, RECORD};
@@ -243,6 +244,7 @@ fn main() {
     preparing();
     running();
     stopping();
+    watch::watching();
     worst_lay_out();
     if std::env::args().len() == 1 {
         stack::table();

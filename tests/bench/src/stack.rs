@@ -3,6 +3,7 @@
 
 use crate::calls::{room, Form, Input, Lent, INPUTS};
 use crate::file::{self, made, nested, Shape, IN_FIRST, IN_SECOND, IN_TIMES, IN_WHILE, LONGEST};
+use crate::watch;
 use crate::{fitting, laid};
 use std::cmp::Reverse;
 use std::hint::black_box;
@@ -172,4 +173,8 @@ pub fn table() {
     line("run until", run_until, &samples, &all);
     line("resume", resume, &samples, &[Form::Laid]);
     line("restart", restart, &samples, &all);
+    for (call, make) in watch::CALLS {
+        let mut table = watch::full();
+        println!("| {call} | {} | {} |", watch::INPUT, used(|| make(&mut table)));
+    }
 }

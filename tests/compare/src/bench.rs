@@ -63,6 +63,20 @@ fn case_j() -> Vec<u8> {
     bytes(&[repeat(WHILE, EQUAL, 0, 0, 2), skip(1), end()])
 }
 
+/// The lettered tasks that are laid out, with their settings.
+pub fn lettered() -> Vec<(Settings, Vec<u8>)> {
+    vec![
+        (BENCH, Vec::new()),
+        (BENCH, case_b()),
+        (BENCH.with_period(200), factorial()),
+        (BENCH.with_period(143), factorial()),
+        (BENCH.with_window(16), Vec::new()),
+        (BENCH, case_h()),
+        (BENCH, case_i()),
+        (BENCH, case_j()),
+    ]
+}
+
 fn nested(depth: usize) -> Vec<u8> {
     let blocks = |_| [test(IF, EQUAL, 0, 0), otherwise()];
     let opening: Vec<Record> = (0..depth).flat_map(blocks).collect();

@@ -14,10 +14,15 @@ pub enum Kind {
     RunUntil,
     Resume,
     Restart,
+    Beat,
+    Look,
+    Reset,
+    Status,
 }
 
 impl Kind {
-    pub const ALL: [Kind; 8] = [
+    /// The calls that are handed settings and a file.
+    pub const OF_FILES: [Kind; 8] = [
         Kind::Time,
         Kind::Equalise,
         Kind::LayOut,
@@ -28,6 +33,23 @@ impl Kind {
         Kind::Restart,
     ];
 
+    /// The calls that are handed a watcher's table.
+    pub const OF_TABLES: [Kind; 4] = [Kind::Beat, Kind::Look, Kind::Reset, Kind::Status];
+
+    pub fn all() -> impl Iterator<Item = Kind> {
+        Kind::OF_FILES.into_iter().chain(Kind::OF_TABLES)
+    }
+
+    /// The calls that run a file.
+    pub fn runs(self) -> bool {
+        use Kind::{Restart, Resume, Run, RunUntil};
+        matches!(self, Run | RunUntil | Resume | Restart)
+    }
+
+    pub fn watches(self) -> bool {
+        Kind::OF_TABLES.contains(&self)
+    }
+
     /// The calls that write a file.
     pub fn writes(self) -> bool {
         matches!(self, Kind::Equalise | Kind::LayOut | Kind::Prepare)
@@ -36,7 +58,7 @@ impl Kind {
 
 /// The buffers lent besides the settings and the file. A call leaves those it
 /// has no use for alone.
-#[derive(Clone, PartialEq, Eq)]
+#[derive(Clone, Default, PartialEq, Eq)]
 pub struct Lent {
     pub out: Vec<u8>,
     pub variables: Vec<u32>,
@@ -44,6 +66,7 @@ pub struct Lent {
     pub levels: Vec<u32>,
     pub marks: Vec<u8>,
     pub image: Vec<u8>,
+    pub table: Vec<u32>,
 }
 
 #[derive(Clone)]
@@ -53,7 +76,28 @@ pub struct Call<'a> {
     pub form: u8,
     pub file: &'a [u8],
     pub stop: u32,
+    pub entry: u32,
+    /// A beat's value, or the window of a reset.
+    pub number: u32,
     pub lent: Lent,
+}
+
+/// What is known of a watched controller.
+#[derive(Clone, Copy, PartialEq, Eq, Debug)]
+pub enum Health {
+    Waiting,
+    Well,
+    Suspect,
+    Failed,
+}
+
+impl Health {
+    pub const ALL: [Health; 4] = [
+        Health::Waiting,
+        Health::Well,
+        Health::Suspect,
+        Health::Failed,
+    ];
 }
 
 #[derive(Clone, PartialEq, Eq, Debug)]
@@ -62,6 +106,7 @@ pub enum Answer {
     Written { bytes: usize, time: u32 },
     Ended { tick: u32, overran: bool },
     Stopped { tick: u32, saved: bool },
+    Watched { health: Health, left: u32 },
     Refused { number: u8, value: Option<u64> },
     Panicked,
 }
@@ -113,14 +158,43 @@ impl<'a> Call<'a> {
             levels: random.words(8),
             marks: random.bytes(8),
             image: random.bytes(72),
+            table: Vec::new(),
         };
         Call {
-            kind,
             settings,
             form,
             file,
-            stop: 0,
             lent,
+            ..Call::bare(kind)
+        }
+    }
+
+    /// A call that is handed nothing.
+    fn bare(kind: Kind) -> Call<'a> {
+        Call {
+            kind,
+            settings: &[],
+            form: 0,
+            file: &[],
+            stop: 0,
+            entry: 0,
+            number: 0,
+            lent: Lent::default(),
+        }
+    }
+
+    /// A call of the watcher; `number` is a beat's value or a reset's window.
+    pub fn watching(kind: Kind, table: &[u32], entry: u32, number: u32) -> Call<'a> {
+        let table = table.to_vec();
+        let lent = Lent {
+            table,
+            ..Lent::default()
+        };
+        Call {
+            entry,
+            number,
+            lent,
+            ..Call::bare(kind)
         }
     }
 
@@ -159,6 +233,7 @@ struct Held {
     levels: Guarded<u32>,
     marks: Guarded<u8>,
     image: Guarded<u8>,
+    table: Guarded<u32>,
 }
 
 impl Held {
@@ -172,6 +247,7 @@ impl Held {
             levels: Guarded::new(&call.lent.levels),
             marks: Guarded::new(&call.lent.marks),
             image: Guarded::new(&call.lent.image),
+            table: Guarded::new(&call.lent.table),
         }
     }
 
@@ -183,7 +259,7 @@ impl Held {
             &self.marks,
             &self.image,
         ];
-        let words = [&self.variables, &self.inputs, &self.levels];
+        let words = [&self.variables, &self.inputs, &self.levels, &self.table];
         bytes.iter().all(|held| held.intact())
             && words.iter().all(|held| held.intact())
             && self.settings.lent() == call.settings
@@ -199,6 +275,7 @@ impl Held {
             levels: self.levels.take(),
             marks: self.marks.take(),
             image: self.image.take(),
+            table: self.table.take(),
         };
         Outcome {
             answer,
@@ -232,6 +309,19 @@ macro_rules! answers {
                 Answer::Stopped { tick, saved }
             }
         }
+
+        impl From<$library::Watched> for Answer {
+            fn from(watched: $library::Watched) -> Answer {
+                let health = match watched.health {
+                    $library::Health::Waiting => Health::Waiting,
+                    $library::Health::Well => Health::Well,
+                    $library::Health::Suspect => Health::Suspect,
+                    $library::Health::Failed => Health::Failed,
+                };
+                let left = watched.left;
+                Answer::Watched { health, left }
+            }
+        }
     };
 }
 
@@ -253,8 +343,8 @@ impl From<second::Refused> for Answer {
 }
 
 macro_rules! implementation {
-    ($name:ident, $library:ident, $form:expr) => {
-        fn $name(call: &Call, held: &mut Held) -> Answer {
+    ($of_files:ident, $of_tables:ident, $library:ident, $form:expr) => {
+        fn $of_files(call: &Call, held: &mut Held) -> Answer {
             let form = $form(call.form);
             let (settings, file) = (&*held.settings.lent(), &*held.file.lent());
             let (out, image) = (held.out.lent(), held.image.lent());
@@ -280,8 +370,22 @@ macro_rules! implementation {
                     $library::restart(settings, form, file, variables, inputs, levels, marks)
                         .map(Answer::from)
                 }
+                Kind::Beat | Kind::Look | Kind::Reset | Kind::Status => {
+                    return $of_tables(call, held.table.lent());
+                }
             }
             .unwrap_or_else(Answer::from)
+        }
+
+        fn $of_tables(call: &Call, table: &mut [u32]) -> Answer {
+            let (entry, number) = (call.entry, call.number);
+            match call.kind {
+                Kind::Beat => $library::beat(table, entry, number),
+                Kind::Look => $library::look(table, entry),
+                Kind::Reset => $library::reset(table, entry, number),
+                _ => $library::status(table, entry),
+            }
+            .map_or_else(Answer::from, Answer::from)
         }
     };
 }
@@ -294,8 +398,8 @@ fn second_form(form: u8) -> second::Form {
     }
 }
 
-implementation!(call_first, rack, |form: u8| form);
-implementation!(call_second, second, second_form);
+implementation!(call_first, watch_first, rack, |form: u8| form);
+implementation!(call_second, watch_second, second, second_form);
 
 fn make(call: &Call, implementation: fn(&Call, &mut Held) -> Answer) -> Outcome {
     let mut held = Held::new(call);

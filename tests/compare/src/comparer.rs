@@ -1,7 +1,7 @@
 //! Makes each call through both implementations, compares the two outcomes,
 //! and counts.
 
-use crate::call::{make_first, make_second, Answer, Call, Kind, Outcome};
+use crate::call::{make_first, make_second, Answer, Call, Health, Kind, Outcome};
 use crate::paper::broken;
 use crate::preparing;
 use crate::report;
@@ -15,12 +15,15 @@ const PRINTED: u64 = 20;
 #[derive(Clone, Copy, PartialEq, Eq, Debug)]
 pub enum Place {
     Answer,
+    Health,
     Out,
     Variables,
     Inputs,
     Levels,
     Marks,
     Image,
+    /// The last number of a watcher's table.
+    Table,
     /// The last record of a written file.
     Result,
     /// The margins of the lent buffers.
@@ -147,12 +150,14 @@ fn flip_bit(outcome: &mut Outcome, place: Place) {
     let flip_word = |word: &mut u32| *word ^= 1 << 31;
     match place {
         Place::Answer => flip_answer(&mut outcome.answer),
+        Place::Health => flip_health(&mut outcome.answer),
         Place::Out => lent.out.last_mut().map_or((), flip_byte),
         Place::Variables => lent.variables.last_mut().map_or((), flip_word),
         Place::Inputs => lent.inputs.last_mut().map_or((), flip_word),
         Place::Levels => lent.levels.last_mut().map_or((), flip_word),
         Place::Marks => lent.marks.last_mut().map_or((), flip_byte),
         Place::Image => lent.image.last_mut().map_or((), flip_byte),
+        Place::Table => lent.table.last_mut().map_or((), flip_word),
         Place::Result => flip_result(outcome),
         Place::Outside => outcome.stayed_inside = false,
     }
@@ -170,7 +175,16 @@ fn flip_answer(answer: &mut Answer) {
         Answer::Written { bytes, .. } => *bytes ^= 1,
         Answer::Ended { overran, .. } => *overran ^= true,
         Answer::Stopped { saved, .. } => *saved ^= true,
+        Answer::Watched { left, .. } => *left ^= 1,
         Answer::Refused { number, .. } => *number ^= 1,
         Answer::Panicked => {}
+    }
+}
+
+/// Another one: waiting and well are taken for each other, and so are suspect
+/// and failed.
+fn flip_health(answer: &mut Answer) {
+    if let Answer::Watched { health, .. } = answer {
+        *health = Health::ALL[*health as usize ^ 1];
     }
 }

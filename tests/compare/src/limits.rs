@@ -1,11 +1,13 @@
-//! Rows 7 to 12 of the table: periods, rooms, buffers, images and stops at the
-//! limits and past them, each with the answer that the paper gives.
+//! Rows 7 to 13 of the table: periods, rooms, buffers, images, stops and a
+//! watcher's entries at the limits and past them, each with the answer that the
+//! paper gives.
 
 use crate::bench::BENCH;
-use crate::call::{Answer, Call, Kind};
+use crate::call::{Answer, Call, Health, Kind};
 use crate::comparer::Comparer;
 use crate::random::Random;
 use crate::records::*;
+use crate::watch::watched;
 
 pub fn part(comparer: &mut Comparer, seed: u64) {
     let random = Random::new(seed);
@@ -17,6 +19,7 @@ pub fn part(comparer: &mut Comparer, seed: u64) {
     limits.buffers();
     limits.images();
     limits.stops();
+    limits.entries();
 }
 
 struct Limits<'a> {
@@ -182,6 +185,34 @@ impl Limits<'_> {
         for (form, file, stop) in [(LAID, &laid[..], 23), (TASK, &[], 0)] {
             let change = |call: &mut Call| call.stop = stop;
             self.run(Kind::RunUntil, form, file, change, Answer::refused(12));
+        }
+    }
+
+    /// Row 13: the table, the entry, the value and the window.
+    fn entries(&mut self) {
+        let (well, most) = (watched(Health::Well, 2), watched(Health::Well, 1_000_002));
+        let waiting = watched(Health::Waiting, 2);
+        let refused = Answer::refused(13);
+        let cases = [
+            (Kind::Beat, 96, 31, 0, &well),
+            (Kind::Beat, 99, 0, 0, &refused),
+            (Kind::Beat, 96, 32, 0, &refused),
+            (Kind::Beat, 3, 0, 1_000_000, &most),
+            (Kind::Beat, 3, 0, 1_000_001, &refused),
+            (Kind::Reset, 96, 31, 1, &waiting),
+            (Kind::Reset, 96, 31, u32::MAX, &waiting),
+            (Kind::Reset, 96, 31, 0, &refused),
+            (Kind::Look, 96, 31, 0, &waiting),
+            (Kind::Look, 95, 30, 0, &refused),
+            (Kind::Look, 0, 0, 0, &refused),
+            (Kind::Status, 3, 0, 0, &waiting),
+            (Kind::Status, 4, 0, 0, &refused),
+            (Kind::Status, 3, 1, 0, &refused),
+        ];
+        for (kind, length, entry, number, answer) in cases {
+            // Every third number is 2, so that each entry waits with count 0.
+            let call = Call::watching(kind, &vec![2; length], entry, number);
+            self.comparer.expect(&call, answer.clone());
         }
     }
 }

@@ -25,11 +25,15 @@ mod records;
 mod report;
 mod self_check;
 mod shrink;
+mod steady;
 mod stops;
 mod strangers;
 mod tally;
 mod valid;
 mod walk;
+mod watch;
+mod watched;
+mod watcher;
 
 use comparer::Comparer;
 use random::Random;
@@ -39,13 +43,41 @@ use std::process::ExitCode;
 use std::time::{Duration, Instant, SystemTime, UNIX_EPOCH};
 
 /// A default run with fewer calls has lost a part.
-const LEAST_CALLS: u64 = 200_000;
+const LEAST_CALLS: u64 = 3_000_000;
 
 /// Likewise, by what the calls answered.
 const LEAST_OF_A_KIND: u64 = 100;
 
 /// A part makes its calls through the comparer, from a seed.
 type Part = fn(&mut Comparer, u64);
+
+const PARTS: [(&str, Part); 8] = [
+    ("bench", |comparer, seed| {
+        bench::part(comparer, seed);
+        limits_of_files::part(comparer, seed);
+        limits::part(comparer, seed);
+    }),
+    ("exhaustive", exhaustive::part),
+    ("valid", |comparer, seed| {
+        valid::limits(comparer, seed);
+        valid::part(comparer, seed, 4000);
+    }),
+    ("damaged", |comparer, seed| {
+        damaged::part(comparer, seed, 4000)
+    }),
+    ("buffers", |comparer, seed| {
+        buffers::part(comparer, seed, 800)
+    }),
+    ("strangers", |comparer, seed| {
+        strangers::limits(comparer, seed);
+        strangers::part(comparer, seed, 8000);
+    }),
+    ("order", |comparer, seed| order::part(comparer, seed, 7000)),
+    ("watcher", |comparer, seed| {
+        watcher::part(comparer, seed, 400);
+        steady::part(comparer, seed, 300);
+    }),
+];
 
 enum Mode {
     Default,
@@ -96,30 +128,7 @@ fn seed_of_now() -> u64 {
 fn default_run() -> bool {
     let control = self_check();
     let mut comparer = Comparer::new();
-    let parts: [(&str, Part); 7] = [
-        ("bench", |comparer, seed| {
-            bench::part(comparer, seed);
-            limits_of_files::part(comparer, seed);
-            limits::part(comparer, seed);
-        }),
-        ("exhaustive", exhaustive::part),
-        ("valid", |comparer, seed| {
-            valid::limits(comparer, seed);
-            valid::part(comparer, seed, 4000);
-        }),
-        ("damaged", |comparer, seed| {
-            damaged::part(comparer, seed, 4000)
-        }),
-        ("buffers", |comparer, seed| {
-            buffers::part(comparer, seed, 800)
-        }),
-        ("strangers", |comparer, seed| {
-            strangers::limits(comparer, seed);
-            strangers::part(comparer, seed, 8000);
-        }),
-        ("order", |comparer, seed| order::part(comparer, seed, 7000)),
-    ];
-    for (seed, (name, part)) in (1..).zip(parts) {
+    for (seed, (name, part)) in (1..).zip(PARTS) {
         let before = comparer.calls;
         comparer.seed = seed;
         part(&mut comparer, seed);
@@ -175,6 +184,8 @@ fn round(comparer: &mut Comparer) {
     buffers::part(comparer, streams.next(), 8);
     strangers::part(comparer, streams.next(), 80);
     order::part(comparer, streams.next(), 60);
+    watcher::long_sequences(comparer, streams.next(), 4);
+    steady::generated(comparer, streams.next(), 2);
 }
 
 /// The last line; a run that was not sound never says "no difference".

@@ -3,17 +3,19 @@
 
 use crate::call::{Answer, Call, Kind, Lent, Outcome};
 use crate::records::{number, MOST_BYTES, SAVE};
+use crate::watched;
 
 /// The first statement that an outcome breaks.
 pub fn broken(call: &Call, outcome: &Outcome) -> Option<String> {
     let checked = inside(outcome).and_then(|()| match outcome.answer {
+        _ if call.kind.watches() => watched::check(call, outcome),
         Answer::Refused { number, value } => refused(call, &outcome.lent, number, value),
         _ => finished(call, outcome),
     });
     checked.err()
 }
 
-fn hold(statement: bool, what: &str) -> Result<(), String> {
+pub fn hold(statement: bool, what: &str) -> Result<(), String> {
     if statement {
         Ok(())
     } else {
@@ -35,6 +37,7 @@ pub fn possible(kind: Kind) -> &'static [u8] {
         Kind::Run | Kind::Restart => &[1, 2, 3, 4, 5, 6, 8, 10],
         Kind::RunUntil => &[1, 2, 3, 4, 5, 6, 8, 10, 12],
         Kind::Resume => &[1, 2, 3, 4, 5, 6, 8, 10, 11],
+        Kind::Beat | Kind::Look | Kind::Reset | Kind::Status => &[13],
     }
 }
 

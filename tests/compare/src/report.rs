@@ -14,8 +14,12 @@ fn words(values: &[u32]) -> String {
 
 pub fn print_call(what: &str, call: &Call, first: &Outcome, second: &Outcome) {
     println!("  {:?}: {what}", call.kind);
-    println!("  settings {}", hex(call.settings));
-    println!("  form {} file {}", call.form, hex(call.file));
+    if call.kind.watches() {
+        println!("  entry {} value or window {}", call.entry, call.number);
+    } else {
+        println!("  settings {}", hex(call.settings));
+        println!("  form {} file {}", call.form, hex(call.file));
+    }
     if call.kind == Kind::RunUntil {
         println!("  stop {}", call.stop);
     }
@@ -49,6 +53,10 @@ fn print_out(title: &str, out: &[u8]) {
 
 fn print_lent(title: &str, kind: Kind, lent: &Lent) {
     if kind == Kind::Time {
+        return;
+    }
+    if kind.watches() {
+        println!("  {title}: table {}", words(&lent.table));
         return;
     }
     if kind.writes() {

@@ -7,6 +7,8 @@ use crate::chain::{self, prepare, Prepared};
 use crate::comparer::{Comparer, Flip, Place};
 use crate::random::Random;
 use crate::records::*;
+use crate::steady::Steady;
+use second::Beat;
 
 const RUNS: [Kind; 4] = [Kind::Run, Kind::RunUntil, Kind::Resume, Kind::Restart];
 
@@ -32,6 +34,8 @@ pub fn check() -> Control {
     control.refused_calls(&prepared);
     control.files(&settings);
     control.ends(&prepared);
+    control.entries();
+    control.late_beats(&settings);
     control
 }
 
@@ -101,7 +105,7 @@ impl Control {
         try_place(Kind::Equalise, Place::Out, EQUALISED);
         try_place(Kind::LayOut, Place::Out, LAID);
         try_place(Kind::Prepare, Place::Out, EQUALISED);
-        for kind in Kind::ALL {
+        for kind in Kind::OF_FILES {
             try_place(kind, Place::Outside, LAID);
         }
     }
@@ -136,6 +140,51 @@ impl Control {
                 });
             }
         }
+    }
+
+    /// The bit is flipped in what a call of the watcher answers or leaves, of
+    /// an entry that waits and one that has failed, and of a refused call. On
+    /// both sides alike, only the statements on entries can tell.
+    fn entries(&mut self) {
+        let table = [2, 20, 1, 0, 20, 0, 5, 20, 0];
+        let both = [false, true];
+        for kind in Kind::OF_TABLES {
+            for place in [Place::Answer, Place::Health, Place::Table, Place::Outside] {
+                for flip in both.map(|both| Flip { kind, place, both }) {
+                    for entry in 0..2 {
+                        self.try_flip(flip, |comparer, _| {
+                            comparer.call(&Call::watching(kind, &table, entry, 9));
+                        });
+                    }
+                }
+            }
+            for place in [Place::Answer, Place::Table, Place::Outside] {
+                for flip in both.map(|both| Flip { kind, place, both }) {
+                    self.try_flip(flip, |comparer, _| {
+                        comparer.call(&Call::watching(kind, &table, 3, 9));
+                    });
+                }
+            }
+        }
+    }
+
+    /// A last BEAT that tells no window left: only the watch over steady
+    /// periods can tell that looks then fail its controller.
+    fn late_beats(&mut self, settings: &Settings) {
+        let noticed = |last: u32| {
+            let (mut comparer, mut random) = (Comparer::new(), Random::new(2));
+            comparer.quiet = true;
+            let steady = Steady::new(&mut comparer, &mut random, settings, &factorial());
+            if let Some(mut steady) = steady {
+                let is_last = |beat: &&mut Beat| beat.value == 3;
+                let lasts = steady.beats.iter_mut().filter(is_last);
+                lasts.for_each(|beat| beat.value = last);
+                steady.watch(&mut comparer, &mut random, 0, 0);
+            }
+            comparer.differences > 0
+        };
+        self.tried += 1;
+        self.missed += u64::from(noticed(3) || !noticed(0));
     }
 }
 

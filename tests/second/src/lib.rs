@@ -1,5 +1,6 @@
 //! The rack task preparer: times a task, equalises it, lays it out on the
-//! window with its commands, and runs each form by ticks.
+//! window with its commands, runs each form by ticks, and watches for beats
+//! that stay away.
 
 mod equal;
 mod layout;
@@ -11,11 +12,13 @@ mod settings;
 mod tape;
 #[cfg(test)]
 mod tests;
+mod watch;
 
 use machine::{Halt, Image, Machine, State};
 use program::Program;
 use settings::Settings;
 use tape::Tape;
+use watch::Event;
 
 /// What a file holds.
 #[derive(Clone, Copy, PartialEq, Eq, Debug)]
@@ -57,11 +60,34 @@ pub struct Ended {
     pub overran: bool,
 }
 
+/// A BEAT that a run made: the tick at its end, and its value.
+#[derive(Clone, Copy, PartialEq, Eq, Debug)]
+pub struct Beat {
+    pub end: u32,
+    pub value: u32,
+}
+
 /// Where a run was stopped and whether an image was written.
 #[derive(Clone, Copy, PartialEq, Eq, Debug)]
 pub struct Stopped {
     pub tick: u32,
     pub saved: bool,
+}
+
+/// What is known of a watched controller.
+#[derive(Clone, Copy, PartialEq, Eq, Debug)]
+pub enum Health {
+    Waiting,
+    Well,
+    Suspect,
+    Failed,
+}
+
+/// An entry after a call: its health, and its count plus 2.
+#[derive(Clone, Copy, PartialEq, Eq, Debug)]
+pub struct Watched {
+    pub health: Health,
+    pub left: u32,
 }
 
 /// The settings and the file, checked for all but times.
@@ -181,6 +207,25 @@ pub fn run(
     lent.finish(machine)
 }
 
+/// The BEATs of a run from the start of a file to its end, and that end.
+pub fn beats(
+    settings: &[u8],
+    form: Form,
+    file: &[u8],
+    variables: &[u32],
+    inputs: &[u32],
+) -> Result<(Vec<Beat>, Ended), Refused> {
+    let (settings, program) = read_timed(settings, form, file)?;
+    let (mut variables, mut levels, mut marks) = (variables.to_vec(), [0; 8], [0; 8]);
+    let lent = Lent::new(&mut variables, inputs, &mut levels, &mut marks)?;
+    let mut machine = Machine::new(&program, &settings, lent.inputs, lent.cleared());
+    machine.beats = Some(Vec::new());
+    match machine.run() {
+        Halt::Ended(ended) => Ok((machine.beats.unwrap_or_default(), ended)),
+        Halt::Stopped => Err(Refused::plain(12)),
+    }
+}
+
 /// Runs a file from its start and stops it at tick `stop`, before its end.
 #[allow(clippy::too_many_arguments)]
 pub fn run_until(
@@ -246,6 +291,26 @@ pub fn restart(
     let lent = Lent::new(variables, inputs, levels, marks)?;
     let machine = Machine::new(&program, &settings, lent.inputs, lent.kept());
     lent.finish(machine)
+}
+
+/// A BEAT of this value has ended.
+pub fn beat(table: &mut [u32], entry: u32, value: u32) -> Result<Watched, Refused> {
+    watch::happen(table, entry, Event::Beat(value))
+}
+
+/// A window has passed.
+pub fn look(table: &mut [u32], entry: u32) -> Result<Watched, Refused> {
+    watch::happen(table, entry, Event::Look)
+}
+
+/// An entry begins anew, with this window.
+pub fn reset(table: &mut [u32], entry: u32, window: u32) -> Result<Watched, Refused> {
+    watch::happen(table, entry, Event::Reset(window))
+}
+
+/// What an entry is, with nothing changed.
+pub fn status(table: &[u32], entry: u32) -> Result<Watched, Refused> {
+    watch::tell(table, entry)
 }
 
 /// What the list program prints for a task, each line ended.

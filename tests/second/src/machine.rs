@@ -4,7 +4,7 @@
 use crate::program::Program;
 use crate::record::{Kind, Record};
 use crate::settings::Settings;
-use crate::{Ended, Refused};
+use crate::{Beat, Ended, Refused};
 
 /// The bytes of an image: index, tick and 16 variables.
 const IMAGE: usize = 72;
@@ -91,6 +91,8 @@ pub(crate) struct Machine<'a> {
     /// Rounds left of each open loop, innermost last.
     rounds: Vec<u32>,
     pub saved: Option<Image>,
+    /// The BEATs made, where they are asked for.
+    pub beats: Option<Vec<Beat>>,
 }
 
 impl<'a> Machine<'a> {
@@ -111,6 +113,7 @@ impl<'a> Machine<'a> {
             stop: u32::MAX,
             rounds: Vec::with_capacity(16),
             saved: None,
+            beats: None,
         }
     }
 
@@ -190,6 +193,10 @@ impl<'a> Machine<'a> {
             Kind::Save => {
                 self.saved =
                     Some(Image { at: self.at as u32, tick: self.tick, variables: state.variables });
+            }
+            Kind::Beat => {
+                let beat = Beat { end: self.tick, value: record.value };
+                self.beats.iter_mut().for_each(|made| made.push(beat));
             }
             _ => {}
         }

@@ -35,6 +35,29 @@ pub struct Stopped {
     pub saved: bool,
 }
 
+/// What is known of a watched controller.
+#[derive(Clone, Copy, Debug, PartialEq, Eq)]
+#[repr(u8)]
+pub enum Health {
+    /// It was reset, and has not beaten since.
+    Waiting = 0,
+    /// Its count is 0 or more.
+    Well = 1,
+    /// Its count is -1.
+    Suspect = 2,
+    /// Its count came to -2. This holds until it is reset.
+    Failed = 3,
+}
+
+/// An entry of a table, as a call left it.
+#[derive(Clone, Copy, Debug, PartialEq, Eq)]
+pub struct Watched {
+    pub health: Health,
+    /// Its count plus 2: the looks without a beat until it has failed, once it
+    /// no longer waits.
+    pub left: u32,
+}
+
 struct Finished {
     first: u32,
     second: u32,
@@ -71,6 +94,23 @@ pub fn stopped(word: u64) -> Result<Stopped, Refusal> {
     Ok(Stopped {
         tick: finished.first,
         saved: finished.flags != NONE,
+    })
+}
+
+/// The answer of a call of the watcher: a health and a number, and no flag.
+pub fn watched(word: u64) -> Result<Watched, Refusal> {
+    let finished = read(word)?;
+    assert!(finished.flags == NONE, "a flag in {word:#x}");
+    let health = match finished.first {
+        0 => Health::Waiting,
+        1 => Health::Well,
+        2 => Health::Suspect,
+        3 => Health::Failed,
+        _ => panic!("no health in {word:#x}"),
+    };
+    Ok(Watched {
+        health,
+        left: finished.second,
     })
 }
 

@@ -37,12 +37,14 @@
 //!
 //! Heartbeats, totals and taking up are as promised where a task is prepared,
 //! run and taken up under settings of the same numbers.
+//!
+//! A spare controller watches others by a table: [`beat`] has an example.
 
 mod answer;
 mod library;
 mod refusal;
 
-pub use answer::{Ended, Stopped, Written};
+pub use answer::{Ended, Health, Stopped, Watched, Written};
 pub use refusal::Refusal;
 
 use library::{Runs, Writes};
@@ -57,6 +59,12 @@ pub const PORTS: usize = 8;
 pub const IMAGE: usize = 72;
 /// The bytes of the longest file: 5461 records of 12.
 pub const LONGEST: usize = 65_532;
+
+/// The numbers of an entry of a watcher's table: its count + 2, its window, and
+/// 1 while it waits for a beat. Any number but 0 counts as waiting there.
+pub const ENTRY: usize = 3;
+/// The most entries of a table.
+pub const ENTRIES: usize = 32;
 
 /// Which of the three kinds of file a call is handed.
 #[derive(Clone, Copy, Debug, PartialEq, Eq)]
@@ -324,4 +332,67 @@ pub fn restart(
 ) -> Result<Ended, Refusal> {
     let (call, form) = (library::rack_restart, form.into());
     run_by(call, settings, form, file, variables, inputs, levels, marks)
+}
+
+/// A BEAT of this value has ended: the entry no longer waits, and its count is
+/// the value. One that has failed stays so. Where a beat and a look share a
+/// tick, the beat goes first.
+///
+/// A table is as many numbers as its entries ask for, [`ENTRY`] each, and every
+/// entry begins with a [`reset`]: three zeros are one that has failed. Here the
+/// second of two controllers beats once and is silent from then on:
+///
+/// ```
+/// use rack::{Health, ENTRY};
+///
+/// let mut table = [0; 2 * ENTRY];
+/// for entry in 0..2 {
+///     assert_eq!(rack::reset(&mut table, entry, 20)?.health, Health::Waiting);
+///     assert_eq!(rack::beat(&mut table, entry, 1)?.health, Health::Well);
+/// }
+/// let mut seen = Vec::new();
+/// for _ in 0..3 {
+///     rack::beat(&mut table, 0, 1)?;
+///     rack::look(&mut table, 0)?;
+///     seen.push(rack::look(&mut table, 1)?.health);
+/// }
+/// // A beat of value 1 covers one look; at the third the silence is certain.
+/// assert_eq!(seen, [Health::Well, Health::Suspect, Health::Failed]);
+/// assert_eq!(rack::status(&table, 0)?.health, Health::Well);
+///
+/// // Failed holds until the entry is reset.
+/// assert_eq!(rack::beat(&mut table, 1, 1)?.health, Health::Failed);
+/// assert_eq!(rack::reset(&mut table, 1, 20)?.health, Health::Waiting);
+///
+/// let refusal = rack::look(&mut table, 2).unwrap_err();
+/// assert_eq!(refusal, rack::Refusal::BadEntry);
+/// # Ok::<(), rack::Refusal>(())
+/// ```
+pub fn beat(table: &mut [u32], entry: u32, value: u32) -> Result<Watched, Refusal> {
+    // SAFETY: as in `time_file`; the table is borrowed for writing.
+    let word = unsafe { library::rack_beat(table.as_mut_ptr(), table.len(), entry, value) };
+    answer::watched(word)
+}
+
+/// A window has passed: takes 1 off the count of an entry that neither waits
+/// nor has failed. [`beat`] has an example.
+pub fn look(table: &mut [u32], entry: u32) -> Result<Watched, Refusal> {
+    // SAFETY: as in `beat`.
+    let word = unsafe { library::rack_look(table.as_mut_ptr(), table.len(), entry) };
+    answer::watched(word)
+}
+
+/// Gives an entry a window, that of the file which its controller runs, and
+/// the count 0; it waits for its next beat.
+pub fn reset(table: &mut [u32], entry: u32, window: u32) -> Result<Watched, Refusal> {
+    // SAFETY: as in `beat`.
+    let word = unsafe { library::rack_reset(table.as_mut_ptr(), table.len(), entry, window) };
+    answer::watched(word)
+}
+
+/// What an entry is; the table is not changed.
+pub fn status(table: &[u32], entry: u32) -> Result<Watched, Refusal> {
+    // SAFETY: as in `time_file`.
+    let word = unsafe { library::rack_status(table.as_ptr(), table.len(), entry) };
+    answer::watched(word)
 }

@@ -129,4 +129,12 @@ unsafe extern "C" {
         marks: *mut u8,
         marks_length: usize,
     ) -> u64;
+
+    pub fn rack_beat(table: *mut u32, table_length: usize, entry: u32, value: u32) -> u64;
+
+    pub fn rack_look(table: *mut u32, table_length: usize, entry: u32) -> u64;
+
+    pub fn rack_reset(table: *mut u32, table_length: usize, entry: u32, window: u32) -> u64;
+
+    pub fn rack_status(table: *const u32, table_length: usize, entry: u32) -> u64;
 }

@@ -81,6 +81,7 @@ refusals! {
     10 BadBuffers "a lent buffer has not the length that it must have",
     11 BadImage "the image's index is not just after a SAVE, or its tick is above the period",
     12 LateStop "the stop tick is at or past the run's end",
+    13 BadEntry "the table is not whole entries or has more than 32, or the entry is not in it, or a new window is 0 or a beat's value above 1000000",
 }
 
 impl Error for Refusal {}
@@ -104,7 +105,7 @@ mod tests {
 
     #[test]
     fn each_says_something_else() {
-        let texts: Vec<String> = (0..=13).map(|n| Refusal::new(n, 0).to_string()).collect();
+        let texts: Vec<String> = (0..=14).map(|n| Refusal::new(n, 0).to_string()).collect();
         for (n, text) in texts.iter().enumerate() {
             assert!(text.starts_with(&format!("refused {n}: ")), "{text}");
             assert!(!texts[..n].contains(text), "{text}");

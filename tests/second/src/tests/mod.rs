@@ -7,6 +7,7 @@ mod preparing;
 mod random;
 mod refusals;
 mod running;
+mod watching;
 
 use crate::*;
 

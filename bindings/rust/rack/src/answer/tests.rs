@@ -1,4 +1,4 @@
-use super::{ended, stopped, timed, written, Ended, Stopped, Written};
+use super::{ended, stopped, timed, watched, written, Ended, Health, Stopped, Watched, Written};
 use crate::Refusal;
 
 fn finished(first: u64, second: u64, flags: u64) -> u64 {
@@ -44,6 +44,23 @@ fn flags() {
 }
 
 #[test]
+fn healths() {
+    let all = [
+        Health::Waiting,
+        Health::Well,
+        Health::Suspect,
+        Health::Failed,
+    ];
+    for (number, health) in (0..).zip(all) {
+        assert_eq!(health as u64, number);
+        for left in [0, 2, u32::MAX] {
+            let word = finished(number, left.into(), 0);
+            assert_eq!(watched(word), Ok(Watched { health, left }));
+        }
+    }
+}
+
+#[test]
 fn refusals_with_a_value() {
     let names = [
         Refusal::BadLength,
@@ -72,6 +89,7 @@ fn refusals_alone() {
         Refusal::BadBuffers,
         Refusal::BadImage,
         Refusal::LateStop,
+        Refusal::BadEntry,
     ];
     for (number, name) in (6..).zip(names) {
         let refusal = written(refused(number, 0)).unwrap_err();
@@ -88,12 +106,13 @@ fn every_answer_can_be_refused() {
     assert_eq!(written(word), Err(Refusal::OverPeriod));
     assert_eq!(ended(word), Err(Refusal::OverPeriod));
     assert_eq!(stopped(word), Err(Refusal::OverPeriod));
+    assert_eq!(watched(word), Err(Refusal::OverPeriod));
 }
 
 /// What no library of this version answers is handed on, not dropped.
 #[test]
 fn strange_refusals() {
-    for (number, value) in [(0, 0), (6, 1), (13, 0), (127, 9)] {
+    for (number, value) in [(0, 0), (6, 1), (13, 1), (14, 0), (127, 9)] {
         let refusal = ended(refused(number, value)).unwrap_err();
         assert_eq!(u64::from(refusal.number()), number);
         assert_eq!(refusal.value(), Some(value));
@@ -123,4 +142,16 @@ fn the_flag_of_a_stop_at_an_end() {
 #[should_panic(expected = "a flag")]
 fn the_flag_of_an_end_at_a_stop() {
     let _ = stopped(finished(1, 0, 1));
+}
+
+#[test]
+#[should_panic(expected = "a flag")]
+fn a_flag_of_an_entry() {
+    let _ = watched(finished(1, 2, 1));
+}
+
+#[test]
+#[should_panic(expected = "no health")]
+fn a_fifth_health() {
+    let _ = watched(finished(4, 2, 0));
 }
