@@ -1,4 +1,4 @@
 -- From what a call answers to the number that C gets.
 pub mod Packing
 pub mod Bounds
-pub mod Tables
+pub mod TableLaws

@@ -1,5 +1,6 @@
 -- How C holds the watcher's table: three numbers for each entry, its count and 2 more, its window, and a mark, which is 1 while it waits.
 use Prim.Native.Nat.{ℕ, _+_, _*_, _%_, _/_}
+use mathlib.Core.Path.{_≡_}
 use mathlib.Core.Bool.{Bool, cond, not, _||_}
 use mathlib.Core.List.{List, [], _∷_}
 use lib.Dec.{eqb}
@@ -9,7 +10,7 @@ use Rattle.model.specs.declared.Event.{Event}
 use Rattle.model.specs.declared.Event.the-variants.{Beat, Look, Reset}
 use Rattle.model.specs.Answers.{Verdict, kept}
 use Rattle.model.specs.Replies.{turnDown}
-use Rattle.model.specs.Watching.{after, badEntry, badEvent, told}
+use Rattle.model.specs.Watching.{after, badEntry, badEvent, told, eventReply, eventTable, statusReply}
 
 abbrev pub entryNumbers : ℕ
 entryNumbers = 3
@@ -52,3 +53,12 @@ entriesOf [] = []
 entriesOf (l ∷ []) = []
 entriesOf (l ∷ w ∷ []) = []
 entriesOf (l ∷ w ∷ m ∷ t) = record { left = l; window = w; waiting = not (eqb m 0) } ∷ entriesOf t
+
+-- What C is answered and left is what the watcher's own calls answer and leave of these entries.
+pub record StandsFor (t : List ℕ) (n : ℕ) : Type 0 where
+  pub reply : (x : Event) → numbersReply t n x ≡ eventReply (entriesOf t) n x
+  pub table : (x : Event) → entriesOf (numbersTable t n x) ≡ eventTable (entriesOf t) n x
+  pub status : numbersStatus t n ≡ statusReply (entriesOf t) n
+
+abbrev pub TablesStand : Type 0
+TablesStand = (t : List ℕ) (n : ℕ) → length t % entryNumbers ≡ 0 → StandsFor t n

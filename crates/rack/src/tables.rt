@@ -5,7 +5,7 @@ ghost use Prim.Native.Nat.{_+_, _*_, _<_, _≤_};
 ghost use lib.ListN.{length};
 ghost use Rattle.model.specs.Answers.{watched};
 ghost use Rattle.model.specs.Watching.{badEvent};
-ghost use Rattle.rack.specs.Tables.{entryNumbers, entryFrom, badTable, markAfter, entryOver, numbersReply, numbersStatus, numbersTable};
+ghost use Rattle.rack.specs.Tables.{entryNumbers, entryFrom, badTable, markSet, markAfter, entryOver, numbersReply, numbersStatus, numbersTable};
 use model::Entry;
 use model::Event;
 use model::Watched;
@@ -47,17 +47,23 @@ fn bad_call(length: usize, entry: usize, event: Event) -> bool
     bad_event(event)
 }
 
-fn mark_after(event: Event, old: u32, waits: bool) -> u32
-    ensures { λ r. ⌜ r ≡ markAfter event old waits ⌝ }
+fn mark_set(event: Event, old: u32) -> u32
+    ensures { λ r. ⌜ r ≡ markSet event old ⌝ }
 {
-    if !waits {
-        return 0;
-    }
     match event {
         Event::Beat(_) => old,
         Event::Look => old,
         Event::Reset(_) => 1,
     }
+}
+
+fn mark_after(event: Event, old: u32, waits: bool) -> u32
+    ensures { λ r. ⌜ r ≡ markAfter event old waits ⌝ }
+{
+    if waits {
+        return mark_set(event, old);
+    }
+    0
 }
 
 fn put_entry(table: &mut [u32], at: usize, e: Entry, mark: u32)

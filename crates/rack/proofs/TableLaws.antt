@@ -1,17 +1,15 @@
 -- The watcher's table as C holds it: what a call answers and leaves where refusal 13's cause holds, and where it does not.
-use Prim.Native.Nat.{ℕ, _+_, _*_, _%_, _/_, _<_}
+use Prim.Native.Nat.{ℕ, _+_, _*_, _%_, _/_, _<_, _≤_}
 use native.Mathlib.Omega.{arith}
 use mathlib.Core.Path.{_≡_, ap, sym, _∙_}
 use mathlib.Core.Bool.{Bool, true, false, not, _||_}
 use mathlib.Core.List.{List}
-use lib.Dec.{eqb}
-use lib.ListN.{length, getD}
+use lib.{Dec.eqb, ListN.length, ListN.getD}
 use borrow.Author.Tests.{eqb-true, not-false}
-use Rattle.model.specs.declared.Entry.{Entry}
-use Rattle.model.specs.declared.Event.{Event}
-use Rattle.model.specs.declared.Watched.{Watched}
+use Rattle.model.specs.declared.{Entry.Entry, Event.Event, Watched.Watched, Health.Health}
+use Rattle.model.specs.declared.Health.the-variants.{Waiting, Well, Suspect, Failed}
 use Rattle.model.specs.declared.Refusal.the-variants.{BadEntry}
-use Rattle.model.specs.Answers.{watched, refusal, kept}
+use Rattle.model.specs.Answers.{watched, refusal, kept, healthNumber}
 use Rattle.model.specs.Replies.{turnDown}
 use Rattle.model.specs.Watching.{after, badEntry, badEvent, told}
 use Rattle.model.proofs.Shapes.{neither}
@@ -59,3 +57,9 @@ module _ (t : List ℕ) (n : ℕ) (r : Watched) where
   pub status-told : badTable (length t) n ≡ false → watched r ≡ told (entryFrom t (3 * n)) → watched r ≡ numbersStatus t n
   unfolding numbersStatus
   status-told e a = a ∙ ap (λ (b : Bool). turnDown 13 b (told (entryFrom t (3 * n)))) (sym e)
+
+pub health-small : (h : Health) → healthNumber h ≤ 3
+health-small Waiting = omega arith
+health-small Well = omega arith
+health-small Suspect = omega arith
+health-small Failed = omega arith
