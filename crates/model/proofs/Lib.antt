@@ -11,3 +11,4 @@ pub mod Untouched
 pub mod Bench
 pub mod TurnedDown
 pub mod AtLimits
+pub mod Watcher
