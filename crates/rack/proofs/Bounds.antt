@@ -1,22 +1,26 @@
 -- How large the values of a finished result can be, and that C reads them back from the bits of the number that it gets.
-use Prim.Native.Nat.{ℕ, _+_, _*_, _/_, _%_, _^_, _≤_}
+use Prim.Native.Nat.{ℕ, _+_, _*_, _-_, _/_, _%_, _^_, _≤_, _<_}
 use native.Mathlib.Omega.{arith}
 use mathlib.Core.{Path._≡_, Path.ap, Path.sym, List.List, List.[], List._∷_}
-use mathlib.Core.Bool.{Bool, true, false, not, _||_}
-use lib.{Dec.leb, ListN.getD}
+use mathlib.Core.Bool.{Bool, true, false, cond, not, _||_}
+use lib.{Dec.leb, ListN.length, ListN.getD}
 use borrow.Author.Tests.{ltb-false, leb-false, not-false}
-use Rattle.model.specs.declared.Form.{Form}
-use Rattle.model.specs.{Settings.settingsOf, Trees.fileTree, Times.time, Refusals.sound, Refusals.fault, Limits.fileLength}
-use Rattle.model.specs.{Runs.Step, Runs.duration, Runs.overran, Answers.Verdict, Answers.finished, Answers.bit}
+use Rattle.model.specs.declared.{Form.Form, Entry.Entry, Event.Event}
+use Rattle.model.specs.declared.Event.the-variants.{Beat, Look, Reset}
+use Rattle.model.specs.{Settings.settingsOf, Trees.fileTree, Times.time, Refusals.sound, Refusals.fault, Limits.fileLength, Limits.mostTicks}
+use Rattle.model.specs.{Runs.Step, Runs.duration, Runs.overran, Answers.Verdict, Answers.finished, Answers.bit, Answers.healthNumber}
 use Rattle.model.specs.Stopping.{Image, imageOf, start, rest, takeUp}
 use Rattle.model.specs.Replies.{turnDown, above, fileTime, timeReply, equaliseReply, layOutReply, equalisedOf, prepareReply}
 use Rattle.model.specs.Replies.{Loan, badBuffers, badImageLength, ready, ended, stepsOf, runReply, stopReply, imageAt, isSaved, takenUp, afterSave, strayImage, resumeReply, restartReply}
+use Rattle.model.specs.Watching.{hasFailed, healthOf, unlessFailed, heard, after, badEvent, told}
 use Rattle.model.proofs.Shapes.{neither}
 use Rattle.theory.proofs.{Within.run-within, Left.rest-0, Reached.rest-reached}
 use Rattle.theory.proofs.Accepted.{passed, read, in-range, equalise-accepted, lay-out-accepted}
 use Rattle.preparation.proofs.Chaining.{second-done}
 use Rattle.machine.proofs.Positions.{rest-shorter}
 use Rattle.rack.specs.Words.{fileWord, runWord}
+use Rattle.rack.specs.Tables.{entryFrom, badTable, numbersReply, numbersStatus}
+use Rattle.rack.proofs.TableLaws.{health-small}
 
 -- the values of a result
 abbrev first : List ℕ → ℕ
@@ -30,9 +34,10 @@ third xs = getD xs 2 0
 
 -- FILES
 
+-- the first value has room in bits 0 to 23, and the second in bits 24 to 55; so have the watcher's, which are packed alike
 pub record FileBound (xs : List ℕ) : Type 0 where
   pub one : first xs ≤ 1000000
-  pub two : second xs ≤ 1000000
+  pub two : second xs < 2 ^ 32
 
 pub time-bound : (s : List ℕ) (f : Form) (file xs : List ℕ) → timeReply s f file ≡ finished xs → FileBound xs
 unfolding timeReply
@@ -58,6 +63,40 @@ lay-out-bound s file room xs e =
 pub prepare-bound : (s task : List ℕ) (room : ℕ) (xs : List ℕ) → prepareReply s task room ≡ finished xs → FileBound xs
 unfolding prepareReply
 prepare-bound s task room xs e = lay-out-bound s (equalisedOf s task) room xs (sym (second-done (equaliseReply s task fileLength) _ (sym e)))
+
+-- THE WATCHER
+
+-- how an entry is, and what is left of it
+told-bound : (e : Entry) (xs : List ℕ) → e .left < 2 ^ 32 → told e ≡ finished xs → FileBound xs
+told-bound e xs small answers =
+    let is : healthNumber (healthOf e) ∷ e .left ∷ [] ≡ xs = cc in
+    record { one = omega (arith, ap first is, health-small (healthOf e)); two = omega (arith, ap second is) }
+
+either-small : (o : Bool) (e f : Entry) → e .left < 2 ^ 32 → f .left < 2 ^ 32 → cond o e f .left < 2 ^ 32
+either-small true e f h k = h
+either-small false e f h k = k
+
+after-small : (x : Event) (e : Entry) → badEvent x ≡ false → e .left < 2 ^ 32 → after x e .left < 2 ^ 32
+after-small (Beat v) e good h =
+    either-small (hasFailed (healthOf e)) e (heard (v + 2) e) h (let k = ltb-false mostTicks v good in omega arith)
+after-small Look e good h =
+    either-small (e .waiting) e (unlessFailed e (heard (e .left - 1) e)) h
+    (either-small (hasFailed (healthOf e)) e (heard (e .left - 1) e) h (omega arith))
+after-small (Reset w) e good h = omega arith
+
+-- of a table that holds numbers of 32 bits
+module _ (t : List ℕ) (n : ℕ) where
+  pub numbers-bound : (x : Event) (xs : List ℕ) → ((i : ℕ) → getD t i 0 < 2 ^ 32) → numbersReply t n x ≡ finished xs → FileBound xs
+  unfolding numbersReply
+  numbers-bound x xs small e =
+      let p = passed 13 (badTable (length t) n || badEvent x) (told (after x (entryFrom t (3 * n)))) xs e in
+      let good = neither (badTable (length t) n) (badEvent x) (p .0) .1 in
+      told-bound (after x (entryFrom t (3 * n))) xs (after-small x (entryFrom t (3 * n)) good (small (3 * n))) (p .1)
+
+  pub status-bound : (xs : List ℕ) → ((i : ℕ) → getD t i 0 < 2 ^ 32) → numbersStatus t n ≡ finished xs → FileBound xs
+  unfolding numbersStatus
+  status-bound xs small e =
+      told-bound (entryFrom t (3 * n)) xs (small (3 * n)) (passed 13 (badTable (length t) n) (told (entryFrom t (3 * n))) xs e .1)
 
 -- RUNS
 
