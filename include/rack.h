@@ -1,6 +1,6 @@
 // The rack task preparer, for C11 and C++17. Link with librack.a.
 //
-// Document 01 decides what each call does; README.md has the formats and the refusals in tables. A call ends whatever it is handed.
+// Documents 01 and 02 decide what each call does; README.md has the formats and the refusals in tables. A call ends whatever it is handed.
 //
 // Pointers: a slice is a pointer and a number of elements. A pointer is not null, also where the number is 0, leads to as many elements,
 // and is aligned as its type asks: uint32_t to 4 bytes, uint8_t to any. The buffers of one call do not overlap.
@@ -120,7 +120,7 @@ uint64_t rack_restart(const uint8_t *settings, size_t settings_length, uint8_t f
 
 // A spare controller watches others by a table of at most RACK_ENTRIES entries, RACK_ENTRY numbers each: the count + 2, the window, and 1 while
 // the entry waits for a beat. Any number but 0 counts as waiting there, and all others are taken as they stand. Reset each entry of a new
-// table: three zeros are an entry that has failed. table_length is in numbers.
+// table: three zeros are an entry that has failed, and a fresh one is 2, 0, 1. table_length is in numbers.
 // The four calls answer what the entry is afterwards, and leave all others alone. First value: its health; second: its count + 2. Once an
 // entry no longer waits, its count tells its health: well from 0 on, suspect at -1, failed at -2, and that holds until it is reset.
 // Refusal 13: a length that is no multiple of RACK_ENTRY, more than RACK_ENTRIES entries, an entry that is not in the table, a window of 0,

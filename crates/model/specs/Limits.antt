@@ -1,4 +1,4 @@
--- Document 01's limits and lengths, each under the sentence that gives it.
+-- The limits and lengths of documents 01 and 02, each under the sentence that gives it.
 use Prim.Native.Nat.{ℕ}
 
 -- "A task has 0 to 256 records, the other files at most 5,461."

@@ -5,7 +5,7 @@ use mathlib.Core.Path.{_≡_}
 use mathlib.Core.Bool.{Bool, true, false, cond}
 use mathlib.Core.List.{List, [], _∷_, _++_, map}
 use lib.Dec.{eqb, leb}
-use lib.ListN.{length, take}
+use lib.ListN.{length, take, replicate}
 use Rattle.model.specs.declared.Event.{Event}
 use Rattle.model.specs.declared.Event.the-variants.{Beat, Look, Reset}
 use Rattle.model.specs.declared.Form.the-variants.{Laid}
@@ -17,8 +17,8 @@ use Rattle.model.specs.Chain.{Set, Outputs, lend}
 
 -- THE PERIODS
 
--- what the calls are handed over: the settings, an equalised file, room for the laid one, and in each period a set and outputs; and the tick at
--- which period 0 begins
+-- what the calls are handed over: the settings, an equalised file (that of a task, where it is "prepared"), room for the laid one, and in each
+-- period a set and outputs; and the tick at which period 0 begins
 pub record Course : Type 0 where
   pub settings : List ℕ
   pub file : List ℕ
@@ -65,14 +65,19 @@ abbrev pub beatsEnding : ℕ → ℕ → List Step → List ℕ
 beatsEnding c t [] = []
 beatsEnding c t (e ∷ es) = cond (eqb (t + e .lasts) c) (beatValue (e .does)) [] ++ beatsEnding c (t + e .lasts) es
 
--- in the periods 0 to m - 1, where period n begins at tick `begins n` and does `steps n`
+-- in the periods 0 to m - 1, where period n begins at tick `start n` and does `steps n`
 abbrev pub beatsIn : (ℕ → ℕ) → (ℕ → List Step) → ℕ → ℕ → List ℕ
-beatsIn begins steps zero c = []
-beatsIn begins steps (suc m) c = beatsIn begins steps m c ++ beatsEnding c (begins m) (steps m)
+beatsIn start steps zero c = []
+beatsIn start steps (suc m) c = beatsIn start steps m c ++ beatsEnding c (start m) (steps m)
 
--- in all periods: period n begins at tick n or later, so that none after period c has begun at tick c
+-- in all periods: P is at least 1, so that no period after period c has begun at tick c
 abbrev pub beatsAt : Course → ℕ → List ℕ
 beatsAt k c = beatsIn (begins k) (stepsIn k) (suc c) c
+
+-- those listed by start tick and value that end at tick c, where one that starts at u ends at o + u
+abbrev pub listedEnding : ℕ → ℕ → List (ℕ × ℕ) → List ℕ
+listedEnding o c [] = []
+listedEnding o c (y ∷ l) = cond (eqb (o + y .0) c) (y .1 ∷ []) [] ++ listedEnding o c l
 
 -- THE LOOKS: "a look, every window", at the ticks a, a + h, a + 2h, ..
 
@@ -90,8 +95,9 @@ abbrev pub eventsFrom : (ℕ → List ℕ) → (ℕ → Bool) → ℕ → ℕ �
 eventsFrom vs looks r zero = []
 eventsFrom vs looks r (suc n) = eventsFrom vs looks r n ++ eventsAt (vs (r + n)) (looks (r + n))
 
--- "its entry reset with the file's H" before tick r; looks from tick a on
-abbrev pub watchedFrom : Course → ℕ → ℕ → ℕ → List Event
-watchedFrom k a r n =
+-- "its entry reset with the file's H" before tick r, and j looks at once; looks come from tick a on. A reset between the beats and the look of a
+-- tick is one before the next tick, with that look at once after it.
+abbrev pub watchedFrom : Course → ℕ → ℕ → ℕ → ℕ → List Event
+watchedFrom k a j r n =
     let h = settingsOf (k .settings) .window in
-    Reset h ∷ eventsFrom (beatsAt k) (looksEvery h a) r n
+    Reset h ∷ replicate j Look ++ eventsFrom (beatsAt k) (looksEvery h a) r n

@@ -45,16 +45,16 @@ abbrev pub unlessFailed : Entry → Entry → Entry
 unlessFailed e new = cond (hasFailed (healthOf e)) e new
 
 -- it waits no longer, and so much is left
-abbrev pub heard : ℕ → Entry → Entry
-heard l e = record { left = l; window = e .window; waiting = false }
+abbrev pub withLeft : ℕ → Entry → Entry
+withLeft l e = record { left = l; window = e .window; waiting = false }
 
 -- "A BEAT sets the count to its value"
 abbrev pub beaten : ℕ → Entry → Entry
-beaten v e = unlessFailed e (heard (v + 2) e)
+beaten v e = unlessFailed e (withLeft (v + 2) e)
 
 -- "a look .. takes 1 off"; of an entry that waits "its looks taking nothing off"
 abbrev pub looked : Entry → Entry
-looked e = cond (e .waiting) e (unlessFailed e (heard (e .left - 1) e))
+looked e = cond (e .waiting) e (unlessFailed e (withLeft (e .left - 1) e))
 
 -- "a reset gives the window and count 0, and a fresh or reset entry waits"; a fresh one was given no window
 abbrev pub freshOf : ℕ → Entry
@@ -108,12 +108,12 @@ abbrev pub tableAfter : List Entry → List Call → List Entry
 tableAfter t [] = t
 tableAfter t (c ∷ cs) = tableAfter (eventTable t (c .entry) (c .event)) cs
 
--- the events that are for entry n
+-- the events for entry n that are not refused
 abbrev pub own : ℕ → List Call → List Event
 own n [] = []
-own n (c ∷ cs) = cond (eqb (c .entry) n) (c .event ∷ own n cs) (own n cs)
+own n (c ∷ cs) = cond (eqb (c .entry) n) (cond (badEvent (c .event)) (own n cs) (c .event ∷ own n cs)) (own n cs)
 
--- what they make of it: a refused one changes nothing
+-- what events make of an entry
 abbrev pub afterAll : List Event → Entry → Entry
 afterAll [] e = e
-afterAll (x ∷ xs) e = afterAll xs (cond (badEvent x) e (after x e))
+afterAll (x ∷ xs) e = afterAll xs (after x e)

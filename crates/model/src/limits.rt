@@ -1,4 +1,4 @@
-// Document 01's limits and lengths, as specs/Limits.antt has them.
+// The limits and lengths of documents 01 and 02, as specs/Limits.antt has them.
 // A task's records, and the records and bytes of the longest file.
 pub const TASK_RECORDS: usize = 256;
 

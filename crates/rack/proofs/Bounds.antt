@@ -12,7 +12,7 @@ use Rattle.model.specs.{Runs.Step, Runs.duration, Runs.overran, Answers.Verdict
 use Rattle.model.specs.Stopping.{Image, imageOf, start, rest, takeUp}
 use Rattle.model.specs.Replies.{turnDown, above, fileTime, timeReply, equaliseReply, layOutReply, equalisedOf, prepareReply}
 use Rattle.model.specs.Replies.{Loan, badBuffers, badImageLength, ready, ended, stepsOf, runReply, stopReply, imageAt, isSaved, takenUp, afterSave, strayImage, resumeReply, restartReply}
-use Rattle.model.specs.Watching.{hasFailed, healthOf, unlessFailed, heard, after, badEvent, told}
+use Rattle.model.specs.Watching.{hasFailed, healthOf, unlessFailed, withLeft, after, badEvent, told}
 use Rattle.model.proofs.Shapes.{neither}
 use Rattle.theory.proofs.{Within.run-within, Left.rest-0, Reached.rest-reached}
 use Rattle.theory.proofs.Accepted.{passed, read, in-range, equalise-accepted, lay-out-accepted}
@@ -78,10 +78,10 @@ either-small false e f h k = k
 
 after-small : (x : Event) (e : Entry) → badEvent x ≡ false → e .left < 2 ^ 32 → after x e .left < 2 ^ 32
 after-small (Beat v) e good h =
-    either-small (hasFailed (healthOf e)) e (heard (v + 2) e) h (let k = ltb-false mostTicks v good in omega arith)
+    either-small (hasFailed (healthOf e)) e (withLeft (v + 2) e) h (let k = ltb-false mostTicks v good in omega arith)
 after-small Look e good h =
-    either-small (e .waiting) e (unlessFailed e (heard (e .left - 1) e)) h
-    (either-small (hasFailed (healthOf e)) e (heard (e .left - 1) e) h (omega arith))
+    either-small (e .waiting) e (unlessFailed e (withLeft (e .left - 1) e)) h
+    (either-small (hasFailed (healthOf e)) e (withLeft (e .left - 1) e) h (omega arith))
 after-small (Reset w) e good h = omega arith
 
 -- of a table that holds numbers of 32 bits

@@ -8,7 +8,7 @@ use lib.{Dec.eqb, ListN.length, ListN.getD, ListN.set}
 use Rattle.model.specs.declared.{Entry.Entry, Event.Event}
 use Rattle.model.specs.declared.Event.the-variants.{Beat, Look, Reset}
 use Rattle.model.specs.{Answers.Verdict, Answers.finished, Answers.kept, Replies.turnDown}
-use Rattle.model.specs.Watching.{hasFailed, healthOf, unlessFailed, heard, after, badEntry, badEvent, told, entryAt, eventReply, eventTable, statusReply}
+use Rattle.model.specs.Watching.{hasFailed, healthOf, unlessFailed, withLeft, after, badEntry, badEvent, told, entryAt, eventReply, eventTable, statusReply}
 use Rattle.model.proofs.Shapes.{neither}
 use Rattle.rack.specs.Tables.{entryFrom, badTable, markAfter, entryOver, numbersReply, numbersStatus, numbersTable, entriesOf, TablesStand}
 use Rattle.rack.proofs.TableLaws.{numbers-within}
@@ -61,11 +61,11 @@ mark-stands : (x : Event) (e : Entry) (old : ℕ) → not (eqb old 0) ≡ e .wai
     → not (eqb (markAfter x old (after x e .waiting)) 0) ≡ after x e .waiting
 mark-stands (Beat v) e old is =
     mark-kept old (e .waiting) (after (Beat v) e .waiting) is
-    (waits-still (hasFailed (healthOf e)) e (heard (v + 2) e) (λ w. absurd (true≢false (sym w))))
+    (waits-still (hasFailed (healthOf e)) e (withLeft (v + 2) e) (λ w. absurd (true≢false (sym w))))
 mark-stands Look e old is =
     mark-kept old (e .waiting) (after Look e .waiting) is
-    (waits-still (e .waiting) e (unlessFailed e (heard (e .left - 1) e))
-    (waits-still (hasFailed (healthOf e)) e (heard (e .left - 1) e) (λ w. absurd (true≢false (sym w)))))
+    (waits-still (e .waiting) e (unlessFailed e (withLeft (e .left - 1) e))
+    (waits-still (hasFailed (healthOf e)) e (withLeft (e .left - 1) e) (λ w. absurd (true≢false (sym w)))))
 mark-stands (Reset w) e old is = refl
 
 -- THE CALLS

@@ -22,7 +22,8 @@ firstIn (refused n xs) = 0
 abbrev pub refusedWord : ℕ → ℕ → ℕ
 refusedWord n x = 2 ^ 63 + 2 ^ 56 * n + min x (2 ^ 56 - 1)
 
--- The values of a call that times or writes a file: the time or the bytes written in bits 0 to 23, and the time or the total in bits 24 to 55.
+-- The values of a call that times or writes a file, or of the watcher's: the time, the bytes written or the health in bits 0 to 23, and the time,
+-- the total or the count and 2 more in bits 24 to 55.
 abbrev pub fileWord : List ℕ → ℕ
 fileWord xs = getD xs 0 0 + 2 ^ 24 * getD xs 1 0
 

@@ -4,7 +4,7 @@ use native.Mathlib.{Omega.arith, Nat.add-assoc, Decide.ℕ-discrete}
 use mathlib.Core.Path.{_≡_, refl, ap, sym, subst}
 use mathlib.Core.{Logic.⊎-elim, List.List·Memᴰ as Among, List.List·Memᴰ·head as at-head, List.List·Memᴰ·tail as in-tail}
 use mathlib.Core.Bool.{Bool, true, false, cond, true≢false}
-use mathlib.Core.List.{List, [], _∷_, _++_, map}
+use mathlib.Core.List.{List, [], _∷_, _++_, map, append-nil}
 use mathlib.Core.{List.List·Memᴰ·not-nil as none-among, List.List·Memᴰ·eq-of-singleton as only-among}
 use mathlib.Core.{List.List·Memᴰ·cases-cons as head-or-tail, List.List·Memᴰ·append-cases as left-or-right}
 use mathlib.Core.List.{Memᴰ·append-left as in-left, Memᴰ·append-right as in-right, Memᴰ·map as in-map, Memᴰ·of-map as from-map}
@@ -12,7 +12,7 @@ use lib.Dec.{eqb, ltb}
 use borrow.Author.Tests.{eqb-true, eq-eqb, ne-eqb, ltb-true, ltb-false}
 use Rattle.model.specs.declared.Settings.{Settings}
 use Rattle.model.specs.Runs.{Effect, nothing, assigns, outputs, beats, saves, overruns, isBeat, Step}
-use Rattle.model.specs.{Placement.StepsPlaced, Periods.beatValue, Periods.beatsEnding, Periods.beatsIn}
+use Rattle.model.specs.{Placement.StepsPlaced, Periods.beatValue, Periods.beatsEnding, Periods.beatsIn, Periods.listedEnding}
 use Rattle.model.specs.Timeline.{picks, multiples, beatAt, beatList}
 
 -- where a condition picks one thing
@@ -45,11 +45,6 @@ in-picks p (suc n) t u e l m = go (ℕ-discrete t u) (in-picks p n (t + 1) u e)
     go (no q) ih = in-right (cond (p t) (t ∷ []) []) (ih (omega arith) (omega arith))
 
 -- BEATS LISTED BY THEIR START
-
--- the values of those that start at u where o + u is c
-abbrev pub listedEnding : ℕ → ℕ → List (ℕ × ℕ) → List ℕ
-listedEnding o c [] = []
-listedEnding o c (y ∷ l) = cond (eqb (o + y .0) c) (y .1 ∷ []) [] ++ listedEnding o c l
 
 no-value : (o : Bool) (xs ys : List ℕ) → xs ≡ ys → cond o [] [] ++ xs ≡ ys
 no-value true xs ys e = e
@@ -173,3 +168,11 @@ in-all-periods begins steps begun c v n a = go (ltb c n) refl
         let l = ltb-true c n e in
         absurd (none-among (subst (Among v) (ending-none c (begins n) (omega (arith, begun n)) (steps n)) a))
     go false e = in-periods begins steps c v (suc c) n (let l = ltb-false c n e in omega arith) a
+
+pub periods-enough : (begins : ℕ → ℕ) (steps : ℕ → List Step) → ((n : ℕ) → n ≤ begins n) → (c d : ℕ)
+    → beatsIn begins steps (suc c + d) c ≡ beatsIn begins steps (suc c) c
+periods-enough begins steps begun c zero = let e : suc c + 0 ≡ suc c = omega arith in rw e
+periods-enough begins steps begun c (suc d) =
+    let e : suc c + suc d ≡ suc (suc c + d) = omega arith in
+    rw (e, ending-none c (begins (suc c + d)) (omega (arith, begun (suc c + d))) (steps (suc c + d)), append-nil (beatsIn begins steps (suc c + d) c))
+    (periods-enough begins steps begun c d)

@@ -1,17 +1,16 @@
 -- THE GENERAL LAW of watching: over any timeline of beats and looks, if each beat covers the looks up to the next, the entry keeps enough.
 use Prim.Native.Nat.{ℕ, zero, suc, _+_, _≤_}
 use native.Mathlib.{Omega.arith, Nat.add-assoc}
-use mathlib.Core.Path.{_≡_, refl, sym, _∙_, subst}
+use mathlib.Core.Path.{_≡_, refl, ap, sym, _∙_, subst}
 use mathlib.Core.Bool.{Bool, true, false, cond, true≢false}
 use mathlib.Core.List.{List, [], _∷_, _++_}
 use mathlib.Core.List.{List·Memᴰ as Among, List·Memᴰ·head as at-head, List·Memᴰ·tail as in-tail}
 use lib.Dec.{eqb}
-use borrow.Author.Tests.{ne-eqb, le-ltb}
-use Rattle.model.specs.{Limits.mostTicks, Answers.bit, Periods.eventsAt, Periods.eventsFrom}
+use borrow.Author.Tests.{ne-eqb}
+use Rattle.model.specs.{Answers.bit, Periods.eventsAt, Periods.eventsFrom}
 use Rattle.model.specs.declared.{Entry.Entry, Event.Event}
-use Rattle.model.specs.declared.Event.the-variants.{Beat}
-use Rattle.model.specs.Watching.{healthOf, hasFailed, heard, looked, after, badEvent, afterAll}
-use Rattle.theory.proofs.{WatchRules.failed-left, WatchRules.live-beaten, WatchRules.waiting-looked, WatchRules.counting-looked, WatchTables.taken-first}
+use Rattle.model.specs.Watching.{healthOf, hasFailed, withLeft, looked, after, afterAll}
+use Rattle.theory.proofs.{WatchRules.failed-left, WatchRules.live-beaten, WatchRules.waiting-looked, WatchRules.counting-looked}
 
 -- WHAT A BEAT COVERS
 
@@ -52,26 +51,26 @@ left-look true e k h = go (e .waiting) refl
     go false w = rw (counting-looked e w) (λ x. let y = h w in omega arith)
 
 -- a tick at which beats end
-beats-first : (v : ℕ) (vs : List ℕ) (l : Bool) (e : Entry) → HasLeft 1 e → v ≤ mostTicks
-    → afterAll (eventsAt (v ∷ vs) l) e ≡ afterAll (eventsAt vs l) (heard (v + 2) e)
-beats-first v vs l e h s = taken-first (Beat v) (eventsAt vs l) e (le-ltb mostTicks v s) ∙ rw (live-beaten e v (left-live e h))
+beats-first : (v : ℕ) (vs : List ℕ) (l : Bool) (e : Entry) → HasLeft 1 e
+    → afterAll (eventsAt (v ∷ vs) l) e ≡ afterAll (eventsAt vs l) (withLeft (v + 2) e)
+beats-first v vs l e h = ap (afterAll (eventsAt vs l)) (live-beaten e v (left-live e h))
 
-left-beats : (vs : List ℕ) (v : ℕ) (l : Bool) (e : Entry) (k : ℕ) → HasLeft 1 e → ((x : ℕ) → Among x (v ∷ vs) → x ≤ mostTicks)
+left-beats : (vs : List ℕ) (v : ℕ) (l : Bool) (e : Entry) (k : ℕ) → HasLeft 1 e
     → ((x : ℕ) → Among x (v ∷ vs) → bit l + k ≤ x + 2) → HasLeft k (afterAll (eventsAt (v ∷ vs) l) e)
-left-beats [] v l e k h small enough =
-    rw (beats-first v [] l e h (small v (at-head refl))) (left-look l (heard (v + 2) e) k (λ x. enough v (at-head refl)))
-left-beats (w ∷ vs) v l e k h small enough =
-    rw (beats-first v (w ∷ vs) l e h (small v (at-head refl)))
-    (left-beats vs w l (heard (v + 2) e) k (λ x. omega arith) (λ x m. small x (in-tail m)) (λ x m. enough x (in-tail m)))
+left-beats [] v l e k h enough =
+    rw (beats-first v [] l e h) (left-look l (withLeft (v + 2) e) k (λ x. enough v (at-head refl)))
+left-beats (w ∷ vs) v l e k h enough =
+    rw (beats-first v (w ∷ vs) l e h)
+    (left-beats vs w l (withLeft (v + 2) e) k (λ x. omega arith) (λ x m. enough x (in-tail m)))
 
 -- AN ENTRY THAT IS WATCHED
 -- It waits at tick r. `keep` is what its beats leave: 1 for never failed, 2 for never suspect.
 
-events-++ : (xs ys : List Event) (e : Entry) → afterAll (xs ++ ys) e ≡ afterAll ys (afterAll xs e)
+pub events-++ : (xs ys : List Event) (e : Entry) → afterAll (xs ++ ys) e ≡ afterAll ys (afterAll xs e)
 events-++ [] ys e = refl
-events-++ (x ∷ xs) ys e = events-++ xs ys (cond (badEvent x) e (after x e))
+events-++ (x ∷ xs) ys e = events-++ xs ys (after x e)
 
-module _ (vs : ℕ → List ℕ) (looks : ℕ → Bool) (keep : ℕ) (least : 1 ≤ keep) (small : (t v : ℕ) → Among v (vs t) → v ≤ mostTicks)
+module _ (vs : ℕ → List ℕ) (looks : ℕ → Bool) (keep : ℕ) (least : 1 ≤ keep)
     (covered : (t v : ℕ) → Among v (vs t) → Covers keep vs looks t v) (r : ℕ) (e : Entry) (waiting : e .waiting ≡ true) where
   abbrev pub entryAfter : ℕ → Entry
   entryAfter n = afterAll (eventsFrom vs looks r n) e
@@ -82,7 +81,7 @@ module _ (vs : ℕ → List ℕ) (looks : ℕ → Bool) (keep : ℕ) (least : 1 
   ahead (suc n) m q =
       subst (HasLeft (looksIn looks (r + suc n) m + keep)) (sym (events-++ (eventsFrom vs looks r n) (eventsAt (vs (r + n)) (looks (r + n))) e))
       (subst (λ (t : ℕ). HasLeft (looksIn looks t m + keep) (afterAll (eventsAt (vs (r + n)) (looks (r + n))) (entryAfter n))) (sym next)
-      (go (vs (r + n)) refl (small (r + n)) (covered (r + n)) (ahead n)))
+      (go (vs (r + n)) refl (covered (r + n)) (ahead n)))
     where
       next : r + suc n ≡ r + n + 1
       next = omega arith
@@ -90,14 +89,14 @@ module _ (vs : ℕ → List ℕ) (looks : ℕ → Bool) (keep : ℕ) (least : 1 
       quiet : Quiet vs (r + n + 1) m
       quiet = subst (λ (t : ℕ). Quiet vs t m) next q
 
-      go : (l : List ℕ) → vs (r + n) ≡ l → ((v : ℕ) → Among v l → v ≤ mostTicks) → ((v : ℕ) → Among v l → Covers keep vs looks (r + n) v)
+      go : (l : List ℕ) → vs (r + n) ≡ l → ((v : ℕ) → Among v l → Covers keep vs looks (r + n) v)
           → ((j : ℕ) → Quiet vs (r + n) j → HasLeft (looksIn looks (r + n) j + keep) (entryAfter n))
           → HasLeft (looksIn looks (r + n + 1) m + keep) (afterAll (eventsAt l (looks (r + n))) (entryAfter n))
-      go [] h s c ih =
+      go [] h c ih =
           left-look (looks (r + n)) (entryAfter n) _
           (subst (λ (k : ℕ). HasLeft k (entryAfter n)) (add-assoc (bit (looks (r + n))) (looksIn looks (r + n + 1) m) keep) (ih (suc m) (h, quiet)))
-      go (v ∷ l) h s c ih =
-          left-beats l v (looks (r + n)) (entryAfter n) _ (λ w. let y = ih 0 tt w in omega arith) s (λ x a. omega (arith, c x a .until m quiet))
+      go (v ∷ l) h c ih =
+          left-beats l v (looks (r + n)) (entryAfter n) _ (λ w. let y = ih 0 tt w in omega arith) (λ x a. omega (arith, c x a .until m quiet))
 
   pub keeps : (n : ℕ) → HasLeft keep (entryAfter n)
   keeps n = λ w. let y = ahead n 0 tt w in omega arith

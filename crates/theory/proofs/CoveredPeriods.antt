@@ -8,7 +8,8 @@ use lib.Dec.{ltb}
 use borrow.Author.Tests.{ltb-true, ltb-false}
 use Rattle.model.specs.{Runs.Step, Periods.beatsEnding, Periods.beatsIn}
 use Rattle.theory.proofs.{Coverage.Quiet, Coverage.looksIn, Coverage.Covers, Looks.next-multiple}
-use Rattle.theory.proofs.BeatsEnding.{listedEnding, beatsTo, each-beat, some-beat, from-periods, in-all-periods}
+use Rattle.theory.proofs.BeatsEnding.{beatsTo, each-beat, some-beat, from-periods, in-all-periods}
+use Rattle.model.specs.Periods.{listedEnding}
 
 quiet-at : (vs : ℕ → List ℕ) (t m j : ℕ) → Quiet vs t m → j < m → vs (t + j) ≡ []
 quiet-at vs t zero j q l = absurd (omega arith)

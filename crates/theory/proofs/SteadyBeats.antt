@@ -14,7 +14,8 @@ use Rattle.model.specs.Periods.{Course, laying, laidIn, runIn, stepsIn, Steady,
 use Rattle.theory.specs.Demand2.{laidBytes}
 use Rattle.theory.proofs.{Accepted.read, Accepted.passed, Accepted.lay-out-accepted, Files.laid-file, Files.laid-runnable, Prepared.finish}
 use Rattle.theory.proofs.{Placing.placed-run, Running.steps, Laid.ceiling-below, Demand2.demand2}
-use Rattle.theory.proofs.{BeatsEnding.listedEnding, BeatsEnding.beatsTo, BeatsEnding.ending-listed}
+use Rattle.theory.proofs.{BeatsEnding.beatsTo, BeatsEnding.ending-listed}
+use Rattle.model.specs.Periods.{listedEnding}
 
 bit-zero : (o : Bool) → bit o ≡ 0 → o ≡ false
 bit-zero true e = absurd (omega arith)

@@ -32,14 +32,14 @@ unfolding
     scan fault reading laidTree layOutReply layOutOut ready stepsOf runReply
 empty-steady = record { laid-out = refl; ran = λ n. refl; whole = λ n. refl }
 
-pub empty-never-failed : (a r m : ℕ) → NeverFailed emptyCourse a r m
+pub empty-never-failed : (a j r m : ℕ) → NeverFailed emptyCourse a j r m
 empty-never-failed = watching .steady emptyCourse empty-steady
 
 -- what the ticks 0 to 4 bring, with looks from tick 1 on, as calls for the one entry of a table
 abbrev pub calls : List Call
 calls = map (λ x. record { entry = 0; event = x }) (Reset 3 ∷ Beat 1 ∷ Look ∷ Beat 0 ∷ Look ∷ [])
 
-pub empty-calls : own 0 calls ≡ watchedFrom emptyCourse 1 0 5
+pub empty-calls : own 0 calls ≡ watchedFrom emptyCourse 1 0 0 5
 unfolding
     firstRecords records bytes settingsOf badSettings linearise stackOf treeOf fileTree effect lastValue layout total fieldsFit
     scan fault reading laidTree layOutReply layOutOut ready stepsOf runReply

@@ -5,20 +5,26 @@ use mathlib.Core.Path.{_≡_, refl, ap, sym, _∙_, subst}
 use mathlib.Core.Bool.{Bool, true, false, true≢false}
 use mathlib.Core.List.{List, [], _∷_, _++_}
 use mathlib.Core.List.{List·Memᴰ as Among, List·Memᴰ·head as at-head, List·Memᴰ·tail as in-tail}
+use lib.ListN.{replicate}
 use borrow.Author.Tests.{ne-eqb, le-ltb}
 use Rattle.model.specs.{Limits.mostTicks, Settings.settingsOf, Trees.fileTree, Layout.ceiling, Replies.laidTotal}
 use Rattle.model.specs.declared.{Settings.Settings, Entry.Entry, Event.Event}
-use Rattle.model.specs.declared.Event.the-variants.{Reset}
+use Rattle.model.specs.declared.Event.the-variants.{Look, Reset}
 use Rattle.model.specs.Watching.{healthOf, hasFailed, freshOf, badEvent, entryAt, tableAfter, afterAll}
 use Rattle.model.specs.Periods.{Course, begins, stepsIn, Steady, beatsAt, looksEvery, eventsAt, eventsFrom}
-use Rattle.theory.specs.Watching.{Taken, NeverFailed}
-use Rattle.theory.proofs.{WatchTables.taken-first, WatchTables.failed-status, WatchTables.own-events}
-use Rattle.theory.proofs.{Coverage.looksIn, Coverage.Covers, Coverage.never-failed, BeatsEnding.each-beat, BeatsEnding.from-periods}
+use Rattle.theory.specs.Watching.{Taken, HearsBeats, NeverFailed}
+use Rattle.theory.proofs.{WatchTables.waiting-stays, WatchTables.failed-status, WatchTables.own-events}
+use Rattle.theory.proofs.{Coverage.looksIn, Coverage.Covers, Coverage.events-++, Coverage.never-failed, BeatsEnding.each-beat}
+use Rattle.theory.proofs.BeatsEnding.{from-periods, periods-enough}
 use Rattle.theory.proofs.{CoveredPeriods.BeatsSteadily, CoveredPeriods.covered}
 use Rattle.theory.proofs.Looks.{ceiling-covers, ceiling-least, few-looks, every-spaced}
 use Rattle.theory.proofs.SteadyBeats.{BeatsOf, lastStart, lastBeat, total-beat, beats-of}
 
 -- ONE PERIOD AFTER ANOTHER
+
+-- a period has ticks
+long : {k : Course} {s x : ℕ} → BeatsOf k s x → 1 ≤ settingsOf (k .settings) .period
+long f = omega (arith, f .beat-lasts, f .in-time)
 
 -- Any j ticks have at most `late` more looks than windows, one begun counting whole; the last value leaves `keep` at the end of a period.
 module _ (k : Course) (s x : ℕ) (f : BeatsOf k s x) (looks : ℕ → Bool) (keep late : ℕ) (enough : late + keep ≤ 2)
@@ -46,9 +52,8 @@ module _ (k : Course) (s x : ℕ) (f : BeatsOf k s x) (looks : ℕ → Bool) (ke
 
   pub steady-covered : ((b j : ℕ) → looksIn looks b j ≤ ceiling j (σ .window) + late) → (t v : ℕ) → Among v (beatsAt k t) → Covers keep (beatsAt k) looks t v
   steady-covered few =
-      let positive : 1 ≤ σ .period = omega (arith, f .beat-lasts, f .in-time) in
       covered keep (σ .beat) looks (begins k) (stepsIn k) (λ n. σ .window) (λ n. s) (λ n. x) (λ n. σ .period - s)
-      (λ n. omega (arith, mul-le-mul-left n positive)) (λ n. omega (arith, f .in-time)) (λ n. period n (begins k n) (λ b j l m. few b j))
+      (λ n. omega (arith, mul-le-mul-left n (long f))) (λ n. omega (arith, f .in-time)) (λ n. period n (begins k n) (λ b j l m. few b j))
 
 -- no beat is above the most
 steady-small : (k : Course) (s x : ℕ) → BeatsOf k s x → (t v : ℕ) → Among v (beatsAt k t) → v ≤ mostTicks
@@ -90,6 +95,10 @@ taken-++ : (xs ys : List Event) → Taken xs → Taken ys → Taken (xs ++ ys)
 taken-++ [] ys p q = q
 taken-++ (x ∷ xs) ys p q = (p .0, taken-++ xs ys (p .1) q)
 
+taken-looks : (j : ℕ) → Taken (replicate j Look)
+taken-looks zero = tt
+taken-looks (suc j) = (refl, taken-looks j)
+
 taken-at : (vs : List ℕ) (look : Bool) → ((v : ℕ) → Among v vs → v ≤ mostTicks) → Taken (eventsAt vs look)
 taken-at [] true small = (refl, tt)
 taken-at [] false small = tt
@@ -103,19 +112,30 @@ taken-from vs looks small r (suc n) =
 
 -- NEVER FAILED
 
-pub steady-never-failed : (k : Course) → Steady k → (a r m : ℕ) → NeverFailed k a r m
-steady-never-failed k steady a r m =
+pub steady-never-failed : (k : Course) → Steady k → (a j r m : ℕ) → NeverFailed k a j r m
+steady-never-failed k steady a j r m =
     let h = settingsOf (k .settings) .window in
     let xs = eventsFrom (beatsAt k) (looksEvery h a) r m in
     let f = beats-of k steady in
     let small = steady-small k (lastStart k) (lastBeat k) f in
     let reset : badEvent (Reset h) ≡ false = ne-eqb h 0 (λ z. omega (arith, z, f .window-lasts)) in
     let covers = every-covered k steady 1 (omega arith) (steady-reaches k steady) a in
-    let holds = never-failed (beatsAt k) (looksEvery h a) 1 (omega arith) small covers r (freshOf h) refl m in
+    let holds = never-failed (beatsAt k) (looksEvery h a) 1 (omega arith) covers r (freshOf h) refl m in
     record {
-      taken = (reset, taken-from (beatsAt k) (looksEvery h a) small r m);
+      taken = (reset, taken-++ (replicate j Look) xs (taken-looks j) (taken-from (beatsAt k) (looksEvery h a) small r m));
       never-failed = λ t cs n here mine failed.
           let e : entryAt (tableAfter t cs) n ≡ afterAll xs (freshOf h) =
-          own-events cs t n here ∙ ap (λ (ys : List Event). afterAll ys (entryAt t n)) mine ∙ taken-first (Reset h) xs (entryAt t n) reset in
+          own-events cs t n here ∙ ap (λ (ys : List Event). afterAll ys (entryAt t n)) mine
+          ∙ events-++ (replicate j Look) xs (freshOf h) ∙ ap (afterAll xs) (waiting-stays j (freshOf h) refl) in
           true≢false (sym (ap hasFailed (failed-status (tableAfter t cs) n failed .1)) ∙ ap (λ (y : Entry). hasFailed (healthOf y)) e ∙ holds);
+    }
+
+-- WHAT THE WATCHER HEARS
+
+pub steady-hears : (k : Course) → Steady k → HearsBeats k
+steady-hears k steady =
+    let f = beats-of k steady in
+    record {
+      in-period = λ n c. f .beats n (begins k n) c;
+      in-all = periods-enough (begins k) (stepsIn k) (λ n. omega (arith, mul-le-mul-left n (long f)));
     }

@@ -7,7 +7,7 @@ use lib.{Dec.eqb, Dec.eqb·suc-zero, IntN.pos, IntN.predℤ}
 use Rattle.model.specs.declared.{Entry.Entry, Health.Health}
 use Rattle.model.specs.declared.Health.the-variants.{Waiting, Well, Suspect, Failed}
 use Rattle.model.specs.Answers.{healthNumber}
-use Rattle.model.specs.Watching.{countOf, toldBy, healthOf, hasFailed, heard, beaten, looked}
+use Rattle.model.specs.Watching.{countOf, toldBy, healthOf, hasFailed, withLeft, beaten, looked}
 use Rattle.theory.specs.Watching.{Rules}
 
 -- FAILED OR NOT
@@ -37,20 +37,27 @@ failed-left e = go (e .waiting) (e .left)
 pub live : (e : Entry) → (healthOf e ≡ Failed → ⊥) → hasFailed (healthOf e) ≡ false
 live e = live-health (healthOf e)
 
+-- an entry that is not told by its count waits
+pub told-waiting : (w : Bool) (l : ℕ) → cond w Waiting (toldBy (countOf l)) ≡ Waiting → w ≡ true
+told-waiting true l e = refl
+told-waiting false zero e = let z : _≡_ {A = ℕ} 0 1 = cc in absurd (omega arith)
+told-waiting false (suc zero) e = let z : _≡_ {A = ℕ} 0 1 = cc in absurd (omega arith)
+told-waiting false (suc (suc l)) e = let z : _≡_ {A = ℕ} 0 1 = cc in absurd (omega arith)
+
 -- WHAT HAPPENS TO IT
 
-pub live-beaten : (e : Entry) (v : ℕ) → hasFailed (healthOf e) ≡ false → beaten v e ≡ heard (v + 2) e
+pub live-beaten : (e : Entry) (v : ℕ) → hasFailed (healthOf e) ≡ false → beaten v e ≡ withLeft (v + 2) e
 live-beaten e v f = rw f
 
 pub waiting-looked : (e : Entry) → e .waiting ≡ true → looked e ≡ e
 waiting-looked e w = rw w
 
 -- a look takes 1 off what is left: of a failed entry nothing is
-pub counting-looked : (e : Entry) → e .waiting ≡ false → looked e ≡ heard (e .left - 1) e
+pub counting-looked : (e : Entry) → e .waiting ≡ false → looked e ≡ withLeft (e .left - 1) e
 counting-looked e = go (e .left) (e .window) (e .waiting)
   where
     go : (l w : ℕ) (o : Bool) → o ≡ false
-        → looked (record { left = l; window = w; waiting = o }) ≡ heard (l - 1) (record { left = l; window = w; waiting = o })
+        → looked (record { left = l; window = w; waiting = o }) ≡ withLeft (l - 1) (record { left = l; window = w; waiting = o })
     go l w true o = absurd (true≢false o)
     go zero w false o = refl
     go (suc zero) w false o = refl

@@ -9,31 +9,28 @@ use lib.ListN.{length, set, length-set, replicate}
 use borrow.Author.Tests.{eqb-true, eqb-false, leb-false}
 use Rattle.model.specs.declared.{Entry.Entry, Event.Event}
 use Rattle.model.specs.declared.Event.the-variants.{Beat, Look, Reset}
-use Rattle.model.specs.declared.Health.the-variants.{Waiting, Failed}
+use Rattle.model.specs.declared.Health.{Health}
+use Rattle.model.specs.declared.Health.the-variants.{Waiting, Well, Suspect, Failed}
 use Rattle.model.specs.{Limits.tableEntries, Replies.turnDown}
 use Rattle.model.specs.Answers.{Verdict, finished, refused, kept, isFinished, valueAt, healthNumber}
 use Rattle.model.specs.Watching.{healthOf, freshOf, after, badEntry, badEvent, told, entryAt, eventReply, eventTable, statusReply}
 use Rattle.model.specs.Watching.{Call, tableAfter, own, afterAll}
 use Rattle.model.proofs.Shapes.{neither}
 use Rattle.theory.specs.Watching.{AnswersAlike, NoReset}
-use Rattle.theory.proofs.WatchRules.{number-failed, unmoved, rules}
+use Rattle.theory.proofs.WatchRules.{number-failed, waiting-looked, told-waiting, rules}
 
 -- EVENTS ONE AFTER ANOTHER
 
--- one that is not refused, and those after it
-pub taken-first : (x : Event) (xs : List Event) (e : Entry) → badEvent x ≡ false → afterAll (x ∷ xs) e ≡ afterAll xs (after x e)
-taken-first x xs e b = rw b
-
--- a failed entry stays as it is, and a fresh one at looks
+-- a failed entry stays as it is, and a waiting one at looks
 failed-stays : (xs : List Event) (e : Entry) → healthOf e ≡ Failed → NoReset xs → afterAll xs e ≡ e
 failed-stays [] e f none = refl
-failed-stays (Beat v ∷ xs) e f none = rw (rules e .failed-beat v f, unmoved (badEvent (Beat v)) e) (failed-stays xs e f none)
+failed-stays (Beat v ∷ xs) e f none = rw (rules e .failed-beat v f) (failed-stays xs e f none)
 failed-stays (Look ∷ xs) e f none = rw (rules e .failed-look f) (failed-stays xs e f none)
 failed-stays (Reset w ∷ xs) e f none = absurd none
 
-fresh-stays : (k w : ℕ) → afterAll (replicate k Look) (freshOf w) ≡ freshOf w
-fresh-stays zero w = refl
-fresh-stays (suc k) w = fresh-stays k w
+pub waiting-stays : (k : ℕ) (e : Entry) → e .waiting ≡ true → afterAll (replicate k Look) e ≡ e
+waiting-stays zero e w = refl
+waiting-stays (suc k) e w = ap (afterAll (replicate k Look)) (waiting-looked e w) ∙ waiting-stays k e w
 
 -- WHAT AN ANSWER SHOWS
 
@@ -60,6 +57,23 @@ failed-status t n e = go (badEntry (length t) n) refl e
         → (badEntry (length t) n ≡ false) × (healthOf (entryAt t n) ≡ Failed)
     go true b e = absurd (omega arith)
     go false b e = (b, number-failed (healthOf (entryAt t n)) e)
+
+-- an entry that answers that it waits
+waiting-health : (h : Health) → healthNumber h ≡ healthNumber Waiting → h ≡ Waiting
+waiting-health Waiting e = refl
+waiting-health Well e = absurd (omega arith)
+waiting-health Suspect e = absurd (omega arith)
+waiting-health Failed e = absurd (omega arith)
+
+waiting-status : (t : List Entry) (n l : ℕ) → statusReply t n ≡ finished (healthNumber Waiting ∷ l ∷ [])
+    → (badEntry (length t) n ≡ false) × (entryAt t n .waiting ≡ true)
+unfolding statusReply
+waiting-status t n l e = go (badEntry (length t) n) refl e
+  where
+    go : (o : Bool) → badEntry (length t) n ≡ o → turnDown 13 o (told (entryAt t n)) ≡ finished (healthNumber Waiting ∷ l ∷ [])
+        → (badEntry (length t) n ≡ false) × (entryAt t n .waiting ≡ true)
+    go true b e = let z : _≡_ {A = ℕ} 0 1 = cc in absurd (omega arith)
+    go false b e = (b, told-waiting (entryAt t n .waiting) (entryAt t n .left) (waiting-health (healthOf (entryAt t n)) (ap (valueAt 0) e)))
 
 -- the same entry gives the same answers
 same-row : (o : Bool) (x y : Verdict) → (o ≡ false → x ≡ y) → turnDown 13 o x ≡ turnDown 13 o y
@@ -108,6 +122,16 @@ event-own t n x b = rw b (go (badEvent x))
     go true = refl
     go false = getD-set-same t n (after x (entryAt t n)) (freshOf 0) (in-table (length t) n b)
 
+event-told : (t : List Entry) (n : ℕ) (x : Event) → badEntry (length t) n ≡ false → badEvent x ≡ false → eventReply t n x ≡ told (after x (entryAt t n))
+unfolding eventReply
+event-told t n x b c = rw (b, c)
+
+pub event-answers : (t : List Entry) (n : ℕ) (x : Event) → isFinished (eventReply t n x) ≡ true → statusReply (eventTable t n x) n ≡ eventReply t n x
+event-answers t n x finishes =
+    let a = accepted t n x finishes in
+    let own : entryAt (eventTable t n x) n ≡ after x (entryAt t n) = rw (a .1) at (event-own t n x (a .0)) in
+    status-told (eventTable t n x) n (rw (event-length t n x) (a .0)) ∙ ap told own ∙ sym (event-told t n x (a .0) (a .1))
+
 -- ONE CALL AFTER ANOTHER
 
 pub table-length : (cs : List Call) (t : List Entry) → length (tableAfter t cs) ≡ length t
@@ -121,11 +145,16 @@ own-events (c ∷ cs) t n b = go (eqb (c .entry) n) refl (own-events cs u n (rw 
     u : List Entry
     u = eventTable t (c .entry) (c .event)
 
+    taken : (o : Bool) → afterAll (own n cs) (cond o (entryAt t n) (after (c .event) (entryAt t n)))
+        ≡ afterAll (cond o (own n cs) (c .event ∷ own n cs)) (entryAt t n)
+    taken true = refl
+    taken false = refl
+
     go : (o : Bool) → eqb (c .entry) n ≡ o → entryAt (tableAfter u cs) n ≡ afterAll (own n cs) (entryAt u n)
-        → entryAt (tableAfter u cs) n ≡ afterAll (cond o (c .event ∷ own n cs) (own n cs)) (entryAt t n)
+        → entryAt (tableAfter u cs) n ≡ afterAll (cond o (cond (badEvent (c .event)) (own n cs) (c .event ∷ own n cs)) (own n cs)) (entryAt t n)
     go true q ih =
         let e = eqb-true (c .entry) n q in
-        ih ∙ ap (afterAll (own n cs)) (rw e (event-own t n (c .event) b))
+        ih ∙ ap (afterAll (own n cs)) (rw e (event-own t n (c .event) b)) ∙ taken (badEvent (c .event))
     go false q ih = ih ∙ ap (afterAll (own n cs)) (event-other t (c .entry) n (c .event) (λ e. eqb-false (c .entry) n q (sym e)))
 
 module _ (t : List Entry) (cs : List Call) (n : ℕ) where
@@ -147,9 +176,15 @@ module _ (t : List Entry) (cs : List Call) (n : ℕ) where
       let f = failed-status t n failed in
       answers-alike (tableAfter t cs) t n (table-length cs t) (λ b. own-events cs t n b ∙ failed-stays (own n cs) (entryAt t n) (f .1) none)
 
-  -- a reset entry waits
+  -- a waiting entry, and a reset one
+  pub waits : (l k : ℕ) → statusReply t n ≡ finished (healthNumber Waiting ∷ l ∷ []) → own n cs ≡ replicate k Look
+      → statusReply (tableAfter t cs) n ≡ finished (healthNumber Waiting ∷ l ∷ [])
+  waits l k e mine =
+      let w = waiting-status t n l e in
+      status-after (entryAt t n) (w .0) (rw mine (waiting-stays k (entryAt t n) (w .1))) ∙ sym (status-told t n (w .0)) ∙ e
+
   pub reset-waits : (w k : ℕ) → isFinished (eventReply t n (Reset w)) ≡ true → own n cs ≡ Reset w ∷ replicate k Look
       → statusReply (tableAfter t cs) n ≡ finished (healthNumber Waiting ∷ 2 ∷ [])
   reset-waits w k taken mine =
       let a = accepted t n (Reset w) taken in
-      status-after (freshOf w) (a .0) (rw mine (taken-first (Reset w) (replicate k Look) (entryAt t n) (a .1) ∙ fresh-stays k w))
+      status-after (freshOf w) (a .0) (rw mine (waiting-stays k (freshOf w) refl))

@@ -4,7 +4,7 @@ ghost use mathlib.Core.Bool.{false};
 ghost use Rattle.model.specs.declared.Event.the-variants.{Beat, Look, Reset};
 ghost use Rattle.model.specs.Answers.{watched};
 ghost use Rattle.model.specs.Watching as rules;
-ghost use Rattle.model.specs.Watching.{healthOf, hasFailed, heard, freshOf, badEvent};
+ghost use Rattle.model.specs.Watching.{healthOf, hasFailed, withLeft, freshOf, badEvent};
 use model::Entry;
 use model::Event;
 use model::Health;
@@ -21,8 +21,8 @@ pub fn waiting(window: u32) -> Entry
     }
 }
 
-fn heard_from(e: Entry, left: u32) -> Entry
-    ensures { λ r. ⌜ r ≡ heard left e ⌝ }
+fn with_left(e: Entry, left: u32) -> Entry
+    ensures { λ r. ⌜ r ≡ withLeft left e ⌝ }
 {
     Entry {
         left,
@@ -62,7 +62,7 @@ pub fn beaten(e: Entry, value: u32) -> Entry
     if has_failed(e) {
         return e;
     }
-    heard_from(e, value + 2)
+    with_left(e, value + 2)
 }
 
 pub fn looked(e: Entry) -> Entry
@@ -74,7 +74,7 @@ pub fn looked(e: Entry) -> Entry
     if e.left == 0 {
         return e;
     }
-    heard_from(e, e.left - 1)
+    with_left(e, e.left - 1)
 }
 
 // A reset forgets what the entry was.

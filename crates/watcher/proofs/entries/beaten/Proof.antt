@@ -10,4 +10,4 @@ beaten-spec =
     (λ c. cond-taken _ _ _ _ (c .before .has-failed .ensures) (c .if1 .taken))
     (λ c. record { fits = omega (arith, ltb-false 1000000 (c .before .before .args .value) (c .before .before .pre)) })
     (search needs)
-    (λ c. cond-left _ _ _ _ _ (c .before .before .has-failed .ensures) (c .before .if1 .left) (c .heard-from .ensures)))
+    (λ c. cond-left _ _ _ _ _ (c .before .before .has-failed .ensures) (c .before .if1 .left) (c .with-left .ensures)))

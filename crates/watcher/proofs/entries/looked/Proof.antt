@@ -12,4 +12,4 @@ looked-spec =
     (search needs)
     (λ c.
     let k = c .before .before .before .before in
-    c .heard-from .ensures ∙ sym (counting-looked (k .before .args .e) (k .if1 .left))))
+    c .with-left .ensures ∙ sym (counting-looked (k .before .args .e) (k .if1 .left))))
