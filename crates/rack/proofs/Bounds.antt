@@ -19,8 +19,8 @@ use Rattle.theory.proofs.Accepted.{passed, read, in-range, equalise-accepted, l
 use Rattle.preparation.proofs.Chaining.{second-done}
 use Rattle.machine.proofs.Positions.{rest-shorter}
 use Rattle.rack.specs.Words.{fileWord, runWord}
-use Rattle.rack.specs.Tables.{entryFrom, badTable, numbersReply, numbersStatus}
-use Rattle.rack.proofs.TableLaws.{health-small}
+use Rattle.tables.specs.Numbers.{entryFrom, badTable, numbersReply, numbersStatus}
+use Rattle.tables.proofs.TableLaws.{health-small}
 
 -- the values of a result
 abbrev first : List ℕ → ℕ

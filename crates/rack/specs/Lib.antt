@@ -1,3 +1,2 @@
 -- What the contracts of the interface for C cite beside the model's definitions.
 pub mod Words
-pub mod Tables

@@ -1,6 +1,5 @@
 // The calls as C makes them. Each answers one number, in which specs/Words.antt packs what the paper returns.
 mod answers;
-mod tables;
 mod words;
 
 ghost use mathlib.Core.Path.{_≡_};
@@ -9,7 +8,7 @@ ghost use Rattle.model.specs.Replies.{timeReply, equaliseReply, equaliseOut, la
 ghost use Rattle.model.specs.Replies.{runReply, runBuffers, stopReply, stopBuffers, stopImage, resumeReply, resumeBuffers, restartReply, restartBuffers};
 ghost use Rattle.model.specs.declared.Event.the-variants.{Beat, Look, Reset};
 ghost use Rattle.rack.specs.Words.{formOf, fileWord, runWord, packed};
-ghost use Rattle.rack.specs.Tables.{numbersReply, numbersStatus, numbersTable};
+ghost use Rattle.tables.specs.Numbers.{numbersReply, numbersStatus, numbersTable};
 use answers::equalised_word;
 use answers::laid_word;
 use answers::ran_word;

@@ -1,6 +1,6 @@
 use native.Mathlib.Omega.{arith}
 use borrow.Author.Needs.{needs}
-use Rattle.rack.proofs.TableLaws.{health-small}
+use Rattle.tables.proofs.TableLaws.{health-small}
 use Rattle.rack.proofs.answers.watched_word.Statement.{statement}
 use Rattle.rack.proofs.answers.watched_word.Tie as tie
 

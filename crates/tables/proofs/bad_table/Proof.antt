@@ -1,6 +1,6 @@
 use borrow.Author.{Needs.needs, Tests.eq-eqb, Tests.ne-eqb}
-use Rattle.rack.proofs.tables.bad_table.Statement.{statement}
-use Rattle.rack.proofs.tables.bad_table.Tie as tie
+use Rattle.tables.proofs.bad_table.Statement.{statement}
+use Rattle.tables.proofs.bad_table.Tie as tie
 
 pub bad-table-spec : {M : Type 1} → statement M
 bad-table-spec =

@@ -1,7 +1,7 @@
 use mathlib.Core.Path.{refl}
 use borrow.Author.Needs.{needs}
-use Rattle.rack.proofs.tables.mark_set.Statement.{statement}
-use Rattle.rack.proofs.tables.mark_set.Tie as tie
+use Rattle.tables.proofs.mark_set.Statement.{statement}
+use Rattle.tables.proofs.mark_set.Tie as tie
 
 pub mark-set-spec : {M : Type 1} → statement M
 mark-set-spec =

@@ -1,9 +1,9 @@
 use mathlib.Core.Path.{sym, ap, _∙_}
 use borrow.Author.Needs.{needs}
-use Rattle.rack.proofs.TableLaws.{numbers-within, status-turned-down, status-told}
+use Rattle.tables.proofs.TableLaws.{numbers-within, status-turned-down, status-told}
 use Rattle.model.specs.Watching.{told}
-use Rattle.rack.proofs.tables.seen.Statement.{statement}
-use Rattle.rack.proofs.tables.seen.Tie as tie
+use Rattle.tables.proofs.seen.Statement.{statement}
+use Rattle.tables.proofs.seen.Tie as tie
 
 pub seen-spec : {M : Type 1} → statement M
 seen-spec =

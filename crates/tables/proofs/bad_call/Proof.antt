@@ -1,7 +1,7 @@
 use borrow.Author.Needs.{needs}
 use Rattle.watcher.proofs.TestLaws.{or-taken, or-left}
-use Rattle.rack.proofs.tables.bad_call.Statement.{statement}
-use Rattle.rack.proofs.tables.bad_call.Tie as tie
+use Rattle.tables.proofs.bad_call.Statement.{statement}
+use Rattle.tables.proofs.bad_call.Tie as tie
 
 pub bad-call-spec : {M : Type 1} → statement M
 bad-call-spec =

@@ -3,11 +3,11 @@ use borrow.Author.Needs.{needs}
 use lib.ListN.{length}
 use denote.Ref.{now}
 use Rattle.model.specs.Watching.{after, badEvent}
-use Rattle.rack.specs.Tables.{badTable}
+use Rattle.tables.specs.Numbers.{badTable}
 use Rattle.model.proofs.Shapes.{neither}
-use Rattle.rack.proofs.TableLaws.{numbers-within, turned-down, written}
-use Rattle.rack.proofs.tables.happen.Statement.{statement}
-use Rattle.rack.proofs.tables.happen.Tie as tie
+use Rattle.tables.proofs.TableLaws.{numbers-within, turned-down, written}
+use Rattle.tables.proofs.happen.Statement.{statement}
+use Rattle.tables.proofs.happen.Tie as tie
 
 pub happen-spec : {M : Type 1} → statement M
 happen-spec =

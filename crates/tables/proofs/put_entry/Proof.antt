@@ -2,8 +2,8 @@ use native.Mathlib.Omega.{arith}
 use Prim.Native.Nat.{_+_}
 use lib.ListN.{set, length-set}
 use borrow.Author.Needs.{needs}
-use Rattle.rack.proofs.tables.put_entry.Statement.{statement}
-use Rattle.rack.proofs.tables.put_entry.Tie as tie
+use Rattle.tables.proofs.put_entry.Statement.{statement}
+use Rattle.tables.proofs.put_entry.Tie as tie
 
 pub put-entry-spec : {M : Type 1} → statement M
 put-entry-spec =

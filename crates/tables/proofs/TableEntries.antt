@@ -10,8 +10,8 @@ use Rattle.model.specs.declared.Event.the-variants.{Beat, Look, Reset}
 use Rattle.model.specs.{Answers.Verdict, Answers.finished, Answers.kept, Replies.turnDown}
 use Rattle.model.specs.Watching.{hasFailed, healthOf, unlessFailed, withLeft, after, badEntry, badEvent, told, entryAt, eventReply, eventTable, statusReply}
 use Rattle.model.proofs.Shapes.{neither}
-use Rattle.rack.specs.Tables.{entryFrom, badTable, markAfter, entryOver, numbersReply, numbersStatus, numbersTable, entriesOf, TablesStand}
-use Rattle.rack.proofs.TableLaws.{numbers-within}
+use Rattle.tables.specs.Numbers.{entryFrom, badTable, markAfter, entryOver, numbersReply, numbersStatus, numbersTable, entriesOf, TablesStand}
+use Rattle.tables.proofs.TableLaws.{numbers-within}
 
 -- THE ENTRIES
 

@@ -14,7 +14,7 @@ use Rattle.model.specs.Replies.{turnDown}
 use Rattle.model.specs.Watching.{after, badEntry, badEvent, told}
 use Rattle.model.proofs.Shapes.{neither}
 use Rattle.watcher.proofs.Refusing.{within}
-use Rattle.rack.specs.Tables.{entryFrom, badTable, markAfter, entryOver, numbersReply, numbersStatus, numbersTable}
+use Rattle.tables.specs.Numbers.{entryFrom, badTable, markAfter, entryOver, numbersReply, numbersStatus, numbersTable}
 
 -- an entry's three numbers lie in the table
 pub numbers-within : (l n : ℕ) → badTable l n ≡ false → 3 * n + 2 < l
