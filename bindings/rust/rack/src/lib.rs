@@ -368,6 +368,7 @@ pub fn restart(
 /// assert_eq!(refusal, rack::Refusal::BadEntry);
 /// # Ok::<(), rack::Refusal>(())
 /// ```
+#[inline]
 pub fn beat(table: &mut [u32], entry: u32, value: u32) -> Result<Watched, Refusal> {
     // SAFETY: as in `time_file`; the table is borrowed for writing.
     let word = unsafe { library::rack_beat(table.as_mut_ptr(), table.len(), entry, value) };
@@ -376,6 +377,7 @@ pub fn beat(table: &mut [u32], entry: u32, value: u32) -> Result<Watched, Refusa
 
 /// A window has passed: takes 1 off the count of an entry that neither waits
 /// nor has failed. [`beat`] has an example.
+#[inline]
 pub fn look(table: &mut [u32], entry: u32) -> Result<Watched, Refusal> {
     // SAFETY: as in `beat`.
     let word = unsafe { library::rack_look(table.as_mut_ptr(), table.len(), entry) };
@@ -384,6 +386,7 @@ pub fn look(table: &mut [u32], entry: u32) -> Result<Watched, Refusal> {
 
 /// Gives an entry a window, that of the file which its controller runs, and
 /// the count 0; it waits for its next beat.
+#[inline]
 pub fn reset(table: &mut [u32], entry: u32, window: u32) -> Result<Watched, Refusal> {
     // SAFETY: as in `beat`.
     let word = unsafe { library::rack_reset(table.as_mut_ptr(), table.len(), entry, window) };
@@ -391,6 +394,7 @@ pub fn reset(table: &mut [u32], entry: u32, window: u32) -> Result<Watched, Refu
 }
 
 /// What an entry is; the table is not changed.
+#[inline]
 pub fn status(table: &[u32], entry: u32) -> Result<Watched, Refusal> {
     // SAFETY: as in `time_file`.
     let word = unsafe { library::rack_status(table.as_ptr(), table.len(), entry) };
