@@ -93,6 +93,7 @@ pub enum Event {
     Reset(u32),
 }
 
+// How an entry is.
 pub enum Health {
     Waiting,
     Well,

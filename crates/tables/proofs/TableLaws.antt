@@ -1,26 +1,24 @@
 -- The watcher's table as C holds it: what a call answers and leaves where refusal 13's cause holds, and where it does not.
 use Prim.Native.Nat.{ℕ, _+_, _*_, _%_, _/_, _<_, _≤_}
 use native.Mathlib.Omega.{arith}
-use mathlib.Core.Path.{_≡_, ap, sym, _∙_}
+use mathlib.Core.{Path._≡_, Path.refl, Path.ap, Path._∙_, List.List}
 use mathlib.Core.Bool.{Bool, true, false, not, _||_}
-use mathlib.Core.List.{List}
 use lib.{Dec.eqb, ListN.length, ListN.getD}
 use borrow.Author.Tests.{eqb-true, not-false}
 use Rattle.model.specs.declared.{Entry.Entry, Event.Event, Watched.Watched, Health.Health}
 use Rattle.model.specs.declared.Health.the-variants.{Waiting, Well, Suspect, Failed}
 use Rattle.model.specs.declared.Refusal.the-variants.{BadEntry}
-use Rattle.model.specs.Answers.{watched, refusal, kept, healthNumber}
-use Rattle.model.specs.Replies.{turnDown}
+use Rattle.model.specs.Answers.{watched, refusal, healthNumber}
 use Rattle.model.specs.Watching.{after, badEntry, badEvent, told}
 use Rattle.model.proofs.Shapes.{neither}
-use Rattle.watcher.proofs.Refusing.{within}
+use Rattle.theory.proofs.WatchTables.{in-table}
 use Rattle.tables.specs.Numbers.{entryFrom, badTable, markAfter, entryOver, numbersReply, numbersStatus, numbersTable}
 
 -- an entry's three numbers lie in the table
 pub numbers-within : (l n : ℕ) → badTable l n ≡ false → 3 * n + 2 < l
 numbers-within l n e =
     let q = neither (not (eqb (l % 3) 0)) (badEntry (l / 3) n) e in
-    omega (arith, within (l / 3) n (q .1), eqb-true (l % 3) 0 (not-false (eqb (l % 3) 0) (q .0)))
+    omega (arith, in-table (l / 3) n (q .1), eqb-true (l % 3) 0 (not-false (eqb (l % 3) 0) (q .0)))
 
 pub record Answers (t : List ℕ) (n : ℕ) (x : Event) (r : Watched) (u : List ℕ) : Type 0 where
   pub answer : watched r ≡ numbersReply t n x
@@ -35,28 +33,24 @@ module _ (t : List ℕ) (n : ℕ) (x : Event) (r : Watched) where
 
   pub turned-down : (badTable (length t) n || badEvent x) ≡ true → watched r ≡ refusal BadEntry → Answers t n x r t
   unfolding numbersReply numbersTable
-  turned-down e a = record {
-    answer = a ∙ ap (λ (b : Bool). turnDown 13 b (told new)) (sym e);
-    table = ap (λ (b : Bool). kept (turnDown 13 b (told new)) (entryOver t (3 * n) new (mark (new .waiting))) t) (sym e);
-  }
+  turned-down e a = record { answer = rw e a; table = rw e refl }
 
   pub written : (badTable (length t) n || badEvent x) ≡ false → (f : Entry) (m : ℕ) → f ≡ new → m ≡ mark (f .waiting) → watched r ≡ told f
       → Answers t n x r (entryOver t (3 * n) f m)
   unfolding numbersReply numbersTable
   written e f m is marked a = record {
-    answer = a ∙ ap told is ∙ ap (λ (b : Bool). turnDown 13 b (told new)) (sym e);
-    table = ap (entryOver t (3 * n) f) marked ∙ ap (λ (g : Entry). entryOver t (3 * n) g (mark (g .waiting))) is
-        ∙ ap (λ (b : Bool). kept (turnDown 13 b (told new)) (entryOver t (3 * n) new (mark (new .waiting))) t) (sym e);
+    answer = rw e (a ∙ ap told is);
+    table = rw e (ap (entryOver t (3 * n) f) marked ∙ ap (λ (g : Entry). entryOver t (3 * n) g (mark (g .waiting))) is);
   }
 
 module _ (t : List ℕ) (n : ℕ) (r : Watched) where
   pub status-turned-down : badTable (length t) n ≡ true → watched r ≡ refusal BadEntry → watched r ≡ numbersStatus t n
   unfolding numbersStatus
-  status-turned-down e a = a ∙ ap (λ (b : Bool). turnDown 13 b (told (entryFrom t (3 * n)))) (sym e)
+  status-turned-down e a = rw e a
 
   pub status-told : badTable (length t) n ≡ false → watched r ≡ told (entryFrom t (3 * n)) → watched r ≡ numbersStatus t n
   unfolding numbersStatus
-  status-told e a = a ∙ ap (λ (b : Bool). turnDown 13 b (told (entryFrom t (3 * n)))) (sym e)
+  status-told e a = rw e a
 
 pub health-small : (h : Health) → healthNumber h ≤ 3
 health-small Waiting = omega arith

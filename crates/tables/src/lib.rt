@@ -1,11 +1,11 @@
 // The watcher's table as numbers, three for each entry, as C holds it.
 ghost use mathlib.Core.Path.{_≡_};
 ghost use mathlib.Core.Bool.{_||_};
-ghost use Prim.Native.Nat.{_+_, _*_, _<_, _≤_};
+ghost use Prim.Native.Nat.{_+_, _<_};
 ghost use lib.ListN.{length};
 ghost use Rattle.model.specs.Answers.{watched};
 ghost use Rattle.model.specs.Watching.{badEvent};
-ghost use Rattle.tables.specs.Numbers.{entryNumbers, entryFrom, badTable, markSet, markAfter, entryOver, numbersReply, numbersStatus, numbersTable};
+ghost use Rattle.tables.specs.Numbers.{entryFrom, badTable, markSet, markAfter, entryOver, numbersReply, numbersStatus, numbersTable};
 use model::Entry;
 use model::Event;
 use model::Watched;

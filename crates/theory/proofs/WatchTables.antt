@@ -109,7 +109,7 @@ event-other : (t : List Entry) (m n : ℕ) (x : Event) → (n ≡ m → ⊥) →
 unfolding eventTable
 event-other t m n x = other-kept (eventReply t m x) t m n (after x (entryAt t m))
 
-in-table : (l n : ℕ) → badEntry l n ≡ false → n < l
+pub in-table : (l n : ℕ) → badEntry l n ≡ false → n < l
 in-table l n b = leb-false l n (neither (ltb tableEntries l) (leb l n) b .1)
 
 event-own : (t : List Entry) (n : ℕ) (x : Event) → badEntry (length t) n ≡ false

@@ -52,7 +52,8 @@ use Rattle.model.proofs.Watched as S
 use Rattle.model.proofs.Watched.Laws as S′
 use Rattle.watcher.proofs.Asks.{Gives, Of, gives, asks}
 use Rattle.watcher.proofs.TestLaws.{is-true, is-false}
-use Rattle.watcher.proofs.Refusing.{cause, Answers, turned-down, replaced, within, place-fits}
+use Rattle.theory.proofs.WatchTables.{in-table}
+use Rattle.watcher.proofs.Refusing.{cause, Answers, turned-down, replaced, place-fits}
 use Rattle.watcher.proofs.Callees.{R, low, Told, Refused, told-gives, refused-gives}
 use Rattle.watcher.proofs.entries.told.Symbol.{name as #told}
 use Rattle.watcher.proofs.checks.refused.Symbol.{name as #refused}
@@ -316,7 +317,7 @@ module _ {M : Type 1} (𝓤 : URA M) (H : Heap 𝓤) (A : Atoms 𝓤) (W : Given
           (λ held. refuses-it (sym is-m ∙ is-true y held) y)
           (λ failed.
           let fails = sym is-m ∙ is-false y failed in
-          let inside = within (length ys) n (neither (badEntry (length ys) n) (badEvent (event v)) fails .0) in
+          let inside = in-table (length ys) n (neither (badEntry (length ys) n) (badEvent (event v)) fails .0) in
           skips ! $ exec ! C Λ En (rest #step) (atRet En Post) $ stores fails inside (place-fits (room .1) inside) y))
 
     walk : ent 𝓤 (onEntry 𝓤 H A signature (κ, tt) (q, tt) a vals) (WpFn 𝓤 H C Λ (function-of #bad #step) (s ∷ vint w64 n ∷ vint w32 v ∷ []) Post)

@@ -34,8 +34,10 @@ beat-spec 𝓤 H 𝓜 𝓖 𝓡 =
     (code.unfolded 𝓤 H 𝓜 𝓡)
     (replace-meets 𝓤 H A W mem run Beat #bad #step 𝓣
     (record {
-      bad = cited 𝓤 H (Bad 𝓤 H A W mem run Beat #bad #step (𝓣 .C) (𝓣 .Λ) fm) 𝓜 𝓡 code.env #bad bad-def.routine code.calls-watcher·checks·bad-beat (bad-met.met 𝓤 H 𝓜 𝓖 𝓡);
-      step = cited 𝓤 H (Stepped 𝓤 H A W mem run Beat #bad #step (𝓣 .C) (𝓣 .Λ) fm) 𝓜 𝓡 code.env #step step-def.routine code.calls-watcher·entries·beaten (step-met.met 𝓤 H 𝓜 𝓖 𝓡);
+      bad = cited 𝓤 H (Bad 𝓤 H A W mem run Beat #bad #step (𝓣 .C) (𝓣 .Λ) fm)
+          𝓜 𝓡 code.env #bad bad-def.routine code.calls-watcher·checks·bad-beat (bad-met.met 𝓤 H 𝓜 𝓖 𝓡);
+      step = cited 𝓤 H (Stepped 𝓤 H A W mem run Beat #bad #step (𝓣 .C) (𝓣 .Λ) fm)
+          𝓜 𝓡 code.env #step step-def.routine code.calls-watcher·entries·beaten (step-met.met 𝓤 H 𝓜 𝓖 𝓡);
       tells = cited 𝓤 H (Told 𝓤 H A mem run) 𝓜 𝓡 code.env #told told-def.routine code.calls-watcher·entries·told (told-met.met 𝓤 H 𝓜 𝓖 𝓡);
       refuses = cited 𝓤 H (Refused 𝓤 H A mem run) 𝓜 𝓡 code.env #refused refused-def.routine code.calls-watcher·checks·refused (refused-met.met 𝓤 H 𝓜 𝓖 𝓡);
     }))

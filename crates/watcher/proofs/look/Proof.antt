@@ -39,7 +39,8 @@ use Rattle.model.proofs.Entry.Laws as T′
 use Rattle.model.proofs.Watched as S
 use Rattle.model.proofs.Watched.Laws as S′
 use Rattle.watcher.proofs.{Asks.Gives, Asks.gives, Asks.asks, TestLaws.is-true, TestLaws.is-false}
-use Rattle.watcher.proofs.Refusing.{cause, Answers, turned-down, replaced, within, place-fits}
+use Rattle.theory.proofs.WatchTables.{in-table}
+use Rattle.watcher.proofs.Refusing.{cause, Answers, turned-down, replaced, place-fits}
 use Rattle.watcher.proofs.Callees.{R, low, Told, Refused, Outside, told-gives, refused-gives, outside-gives}
 use Rattle.watcher.proofs.entries.looked as looked
 use Rattle.watcher.proofs.entries.looked.Symbol as looked-def
@@ -213,7 +214,7 @@ module _ {M : Type 1} (𝓤 : URA M) (H : Heap 𝓤) (A : Atoms 𝓤) (W : Given
           (λ held. refuses-it (no-more-cause _ ∙ sym is-m ∙ is-true y held) y)
           (λ failed.
           let fails = sym is-m ∙ is-false y failed in
-          let inside = within (length ys) n fails in
+          let inside = in-table (length ys) n fails in
           skips ! $ exec ! C Λ En mirs.t-4 (atRet En Post) $ stores (no-more-cause _ ∙ fails) inside (place-fits (room .1) inside) y))
 
     walk : ent 𝓤 (onEntry 𝓤 H A look.signature (κ, tt) (q, tt) a vals) (WpFn 𝓤 H C Λ code.function (s ∷ vint w64 n ∷ []) Post)

@@ -37,7 +37,8 @@ use Rattle.model.proofs.Entry.Laws as T′
 use Rattle.model.proofs.Watched as S
 use Rattle.model.proofs.Watched.Laws as S′
 use Rattle.watcher.proofs.{Asks.asks, TestLaws.is-true, TestLaws.is-false}
-use Rattle.watcher.proofs.Refusing.{status-turned-down, status-told, within, place-fits}
+use Rattle.theory.proofs.WatchTables.{in-table, status-told}
+use Rattle.watcher.proofs.Refusing.{status-turned-down, place-fits}
 use Rattle.watcher.proofs.Callees.{R, low, Told, Refused, Outside, told-gives, refused-gives, outside-gives}
 use Rattle.watcher.proofs.entries.told.Symbol as told-def
 use Rattle.watcher.proofs.entries.told.Symbol.{name as #told}
@@ -161,7 +162,7 @@ module _ {M : Type 1} (𝓤 : URA M) (H : Heap 𝓤) (A : Atoms 𝓤) (W : Given
           (and-then ! (load ! (from ! (stop !)) (reads ! 4 refl)) (no-more !)) (λ u r said is.
           land ! (from ! (stop !)) (init ! 16 refl (EL.lawful S.the-type S′.the-laws 𝓤 H A W tt .typed r _ is .0)) $
           returns ! (reads ! 16 refl) $ forget ! 4 refl $ forget ! 6 refl $ forget ! 8 refl $ forget ! 10 refl $ forget ! 12 refl $ forget ! 14 refl $
-          forget ! 16 refl $ ends r u (status-told ys n r fails said))))
+          forget ! 16 refl $ ends r u (said ∙ sym (status-told ys n fails)))))
 
       -- from the first statement to the branch
       begins : Sq W (Lent (‵ (froom (tyInt w64) l₄ 0)) (‵ (froom tyBool l₃ 0))) (runs C Λ En mirs.t-1 (atRet En Post))
@@ -177,7 +178,7 @@ module _ {M : Type 1} (𝓤 : URA M) (H : Heap 𝓤) (A : Atoms 𝓤) (W : Given
           (λ held. refuses-it (sym is-m ∙ is-true y held) y)
           (λ failed.
           let fails = sym is-m ∙ is-false y failed in
-          let inside = within (length ys) n fails in
+          let inside = in-table (length ys) n fails in
           skips ! $ exec ! C Λ En mirs.t-4 (atRet En Post) $ tells-it fails inside (place-fits (room .1) inside) y))
 
     walk : ent 𝓤 (onEntry 𝓤 H A status.signature (κ, tt) (q, tt) a vals) (WpFn 𝓤 H C Λ code.function (s ∷ vint w64 n ∷ []) Post)
