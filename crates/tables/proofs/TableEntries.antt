@@ -4,10 +4,10 @@ use native.Mathlib.Omega.{arith}
 use mathlib.Core.Path.{_≡_, refl, ap, sym, _∙_}
 use mathlib.Core.Bool.{Bool, true, false, cond, not, _||_, true≢false}
 use mathlib.Core.List.{List, [], _∷_}
-use lib.{Dec.eqb, ListN.length, ListN.getD, ListN.set}
+use lib.{Dec.eqb, ListN.length, ListN.getD, ListN.set, ListN.length-set}
 use Rattle.model.specs.declared.{Entry.Entry, Event.Event}
 use Rattle.model.specs.declared.Event.the-variants.{Beat, Look, Reset}
-use Rattle.model.specs.{Answers.Verdict, Answers.finished, Answers.kept, Replies.turnDown}
+use Rattle.model.specs.{Answers.Verdict, Answers.finished, Answers.refused, Answers.kept, Replies.turnDown}
 use Rattle.model.specs.Watching.{hasFailed, healthOf, unlessFailed, withLeft, after, badEntry, badEvent, told, entryAt, eventReply, eventTable, statusReply}
 use Rattle.model.proofs.Shapes.{neither}
 use Rattle.tables.specs.Numbers.{entryFrom, badTable, markAfter, entryOver, numbersReply, numbersStatus, numbersTable, entriesOf, TablesStand}
@@ -101,6 +101,12 @@ module _ (t : List ℕ) (n : ℕ) where
   replaced x good =
       entry-over t n (after x old) _ (lies-within x good) (mark-stands x old (getD t (3 * n + 2) 0) refl) ∙ ap (set (entriesOf t) n) (same-after x good)
 
+-- no call changes how long the table is
+same-size : (v : Verdict) (t : List ℕ) (i : ℕ) (e : Entry) (m : ℕ) → length (kept v (entryOver t i e m) t) ≡ length t
+same-size (finished xs) t i e m =
+    length-set (set (set t i (e .left)) (i + 1) (e .window)) (i + 2) m ∙ length-set (set t i (e .left)) (i + 1) (e .window) ∙ length-set t i (e .left)
+same-size (refused n xs) t i e m = refl
+
 pub tables-stand : TablesStand
 unfolding numbersReply numbersTable numbersStatus eventReply eventTable statusReply
 tables-stand t n whole =
@@ -108,5 +114,8 @@ tables-stand t n whole =
     record {
       reply = λ x. same-reply _ _ _ _ (ap (λ (o : Bool). o || badEvent x) cause) (λ good. ap told (same-after t n x good));
       table = λ x. same-table _ _ _ _ t _ _ (ap (λ (o : Bool). o || badEvent x) cause) (replaced t n x);
+      size = λ x.
+          let e = after x (entryFrom t (3 * n)) in
+          same-size (numbersReply t n x) t (3 * n) e (markAfter x (getD t (3 * n + 2) 0) (e .waiting));
       status = same-reply _ _ _ _ cause (λ good. ap told (entry-from t n (numbers-within (length t) n good)));
     }

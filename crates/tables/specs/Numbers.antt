@@ -15,7 +15,7 @@ use Rattle.model.specs.Watching.{after, badEntry, badEvent, told, eventReply, e
 abbrev pub entryNumbers : ℕ
 entryNumbers = 3
 
--- an entry's numbers stand at i; any mark but 0 counts as waiting
+-- an entry's numbers stand at i; any mark but 0 counts as waiting. A fresh entry is 2, 0, 1, and three zeros are one that has failed.
 abbrev pub entryFrom : List ℕ → ℕ → Entry
 entryFrom t i = record { left = getD t i 0; window = getD t (i + 1) 0; waiting = not (eqb (getD t (i + 2) 0) 0) }
 
@@ -58,6 +58,7 @@ entriesOf (l ∷ w ∷ m ∷ t) = record { left = l; window = w; waiting = not (
 pub record StandsFor (t : List ℕ) (n : ℕ) : Type 0 where
   pub reply : (x : Event) → numbersReply t n x ≡ eventReply (entriesOf t) n x
   pub table : (x : Event) → entriesOf (numbersTable t n x) ≡ eventTable (entriesOf t) n x
+  pub size : (x : Event) → length (numbersTable t n x) ≡ length t
   pub status : numbersStatus t n ≡ statusReply (entriesOf t) n
 
 abbrev pub TablesStand : Type 0
