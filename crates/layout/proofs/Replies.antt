@@ -150,7 +150,7 @@ module _ (s file : List ℕ) (σ : Settings) (R : Reads s Equalised file (Valid 
       let e = R .settings σ refl in
       record {
         positive = subst Positive (sym e) (G .positive);
-        narrow = R .narrow σ refl;
+        narrow = subst (λ (τ : Settings). τ .window ≤ 1000000) (sym e) (G .narrow);
         short = subst (λ (τ : Settings). τ .period ≤ 1000000) (sym e) (G .short);
       }
 

@@ -30,7 +30,7 @@ portCount = 8
 abbrev pub byVariable : ℕ
 byVariable = 16
 
--- "P is at most 1,000,000", "the count of SKIP (1 to 1,000,000)", BEAT's value "(0 to 1,000,000)"
+-- "P is at most 1,000,000", W-202: "H may then reach 1,000,000"; "the count of SKIP (1 to 1,000,000)", BEAT's value "(0 to 1,000,000)"
 abbrev pub mostTicks : ℕ
 mostTicks = 1000000
 
@@ -38,10 +38,14 @@ mostTicks = 1000000
 abbrev pub mostRounds : ℕ
 mostRounds = 65535
 
--- "settings not 12 bytes" and "image buffer not 72 bytes" are turned down
+-- W-202: "a length other than 12 or 24" is turned down, of settings
 abbrev pub settingsLength : ℕ
 settingsLength = 12
 
+abbrev pub wideLength : ℕ
+wideLength = 24
+
+-- "image buffer not 72 bytes" is turned down
 abbrev pub imageLength : ℕ
 imageLength = 72
 

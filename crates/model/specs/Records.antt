@@ -52,7 +52,13 @@ pub record Rec : Type 0 where
 abbrev pub rec : ℕ → ℕ → ℕ → ℕ → ℕ → ℕ → Rec
 rec k o t l x n = record { kind = k; op = o; target = t; left = l; value = x; count = n }
 
--- "Multi-byte numbers are little-endian and unsigned": the number in the 4 bytes from at on, and the 4 bytes of a number
+-- "Multi-byte numbers are little-endian and unsigned": the number in the 2 or 4 bytes from at on, and the 2 or 4 bytes of a number
+abbrev pub halfAt : List ℕ → ℕ → ℕ
+halfAt s at = getD s at 0 + 256 * getD s (at + 1) 0
+
+abbrev pub halfBytes : ℕ → List ℕ
+halfBytes n = n % 256 ∷ n / 256 ∷ []
+
 abbrev pub wordAt : List ℕ → ℕ → ℕ
 wordAt s at = getD s at 0 + 256 * getD s (at + 1) 0 + 65536 * getD s (at + 2) 0 + 16777216 * getD s (at + 3) 0
 

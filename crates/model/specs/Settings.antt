@@ -1,17 +1,17 @@
--- Document 01, "Records", on the settings: the numbers in them, and which are out of range.
-use Prim.Native.Nat.{ℕ, _+_, _*_}
-use mathlib.Core.Bool.{Bool, not, _||_}
-use mathlib.Core.List.{List}
+-- Document 01, "Records", and W-202 on the settings: the numbers in either form, and which are out of range.
+use Prim.Native.Nat.{ℕ}
+use mathlib.Core.Bool.{Bool, cond, not, _||_, _&&_}
+use mathlib.Core.List.{List, _++_}
 use lib.Dec.{eqb, ltb}
 use lib.ListN.{length, getD}
-use Rattle.model.specs.Limits.{mostTicks, settingsLength}
-use Rattle.model.specs.Records.{wordAt}
+use Rattle.model.specs.Limits.{mostTicks, settingsLength, wideLength}
+use Rattle.model.specs.Records.{halfAt, halfBytes, wordAt, wordBytes}
 use Rattle.model.specs.declared.Settings.{Settings}
 
 -- "bytes 0 to 4 the ticks of SET, READ, WRITE, BEAT (called B) and SAVE (called S), byte 5 the checkpoint spacing K, in windows,
 -- bytes 6 and 7 the window H, bytes 8 to 11 the period P." A SET that multiplies takes the ticks of any SET.
-unfoldable pub settingsOf : List ℕ → Settings
-settingsOf s = record {
+abbrev pub narrowSettings : List ℕ → Settings
+narrowSettings s = record {
   set = getD s 0 0;
   read = getD s 1 0;
   write = getD s 2 0;
@@ -19,16 +19,49 @@ settingsOf s = record {
   save = getD s 4 0;
   multiply = getD s 0 0;
   spacing = getD s 5 0;
-  window = getD s 6 0 + 256 * getD s 7 0;
+  window = halfAt s 6;
   period = wordAt s 8;
 }
 
--- "All are at least 1; P is at most 1,000,000."
+-- W-202: "Settings may now be two records: six 16-bit numbers (SET, READ, WRITE, BEAT, SAVE, K), then H, P and a zero, 32 bits each."
+abbrev pub wideSettings : List ℕ → Settings
+wideSettings s = record {
+  set = halfAt s 0;
+  read = halfAt s 2;
+  write = halfAt s 4;
+  beat = halfAt s 6;
+  save = halfAt s 8;
+  multiply = halfAt s 0;
+  spacing = halfAt s 10;
+  window = wordAt s 12;
+  period = wordAt s 16;
+}
+
+abbrev pub isWide : List ℕ → Bool
+isWide s = eqb (length s) wideLength
+
+unfoldable pub settingsOf : List ℕ → Settings
+settingsOf s = cond (isWide s) (wideSettings s) (narrowSettings s)
+
+-- "All are at least 1; P is at most 1,000,000." and W-202: "H may then reach 1,000,000."
 abbrev pub outOfRange : Settings → Bool
 outOfRange σ =
     eqb (σ .set) 0 || eqb (σ .read) 0 || eqb (σ .write) 0 || eqb (σ .beat) 0 || eqb (σ .save) 0 || eqb (σ .multiply) 0
-    || eqb (σ .spacing) 0 || eqb (σ .window) 0 || eqb (σ .period) 0 || ltb mostTicks (σ .period)
+    || eqb (σ .spacing) 0 || eqb (σ .window) 0 || eqb (σ .period) 0 || ltb mostTicks (σ .window) || ltb mostTicks (σ .period)
 
--- "settings not 12 bytes, or a number outside its range" (refusal 6)
+-- "and a zero, 32 bits each", which 12 bytes lack
+abbrev pub badZero : List ℕ → Bool
+badZero s = isWide s && not (eqb (wordAt s 20) 0)
+
+-- "Refusal 6 now means a length other than 12 or 24, or a bad number."
+abbrev pub badSettingsLength : ℕ → Bool
+badSettingsLength n = not (eqb n settingsLength) && not (eqb n wideLength)
+
 unfoldable pub badSettings : List ℕ → Bool
-badSettings s = not (eqb (length s) settingsLength) || outOfRange (settingsOf s)
+badSettings s = badSettingsLength (length s) || outOfRange (settingsOf s) || badZero s
+
+-- the 24 bytes of these numbers
+unfoldable pub wideBytes : Settings → List ℕ
+wideBytes σ =
+    halfBytes (σ .set) ++ halfBytes (σ .read) ++ halfBytes (σ .write) ++ halfBytes (σ .beat) ++ halfBytes (σ .save) ++ halfBytes (σ .spacing)
+    ++ wordBytes (σ .window) ++ wordBytes (σ .period) ++ wordBytes 0

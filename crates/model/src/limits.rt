@@ -15,12 +15,14 @@ pub const VARIABLES: usize = 16;
 pub const PORTS: usize = 8;
 // Added to an operation or a relation whose right value numbers a variable.
 pub const BY_VARIABLE: u8 = 16;
-// The longest period, count of a SKIP and value of a BEAT, and the most rounds of a loop.
+// The longest period and window, count of a SKIP and value of a BEAT, and the most rounds of a loop.
 pub const MOST_TICKS: u32 = 1000000;
 
 pub const MOST_ROUNDS: u32 = 65535;
-// The bytes of settings and of an image.
+// The bytes of settings, in the first form and in the wide one, and of an image.
 pub const SETTINGS_LENGTH: usize = 12;
+
+pub const WIDE_LENGTH: usize = 24;
 
 pub const IMAGE_LENGTH: usize = 72;
 // The entries of the watcher's table.

@@ -1,10 +1,10 @@
 -- The settings are judged first and then the file; where both were read, the settings are good and the file is sound.
-use Prim.Native.Nat.{ℕ, _≤_}
+use Prim.Native.Nat.{ℕ}
 use native.Mathlib.Omega.{arith}
-use mathlib.Core.Path.{_≡_, refl, sym, subst, _∙_}
+use mathlib.Core.Path.{_≡_, refl, sym, _∙_}
 use mathlib.Core.{Bool.Bool, Bool.true, Bool.false, List.List, List.[]}
 use Rattle.model.specs.declared.{Form.Form, Settings.Settings, Refusal.Refusal}
-use Rattle.model.specs.{Limits.mostTicks, Settings.badSettings, Answers.Verdict, Answers.finished}
+use Rattle.model.specs.{Settings.badSettings, Answers.Verdict, Answers.finished}
 use Rattle.model.specs.Refusals.{Fault, sound, faulty, fault}
 use Rattle.model.specs.Replies.{turnDown, unless, reading}
 use Rattle.records.specs.declared.settings.Decoded.{Decoded}
@@ -22,7 +22,7 @@ module _ (s : List ℕ) (f : Form) (file : List ℕ) where
   -- the settings are refused, whatever the file
   pub settings-refused : (x : Refusal) → Decodes s (Decoded.Refused x) → Reads s f file (Refused x)
   unfolding reading
-  settings-refused x D = record { reply = λ next. D .reply (unless (fault f file) next); settings = λ σ e. none x σ e; narrow = λ σ e. none x σ e }
+  settings-refused x D = record { reply = λ next. D .reply (unless (fault f file) next); settings = λ σ e. none x σ e }
 
   module _ (σ : Settings) (D : Decodes s (Decoded.Valid σ)) where
     then-scanned : (q : Scanned) → Scans f file q → (next : Verdict) → scanned q next ≡ reading s f file next
@@ -30,10 +30,10 @@ module _ (s : List ℕ) (f : Form) (file : List ℕ) where
     then-scanned q S next = S .reply next ∙ D .reply (unless (fault f file) next)
 
     pub file-refused : (x : Refusal) → Scans f file (Scanned.Refused x) → Reads s f file (Refused x)
-    file-refused x S = record { reply = then-scanned (Scanned.Refused x) S; settings = λ τ e. none x τ e; narrow = λ τ e. none x τ e }
+    file-refused x S = record { reply = then-scanned (Scanned.Refused x) S; settings = λ τ e. none x τ e }
 
     pub both-read : Scans f file Sound → Reads s f file (Valid σ)
-    both-read S = record { reply = then-scanned Sound S; settings = λ τ e. sym (same e) ∙ D .settings σ refl; narrow = λ τ e. subst (λ (ρ : Settings). ρ .window ≤ mostTicks) (same e) (D .narrow σ refl) }
+    both-read S = record { reply = then-scanned Sound S; settings = λ τ e. sym (same e) ∙ D .settings σ refl }
       where
         same : {τ : Settings} → Valid σ ≡ Valid τ → σ ≡ τ
         same e = cc

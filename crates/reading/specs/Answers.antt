@@ -1,8 +1,7 @@
 -- What reading the settings and a file answers.
 use mathlib.Core.Path.{_≡_}
 use mathlib.Core.List.{List}
-use Prim.Native.Nat.{ℕ, _≤_}
-use Rattle.model.specs.Limits.{mostTicks}
+use Prim.Native.Nat.{ℕ}
 use Rattle.model.specs.declared.Form.{Form}
 use Rattle.model.specs.declared.Settings.{Settings}
 use Rattle.model.specs.Settings.{settingsOf}
@@ -20,4 +19,3 @@ checked (Refused x) next = refusal x
 pub record Reads (s : List ℕ) (f : Form) (file : List ℕ) (r : Checked) : Type 0 where
   pub reply : (next : Verdict) → checked r next ≡ reading s f file next
   pub settings : (σ : Settings) → r ≡ Valid σ → σ ≡ settingsOf s
-  pub narrow : (σ : Settings) → r ≡ Valid σ → σ .window ≤ mostTicks

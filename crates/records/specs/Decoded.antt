@@ -1,8 +1,7 @@
 -- What decoding the settings answers.
 use mathlib.Core.Path.{_≡_}
 use mathlib.Core.List.{List}
-use Prim.Native.Nat.{ℕ, _≤_}
-use Rattle.model.specs.Limits.{mostTicks}
+use Prim.Native.Nat.{ℕ}
 use Rattle.model.specs.declared.Settings.{Settings}
 use Rattle.model.specs.Settings.{settingsOf, badSettings}
 use Rattle.model.specs.Answers.{Verdict, refusal}
@@ -19,4 +18,3 @@ decoded (Refused x) next = refusal x
 pub record Decodes (s : List ℕ) (r : Decoded) : Type 0 where
   pub reply : (next : Verdict) → decoded r next ≡ turnDown 6 (badSettings s) next
   pub settings : (σ : Settings) → r ≡ Valid σ → σ ≡ settingsOf s
-  pub narrow : (σ : Settings) → r ≡ Valid σ → σ .window ≤ mostTicks  -- H is far from what 32 bits hold

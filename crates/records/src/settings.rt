@@ -1,16 +1,18 @@
-// The settings, decoded by value or refused.
+// The settings in either form, decoded by value or refused.
 ghost use mathlib.Core.Path.{_≡_};
-ghost use Prim.Native.Nat.{_≤_};
+ghost use mathlib.Core.Bool.{false};
 ghost use lib.ListN.{length};
-ghost use Rattle.model.specs.Limits.{settingsLength};
-ghost use Rattle.model.specs.Settings.{settingsOf, outOfRange};
+ghost use Rattle.model.specs.Limits.{settingsLength, wideLength};
+ghost use Rattle.model.specs.Settings.{narrowSettings, wideSettings, settingsOf, outOfRange, badZero, badSettingsLength};
 ghost use Rattle.records.specs.Decoded.{Decodes};
+use crate::words::half_at;
 use crate::words::wide;
 use crate::words::word_at;
 use model::Refusal;
 use model::Settings;
 use model::limits::MOST_TICKS;
 use model::limits::SETTINGS_LENGTH;
+use model::limits::WIDE_LENGTH;
 
 // The settings, or why a call that is handed them is turned down.
 pub enum Decoded {
@@ -18,10 +20,16 @@ pub enum Decoded {
     Refused(Refusal),
 }
 
+fn bad_length(n: usize) -> bool
+    ensures { λ r. ⌜ r ≡ badSettingsLength n ⌝ }
+{
+    (n != SETTINGS_LENGTH) & (n != WIDE_LENGTH)
+}
+
 // The numbers in 12 bytes of settings.
-fn numbers(settings: &[u8]) -> Settings
-    requires { ⌜ settingsLength ≤ length (now settings) ⌝ }
-    ensures { λ r. ⌜ (r ≡ settingsOf (now (settings .entry))) × (r .window ≤ 65535) ⌝ }
+fn narrow_numbers(settings: &[u8]) -> Settings
+    requires { ⌜ length (now settings) ≡ settingsLength ⌝ }
+    ensures { λ r. ⌜ r ≡ narrowSettings (now (settings .entry)) ⌝ }
 {
     Settings {
         set: wide(settings[0]),
@@ -31,9 +39,38 @@ fn numbers(settings: &[u8]) -> Settings
         save: wide(settings[4]),
         multiply: wide(settings[0]),
         spacing: wide(settings[5]),
-        window: wide(settings[6]) + 256 * wide(settings[7]),
+        window: half_at(settings, 6),
         period: word_at(settings, 8),
     }
+}
+
+// The numbers in 24 bytes.
+fn wide_numbers(settings: &[u8]) -> Settings
+    requires { ⌜ length (now settings) ≡ wideLength ⌝ }
+    ensures { λ r. ⌜ r ≡ wideSettings (now (settings .entry)) ⌝ }
+{
+    Settings {
+        set: half_at(settings, 0),
+        read: half_at(settings, 2),
+        write: half_at(settings, 4),
+        beat: half_at(settings, 6),
+        save: half_at(settings, 8),
+        multiply: half_at(settings, 0),
+        spacing: half_at(settings, 10),
+        window: word_at(settings, 12),
+        period: word_at(settings, 16),
+    }
+}
+
+// The numbers in either form.
+fn numbers(settings: &[u8]) -> Settings
+    requires { ⌜ badSettingsLength (length (now settings)) ≡ false ⌝ }
+    ensures { λ r. ⌜ r ≡ settingsOf (now (settings .entry)) ⌝ }
+{
+    if settings.len() == WIDE_LENGTH {
+        return wide_numbers(settings);
+    }
+    narrow_numbers(settings)
 }
 
 // Whether a number is outside its range.
@@ -49,18 +86,29 @@ fn out_of_range(rack: Settings) -> bool
         | (rack.spacing == 0)
         | (rack.window == 0)
         | (rack.period == 0)
+        | (MOST_TICKS < rack.window)
         | (MOST_TICKS < rack.period)
+}
+
+// Whether 24 bytes end in another number than 0.
+fn bad_zero(settings: &[u8]) -> bool
+    ensures { λ r. ⌜ r ≡ badZero (now (settings .entry)) ⌝ }
+{
+    if settings.len() != WIDE_LENGTH {
+        return false;
+    }
+    word_at(settings, 20) != 0
 }
 
 // Refusal 6, or the settings.
 pub fn decode(settings: &[u8]) -> Decoded
     ensures { λ r. ⌜ Decodes (now (settings .entry)) r ⌝ }
 {
-    if settings.len() != SETTINGS_LENGTH {
+    if bad_length(settings.len()) {
         return Decoded::Refused(Refusal::BadSettings);
     }
     let rack = numbers(settings);
-    if out_of_range(rack) {
+    if out_of_range(rack) | bad_zero(settings) {
         return Decoded::Refused(Refusal::BadSettings);
     }
     Decoded::Valid(rack)

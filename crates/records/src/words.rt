@@ -1,14 +1,22 @@
-// Numbers of 32 bits: as 4 bytes, the lowest first, their products, and slices of them.
+// Numbers of 16 bits and of 32: as bytes, the lowest first, their products, and slices of them.
 ghost use mathlib.Core.Path.{_≡_};
 ghost use Prim.Native.Nat.{_+_, _*_, _%_, _^_, _≤_, _<_};
 ghost use lib.ListN.{length};
-ghost use Rattle.model.specs.Records.{wordAt, wordBytes, over};
+ghost use Rattle.model.specs.Records.{halfAt, wordAt, wordBytes, over};
 
 // A byte as a number: the bound spares every sum of bytes a proof.
 pub fn wide(b: u8) -> u32
     ensures { λ r. ⌜ (r ≡ b) × (r < 256) ⌝ }
 {
     b as u32
+}
+
+// The number in the 2 bytes from at on.
+pub fn half_at(bytes: &[u8], at: usize) -> u32
+    requires { ⌜ at + 2 ≤ length (now bytes) ⌝ }
+    ensures { λ r. ⌜ r ≡ halfAt (now (bytes .entry)) at ⌝ }
+{
+    wide(bytes[at]) + 256 * wide(bytes[at + 1])
 }
 
 // The number in the 4 bytes from at on.

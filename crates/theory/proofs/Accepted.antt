@@ -2,14 +2,15 @@
 use Prim.Native.Nat.{ℕ, _+_, _*_, _≤_, _<_}
 use native.Mathlib.Omega.{arith}
 use mathlib.Core.{Path._≡_, Path.refl, Path._∙_, List.List, List.[], List._∷_}
-use mathlib.Core.Bool.{Bool, true, false, not, _||_}
+use mathlib.Core.Bool.{Bool, true, false, _||_}
 use lib.{Dec.eqb, Dec.leb, Dec.ltb, ListN.length}
 use borrow.Author.Tests.{not-false, leb-false, eqb-true, eqb-false, ltb-false, le-ltb}
 use Rattle.model.specs.{Limits.fileRecords, Limits.imageLength, Times.time, Times.longest, Runs.duration, Chain.Outputs, Chain.lend}
 use Rattle.model.specs.{Placement.Positive, Placement.Fits}
 use Rattle.model.specs.declared.{Settings.Settings, Form.Form}
 use Rattle.model.specs.declared.Form.the-variants.{Task, Equalised}
-use Rattle.model.specs.{Settings.settingsOf, Settings.outOfRange, Settings.badSettings, Trees.Block, Trees.size, Trees.fileTree}
+use Rattle.model.specs.Settings.{settingsOf, outOfRange, badZero, badSettingsLength, badSettings}
+use Rattle.model.specs.Trees.{Block, size, fileTree}
 use Rattle.model.specs.{Answers.Verdict, Answers.finished, Answers.bit}
 use Rattle.model.specs.Refusals.{Fault, sound, faulty, fault}
 use Rattle.model.specs.Replies.{turnDown, unless, reading, shortWindow, above, noRoom, fileTime, timeReply}
@@ -45,6 +46,7 @@ reads s f file next g h = rw (g, h)
 
 pub record InRange (σ : Settings) : Type 0 where
   pub positive : Positive σ
+  pub narrow : σ .window ≤ 1000000
   pub short : σ .period ≤ 1000000
 
 at-least-1 : (n : ℕ) → eqb n 0 ≡ false → 1 ≤ n
@@ -52,11 +54,12 @@ at-least-1 n e = let h = eqb-false n 0 e in omega arith
 
 pub in-range : (s : List ℕ) → badSettings s ≡ false → InRange (settingsOf s)
 unfolding badSettings
-in-range s e = go (settingsOf s) (neither (not (eqb (length s) 12)) (outOfRange (settingsOf s)) e .1)
+in-range s e = go (settingsOf s) (neither (badSettingsLength (length s)) (outOfRange (settingsOf s)) (neither _ (badZero s) e .0) .1)
   where
     go : (σ : Settings) → outOfRange σ ≡ false → InRange σ
     go σ h =
-        let h8 = neither _ (ltb 1000000 (σ .period)) h in
+        let h9 = neither _ (ltb 1000000 (σ .period)) h in
+        let h8 = neither _ (ltb 1000000 (σ .window)) (h9 .0) in
         let h7 = neither _ (eqb (σ .period) 0) (h8 .0) in
         let h6 = neither _ (eqb (σ .window) 0) (h7 .0) in
         let h5 = neither _ (eqb (σ .spacing) 0) (h6 .0) in
@@ -76,7 +79,8 @@ in-range s e = go (settingsOf s) (neither (not (eqb (length s) 12)) (outOfRange 
             spaced = at-least-1 (σ .spacing) (h5 .1);
             window-lasts = at-least-1 (σ .window) (h6 .1);
           };
-          short = ltb-false 1000000 (σ .period) (h8 .1);
+          narrow = ltb-false 1000000 (σ .window) (h8 .1);
+          short = ltb-false 1000000 (σ .period) (h9 .1);
         }
 
 pub fits : (σ : Settings) → Positive σ → shortWindow σ ≡ false → Fits σ
