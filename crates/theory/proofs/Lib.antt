@@ -2,6 +2,7 @@
 pub mod Demand2
 pub mod Demand3
 pub mod Watching
+pub mod Widened
 pub mod Bench
 -- times and runs
 pub mod Times

@@ -2,5 +2,6 @@
 pub mod Demand2
 pub mod Demand3
 pub mod Watching
+pub mod Widened
 -- for the contracts of laying out
 pub mod Windows

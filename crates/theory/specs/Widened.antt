@@ -1,0 +1,78 @@
+-- W-202, over the replies of every call that is handed settings: each part under the words that it answers. The proof is in proofs/Widened.antt.
+use Prim.Native.Nat.{ℕ, _^_, _≤_, _<_}
+use mathlib.Core.Path.{_≡_}
+use mathlib.Core.List.{List}
+use lib.ListN.{length}
+use Rattle.model.specs.Limits.{settingsLength, wideLength}
+use Rattle.model.specs.declared.Settings.{Settings}
+use Rattle.model.specs.declared.Form.{Form}
+use Rattle.model.specs.declared.Stop.{Stop}
+use Rattle.model.specs.Settings.{settingsOf, outOfRange, badSettings, wideBytes}
+use Rattle.model.specs.Replies.{timeReply, equaliseReply, equaliseOut, layOutReply, layOutOut, prepareReply, prepareOut}
+use Rattle.model.specs.Replies.{Loan, runReply, runBuffers, stopReply, stopBuffers, stopImage, resumeReply, resumeBuffers, restartReply, restartBuffers}
+use Rattle.model.specs.Chain.{Set}
+use Rattle.model.specs.Rehearsal.{chain, rehearsal}
+use Rattle.model.specs.Listing.{listStarts, printed}
+use Rattle.model.specs.Standing.{Bytes}
+
+-- "settings with equal numbers", of whichever form: judged alike, and alike number by number
+pub record SameNumbers (s t : List ℕ) : Type 0 where
+  pub judged : badSettings s ≡ badSettings t
+  pub numbers : settingsOf s ≡ settingsOf t
+
+-- all else that a run is handed, with settings s
+abbrev pub under : List ℕ → Loan → Loan
+under s c = record { settings = s; form = c .form; file = c .file; inputs = c .inputs; buffers = c .buffers }
+
+-- every call answers the same and leaves the same in each lent buffer, whatever else it is handed
+pub record SameCalls (s t : List ℕ) : Type 0 where
+  pub time : (f : Form) (file : List ℕ) → timeReply s f file ≡ timeReply t f file
+  pub equalise : (task : List ℕ) (room : ℕ) → equaliseReply s task room ≡ equaliseReply t task room
+  pub equalised : (task out : List ℕ) → equaliseOut s task out ≡ equaliseOut t task out
+  -- "must lay equal files"
+  pub lay-out : (file : List ℕ) (room : ℕ) → layOutReply s file room ≡ layOutReply t file room
+  pub laid : (file out : List ℕ) → layOutOut s file out ≡ layOutOut t file out
+  pub prepare : (task : List ℕ) (room : ℕ) → prepareReply s task room ≡ prepareReply t task room
+  pub prepared : (task out : List ℕ) → prepareOut s task out ≡ prepareOut t task out
+  pub run : (c : Loan) → runReply (under s c) ≡ runReply (under t c)
+  pub ran : (c : Loan) → runBuffers (under s c) ≡ runBuffers (under t c)
+  pub run-until : (c : Loan) (image : List ℕ) (stop : ℕ) → stopReply (under s c) image stop ≡ stopReply (under t c) image stop
+  pub stopped : (c : Loan) (image : List ℕ) (stop : ℕ) → stopBuffers (under s c) image stop ≡ stopBuffers (under t c) image stop
+  pub saved : (c : Loan) (image : List ℕ) (stop : ℕ) → stopImage (under s c) image stop ≡ stopImage (under t c) image stop
+  pub resume : (c : Loan) (image : List ℕ) → resumeReply (under s c) image ≡ resumeReply (under t c) image
+  pub resumed : (c : Loan) (image : List ℕ) → resumeBuffers (under s c) image ≡ resumeBuffers (under t c) image
+  pub restart : (c : Loan) → restartReply (under s c) ≡ restartReply (under t c)
+  pub restarted : (c : Loan) → restartBuffers (under s c) ≡ restartBuffers (under t c)
+  pub rehearse : (task : List ℕ) (x y : Set) (stop : Stop) → rehearsal stop (chain s task x y stop) ≡ rehearsal stop (chain t task x y stop)
+  pub starts : (task table : List ℕ) → listStarts s task table ≡ listStarts t task table
+  pub listing : (task : List ℕ) → printed s task ≡ printed t task
+
+-- numbers of 16 and of 32 bits, and one time for every SET
+pub record Fit (σ : Settings) : Type 0 where
+  pub set-fits : σ .set ≤ 65535
+  pub read-fits : σ .read ≤ 65535
+  pub write-fits : σ .write ≤ 65535
+  pub beat-fits : σ .beat ≤ 65535
+  pub save-fits : σ .save ≤ 65535
+  pub spacing-fits : σ .spacing ≤ 65535
+  pub window-fits : σ .window < 2 ^ 32
+  pub period-fits : σ .period < 2 ^ 32
+  pub one-time : σ .multiply ≡ σ .set
+
+-- the wide form holds these numbers, and is bad where one of them is out of range
+pub record Holds (σ : Settings) : Type 0 where
+  pub bytes : Bytes (wideBytes σ)
+  pub long : length (wideBytes σ) ≡ wideLength
+  pub numbers : settingsOf (wideBytes σ) ≡ σ
+  pub judged : badSettings (wideBytes σ) ≡ outOfRange σ
+
+-- W-202
+
+pub record Widened : Type 0 where
+  -- "Old and new settings with equal numbers must lay equal files": each call of a chain may be handed either form
+  pub same : (s t : List ℕ) → SameNumbers s t → SameCalls s t
+  -- "six 16-bit numbers (SET, READ, WRITE, BEAT, SAVE, K), then H, P and a zero, 32 bits each"
+  pub holds : (σ : Settings) → Fit σ → Holds σ
+  -- "old settings are read as wide ones"
+  pub fit : (s : List ℕ) → Bytes s → length s ≡ settingsLength → Fit (settingsOf s)
+  pub widens : (s : List ℕ) → length s ≡ settingsLength → SameNumbers s (wideBytes (settingsOf s))
