@@ -4,7 +4,7 @@ use native.Mathlib.Omega.{arith}
 use mathlib.Core.List.{List, [], _∷_}
 use lib.ListN.{set, replicate}
 use Rattle.model.specs.Runs.{Effect, nothing, assigns, outputs, beats, saves, overruns, Step, onOutputs, outputsAfter, mark}
-use Rattle.model.specs.Standing.{Bytes}
+use Rattle.model.specs.Records.{Bytes}
 
 set-bytes : (l : List ℕ) (p x : ℕ) → x < 256 → Bytes l → Bytes (set l p x)
 set-bytes [] p x h B i = B i

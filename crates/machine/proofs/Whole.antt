@@ -14,7 +14,7 @@ use Rattle.model.specs.Stopping.{upto, Image, Saved, none, lastImage, wordsFrom
 use Rattle.model.specs.Replies.{ended, badLengths, isSaved, stopRows, imageOver, afterSave, strayImage, buffersOf}
 use Rattle.model.specs.Answers.{Verdict, finished, refused, bit, kept}
 use Rattle.model.proofs.{Trees.⧺-nil}
-use Rattle.model.specs.{Placement.LoopFree, Standing.Bytes}
+use Rattle.model.specs.{Placement.LoopFree, Records.Bytes}
 use Rattle.model.proofs.Shapes.{neither}
 use Rattle.theory.proofs.{Sequences.⊳-nil, Reached.rest-reached, Stops.upto-all, Within.run-within}
 use Rattle.reading.proofs.Walking.{whole-file}

@@ -26,6 +26,10 @@ Answered cs = map (λ (c : Case). said (c .answer)) cs ≡ map (λ (c : Case). c
 abbrev rack : ℕ → ℕ → ℕ → ℕ → List ℕ
 rack n p q r = n ∷ n ∷ n ∷ n ∷ n ∷ n ∷ 20 ∷ 0 ∷ p ∷ q ∷ r ∷ 0 ∷ []
 
+-- wide ones of ticks m + 256 n, K 1, H 999,936 + h, P 1,000,000, and that zero
+abbrev wide : ℕ → ℕ → ℕ → ℕ → List ℕ
+wide m n h z = m ∷ n ∷ m ∷ n ∷ m ∷ n ∷ m ∷ n ∷ m ∷ n ∷ 1 ∷ 0 ∷ h ∷ 66 ∷ 15 ∷ 0 ∷ 64 ∷ 66 ∷ 15 ∷ 0 ∷ z ∷ 0 ∷ 0 ∷ 0 ∷ []
+
 -- a file of these rows, timed with P 1,000,000
 abbrev time : Form → List (List ℕ) → Verdict
 time f rs = timeReply (rack 3 64 66 15) f (file rs)
@@ -43,10 +47,13 @@ skips n = replicate n (row SKIP 0 0 0 0 1)
 -- on a line, at the limit and past it
 pub turns : List Case
 turns =
-    -- "settings not 12 bytes, or a number outside its range"
+    -- "a length other than 12 or 24, or a bad number"
     (timeReply (rack 1 1 0 0) Task [] says 0 ∷ 0 ∷ []) ∷ (timeReply (rack 0 1 0 0) Task [] says 6 ∷ [])
     ∷ (timeReply (rack 1 64 66 15) Task [] says 0 ∷ 0 ∷ []) ∷ (timeReply (rack 1 65 66 15) Task [] says 6 ∷ [])
-    ∷ (timeReply (junk 13) Task (junk 5) says 6 ∷ [])
+    ∷ (timeReply (junk 13) Task (junk 5) says 6 ∷ []) ∷ (timeReply (junk 25) Task (junk 5) says 6 ∷ [])
+    ∷ (timeReply (wide 255 255 64 0) Laid (bare SAVE) says 0 ∷ 65535 ∷ []) ∷ (timeReply (wide 0 0 64 0) Task [] says 6 ∷ [])
+    ∷ (timeReply (wide 0 1 64 0) Laid (bare BEAT) says 0 ∷ 256 ∷ []) ∷ (timeReply (wide 0 1 65 0) Task [] says 6 ∷ [])
+    ∷ (timeReply (wide 0 1 64 1) Task [] says 6 ∷ [])
     -- "file not whole records, or too many"
     ∷ (time Task (skips 256) says 0 ∷ 256 ∷ []) ∷ (time Task (skips 257) says 1 ∷ 3084 ∷ [])
     ∷ (time Laid (skips 5461) says 0 ∷ 5461 ∷ []) ∷ (time Equalised (skips 5462) says 1 ∷ 65544 ∷ [])

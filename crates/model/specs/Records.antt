@@ -1,5 +1,5 @@
 -- Document 01, "Records": the kinds, a record's six numbers, and records as bytes, both ways.
-use Prim.Native.Nat.{ℕ, zero, suc, _+_, _*_, _/_, _%_}
+use Prim.Native.Nat.{ℕ, zero, suc, _+_, _*_, _/_, _%_, _<_}
 use mathlib.Core.List.{List, [], _∷_, _++_}
 use lib.ListN.{length, getD, drop}
 
@@ -51,6 +51,10 @@ pub record Rec : Type 0 where
 
 abbrev pub rec : ℕ → ℕ → ℕ → ℕ → ℕ → ℕ → Rec
 rec k o t l x n = record { kind = k; op = o; target = t; left = l; value = x; count = n }
+
+-- a list of bytes
+abbrev pub Bytes : List ℕ → Type 0
+Bytes s = (i : ℕ) → getD s i 0 < 256
 
 -- "Multi-byte numbers are little-endian and unsigned": the number in the 2 or 4 bytes from at on, and the 2 or 4 bytes of a number
 abbrev pub halfAt : List ℕ → ℕ → ℕ

@@ -1,17 +1,12 @@
 -- Where a block stands in the bytes of a file. Contracts inside the crates speak of it; no reply does, so nobody has to believe it.
-use Prim.Native.Nat.{ℕ, _+_, _<_}
+use Prim.Native.Nat.{ℕ, _+_}
 use mathlib.Core.Path.{_≡_}
 use mathlib.Core.Bool.{true}
 use mathlib.Core.List.{List}
-use lib.ListN.{getD}
 use Rattle.model.specs.declared.Form.{Form}
 use Rattle.model.specs.Records.{Rec, recordAt, IF, WHILE, TIMES}
 use Rattle.model.specs.Trees.{Test, Block, nil, skip, act, branch, while, times, size, testRec, skipRec, actRec, elseRec, endRec}
 use Rattle.model.specs.Refusals.{kindFits, fieldsFit}
-
--- a list of bytes
-abbrev pub Bytes : List ℕ → Type 0
-Bytes s = (i : ℕ) → getD s i 0 < 256
 
 -- IF at i with m and n records in its sides
 pub record BranchAt (s : List ℕ) (i : ℕ) (q : Test) (m n : ℕ) : Type 0 where

@@ -4,7 +4,7 @@ ghost use Prim.Native.Nat.{_*_};
 ghost use lib.ListN.{length};
 ghost use Rattle.model.specs.Limits.{portCount, variableCount};
 ghost use Rattle.model.specs.Stopping.{words, wordsFrom};
-ghost use Rattle.model.specs.Standing.{Bytes};
+ghost use Rattle.model.specs.Records.{Bytes};
 ghost use Rattle.stepping.specs.Machines.{cellCount, held};
 ghost use Rattle.stepping.specs.Buffers.{Sized, Stored, withVariables, withOutputs};
 use crate::cells::LEVELS;

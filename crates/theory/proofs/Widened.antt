@@ -6,7 +6,7 @@ use mathlib.Core.Bool.{Bool, true, false, _||_}
 use mathlib.Core.List.{List, [], _∷_}
 use lib.ListN.{length}
 use Rattle.model.proofs.Bytes.{word-back}
-use Rattle.model.specs.{Limits.settingsLength, Settings.narrowSettings, Settings.settingsOf, Settings.outOfRange, Settings.badSettings, Settings.wideBytes, Standing.Bytes}
+use Rattle.model.specs.{Limits.settingsLength, Settings.narrowSettings, Settings.settingsOf, Settings.outOfRange, Settings.badSettings, Settings.wideBytes, Records.Bytes}
 use Rattle.model.specs.declared.{Settings.Settings, Form.Form, Stop.Stop}
 use Rattle.model.specs.Replies.{reading, timeReply, equaliseReply, equalisedTree, equaliseOut, layOutReply, laidTree, layOutOut, prepareReply, prepareOut}
 use Rattle.model.specs.Replies.{Loan, ready, stepsOf, runReply, runBuffers, imageAt, stopReply, stopBuffers, stopImage}
@@ -14,7 +14,7 @@ use Rattle.model.specs.Replies.{takenUp, takenBuffers, resumeReply, resumeBuffe
 use Rattle.model.specs.Chain.{Set, End, equalisedFile, preparedLoan, plainLoan, plainEndOne, outputsLeft, again}
 use Rattle.model.specs.{Limits.fileLength, Answers.valueAt, Rehearsal.chain, Rehearsal.room, Rehearsal.rehearsal, Rehearsal.wholeOf, Rehearsal.stoppedOf}
 use Rattle.model.specs.{Listing.listStarts, Listing.printed}
-use Rattle.theory.specs.Widened.{SameNumbers, Fit, Widened, under}
+use Rattle.theory.specs.Widened.{SameNumbers, FitsWide, Widened, under}
 
 module _ (s t : List ℕ) (h : SameNumbers s t) where
   time : (f : Form) (file : List ℕ) → timeReply s f file ≡ timeReply t f file
@@ -195,7 +195,7 @@ word-small : (n : ℕ) {A : Type 0} → n < 2 ^ 32 → A
     → (n % 256 < 256) × ((n / 256 % 256 < 256) × ((n / 256 / 256 % 256 < 256) × ((n / 256 / 256 / 256 < 256) × A)))
 word-small n h k = (omega arith, (omega arith, (omega arith, (omega arith, k))))
 
-wide-bytes : (σ : Settings) → Fit σ → Bytes (wideBytes σ)
+wide-bytes : (σ : Settings) → FitsWide σ → Bytes (wideBytes σ)
 unfolding wideBytes
 wide-bytes σ F =
     small-bytes (wideBytes σ)
@@ -220,8 +220,8 @@ module _ (s : List ℕ) (twelve : length s ≡ settingsLength) where
   unfolding badSettings
   judged = rw (twelve) (or-false (outOfRange (settingsOf s)))
 
-  pub fit : Bytes s → Fit (settingsOf s)
-  fit b = rw is-narrow (record {
+  pub narrow-fits : Bytes s → FitsWide (settingsOf s)
+  narrow-fits b = rw is-narrow (record {
     set-fits = let h = b 0 in omega arith;
     read-fits = let h = b 1 in omega arith;
     write-fits = let h = b 2 in omega arith;
@@ -269,6 +269,6 @@ widened = record {
     numbers = numbers-back σ (F .one-time);
     judged = judged-back σ (F .one-time);
   };
-  fit = λ s b twelve. fit s twelve b;
+  narrow-fits = λ s b twelve. narrow-fits s twelve b;
   widens = widens;
 }

@@ -7,13 +7,13 @@ use Rattle.model.specs.Limits.{settingsLength, wideLength}
 use Rattle.model.specs.declared.Settings.{Settings}
 use Rattle.model.specs.declared.Form.{Form}
 use Rattle.model.specs.declared.Stop.{Stop}
+use Rattle.model.specs.Records.{Bytes}
 use Rattle.model.specs.Settings.{settingsOf, outOfRange, badSettings, wideBytes}
 use Rattle.model.specs.Replies.{timeReply, equaliseReply, equaliseOut, layOutReply, layOutOut, prepareReply, prepareOut}
 use Rattle.model.specs.Replies.{Loan, runReply, runBuffers, stopReply, stopBuffers, stopImage, resumeReply, resumeBuffers, restartReply, restartBuffers}
 use Rattle.model.specs.Chain.{Set}
 use Rattle.model.specs.Rehearsal.{chain, rehearsal}
 use Rattle.model.specs.Listing.{listStarts, printed}
-use Rattle.model.specs.Standing.{Bytes}
 
 -- "settings with equal numbers", of whichever form: judged alike, and alike number by number
 pub record SameNumbers (s t : List ℕ) : Type 0 where
@@ -48,7 +48,7 @@ pub record SameCalls (s t : List ℕ) : Type 0 where
   pub listing : (task : List ℕ) → printed s task ≡ printed t task
 
 -- numbers of 16 and of 32 bits, and one time for every SET
-pub record Fit (σ : Settings) : Type 0 where
+pub record FitsWide (σ : Settings) : Type 0 where
   pub set-fits : σ .set ≤ 65535
   pub read-fits : σ .read ≤ 65535
   pub write-fits : σ .write ≤ 65535
@@ -72,7 +72,7 @@ pub record Widened : Type 0 where
   -- "Old and new settings with equal numbers must lay equal files": each call of a chain may be handed either form
   pub same : (s t : List ℕ) → SameNumbers s t → SameCalls s t
   -- "six 16-bit numbers (SET, READ, WRITE, BEAT, SAVE, K), then H, P and a zero, 32 bits each"
-  pub holds : (σ : Settings) → Fit σ → Holds σ
+  pub holds : (σ : Settings) → FitsWide σ → Holds σ
   -- "old settings are read as wide ones"
-  pub fit : (s : List ℕ) → Bytes s → length s ≡ settingsLength → Fit (settingsOf s)
+  pub narrow-fits : (s : List ℕ) → Bytes s → length s ≡ settingsLength → FitsWide (settingsOf s)
   pub widens : (s : List ℕ) → length s ≡ settingsLength → SameNumbers s (wideBytes (settingsOf s))
