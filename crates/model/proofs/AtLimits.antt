@@ -1,9 +1,9 @@
--- Document 01, "Why a call is turned down", rows 8 to 12: what the calls answer at the limits and past them. Row 7 is tasks F and G.
+-- Document 01, "Why a call is turned down", rows 7 to 12: what the calls answer at the limits and past them. For row 7 see tasks F and G too.
 use Prim.Native.Nat.{ℕ}
 use mathlib.Core.{Path.refl, List.List, List.[], List._∷_}
 use lib.ListN.{replicate}
 use Rattle.model.specs.declared.Form.the-variants.{Task, Laid}
-use Rattle.model.specs.Records.{firstRecords, records, bytes, SKIP, BEAT, SAVE}
+use Rattle.model.specs.Records.{firstRecords, records, bytes, SKIP, READ, WRITE, BEAT, SAVE}
 use Rattle.model.specs.{Settings.settingsOf, Settings.badSettings, Runs.effect, Equalising.equalise, Chain.lend}
 use Rattle.model.specs.Trees.{linearise, stackOf, treeOf, fileTree}
 use Rattle.model.specs.Layout.{before, lastValue, layout, total}
@@ -20,6 +20,13 @@ rack = settings 20 100
 abbrev waits : ℕ → List ℕ
 waits n = file (row SKIP 0 0 0 0 n ∷ [])
 
+-- W-202: "take 900 ticks to set a level", with the other ticks as ever, K 2, H 768 + h, P 5,000; a probe copied to a port
+abbrev slow : ℕ → List ℕ
+slow h = 3 ∷ 0 ∷ 3 ∷ 0 ∷ 132 ∷ 3 ∷ 3 ∷ 0 ∷ 10 ∷ 0 ∷ 2 ∷ 0 ∷ h ∷ 3 ∷ 0 ∷ 0 ∷ 136 ∷ 19 ∷ 0 ∷ 0 ∷ 0 ∷ 0 ∷ 0 ∷ 0 ∷ []
+
+abbrev copies : List ℕ
+copies = file (row READ 0 0 0 0 0 ∷ row WRITE 0 0 0 0 0 ∷ [])
+
 -- task A laid out, with buffers of these lengths, and of the table's
 abbrev lent : ℕ → ℕ → ℕ → ℕ → Loan
 lent v i l m =
@@ -35,8 +42,10 @@ image i t = imageBytes (record { index = i; tick = t; variables = replicate 16 0
 -- on a line, at the limit and past it
 pub limits : List Case
 limits =
+    -- "H below B + S + the longest of SET, READ, WRITE": with H 913 the WRITE waits for the second window, and ends at 1,816
+    (prepareReply (slow 145) copies 96 says 0 ∷ 96 ∷ 1829 ∷ []) ∷ (prepareReply (slow 144) copies 96 says 7 ∷ [])
     -- "the file's time, or the total laid out, above P"
-    (timeReply rack Task (waits 100) says 0 ∷ 100 ∷ []) ∷ (timeReply rack Task (waits 101) says 8 ∷ [])
+    ∷ (timeReply rack Task (waits 100) says 0 ∷ 100 ∷ []) ∷ (timeReply rack Task (waits 101) says 8 ∷ [])
     ∷ (layOutReply (settings 20 23) [] 48 says 0 ∷ 48 ∷ 23 ∷ []) ∷ (layOutReply (settings 20 22) [] 48 says 8 ∷ [])
     -- "result longer than the lent buffer"
     ∷ (equaliseReply rack (waits 100) 12 says 0 ∷ 12 ∷ 100 ∷ []) ∷ (equaliseReply rack (waits 100) 11 says 9 ∷ [])

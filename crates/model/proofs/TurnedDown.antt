@@ -30,6 +30,21 @@ rack n p q r = n ∷ n ∷ n ∷ n ∷ n ∷ n ∷ 20 ∷ 0 ∷ p ∷ q ∷ r �
 abbrev wide : ℕ → ℕ → ℕ → ℕ → List ℕ
 wide m n h z = m ∷ n ∷ m ∷ n ∷ m ∷ n ∷ m ∷ n ∷ m ∷ n ∷ 1 ∷ 0 ∷ h ∷ 66 ∷ 15 ∷ 0 ∷ 64 ∷ 66 ∷ 15 ∷ 0 ∷ z ∷ 0 ∷ 0 ∷ 0 ∷ []
 
+-- each number of the wide form at its place, the lowest byte first
+pub wide-places : settingsOf (1 ∷ 2 ∷ 3 ∷ 4 ∷ 5 ∷ 6 ∷ 7 ∷ 8 ∷ 9 ∷ 10 ∷ 11 ∷ 12 ∷ 13 ∷ 14 ∷ 15 ∷ 16 ∷ 17 ∷ 18 ∷ 19 ∷ 20 ∷ 0 ∷ 0 ∷ 0 ∷ 0 ∷ []) ≡ record {
+  set = 513;
+  read = 1027;
+  write = 1541;
+  beat = 2055;
+  save = 2569;
+  multiply = 513;
+  spacing = 3083;
+  window = 269422093;
+  period = 336794129;
+}
+unfolding settingsOf
+wide-places = refl
+
 -- a file of these rows, timed with P 1,000,000
 abbrev time : Form → List (List ℕ) → Verdict
 time f rs = timeReply (rack 3 64 66 15) f (file rs)

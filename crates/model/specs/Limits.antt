@@ -38,14 +38,14 @@ mostTicks = 1000000
 abbrev pub mostRounds : ℕ
 mostRounds = 65535
 
--- W-202: "a length other than 12 or 24" is turned down, of settings
-abbrev pub settingsLength : ℕ
-settingsLength = 12
+-- W-202: settings of "a length other than 12 or 24" are turned down
+abbrev pub narrowLength : ℕ
+narrowLength = 12
 
 abbrev pub wideLength : ℕ
 wideLength = 24
 
--- "image buffer not 72 bytes" is turned down
+-- an "image buffer not 72 bytes" is turned down
 abbrev pub imageLength : ℕ
 imageLength = 72
 

@@ -39,7 +39,7 @@ shortWindow σ = ltb (σ .window) (σ .beat + σ .save + longest σ)
 abbrev pub above : Settings → ℕ → Bool
 above σ t = ltb (σ .period) t
 
--- "result longer than the lent buffer or than 5,461 records" (row 9), for a result of n records and a buffer of that many bytes
+-- "result longer than the lent buffer or than 5,461 records" (row 9), for a result of n records and a buffer of `room` bytes
 abbrev pub noRoom : ℕ → ℕ → Bool
 noRoom room n = ltb room (12 * n) || ltb fileRecords n
 

@@ -19,8 +19,8 @@ pub const BY_VARIABLE: u8 = 16;
 pub const MOST_TICKS: u32 = 1000000;
 
 pub const MOST_ROUNDS: u32 = 65535;
-// The bytes of settings, in the first form and in the wide one, and of an image.
-pub const SETTINGS_LENGTH: usize = 12;
+// The bytes of narrow and of wide settings, and of an image.
+pub const NARROW_LENGTH: usize = 12;
 
 pub const WIDE_LENGTH: usize = 24;
 

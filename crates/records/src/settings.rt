@@ -2,7 +2,7 @@
 ghost use mathlib.Core.Path.{_≡_};
 ghost use mathlib.Core.Bool.{false};
 ghost use lib.ListN.{length};
-ghost use Rattle.model.specs.Limits.{settingsLength, wideLength};
+ghost use Rattle.model.specs.Limits.{narrowLength, wideLength};
 ghost use Rattle.model.specs.Settings.{narrowSettings, wideSettings, settingsOf, outOfRange, badZero, badSettingsLength};
 ghost use Rattle.records.specs.Decoded.{Decodes};
 use crate::words::half_at;
@@ -11,7 +11,7 @@ use crate::words::word_at;
 use model::Refusal;
 use model::Settings;
 use model::limits::MOST_TICKS;
-use model::limits::SETTINGS_LENGTH;
+use model::limits::NARROW_LENGTH;
 use model::limits::WIDE_LENGTH;
 
 // The settings, or why a call that is handed them is turned down.
@@ -23,12 +23,12 @@ pub enum Decoded {
 fn bad_length(n: usize) -> bool
     ensures { λ r. ⌜ r ≡ badSettingsLength n ⌝ }
 {
-    (n != SETTINGS_LENGTH) & (n != WIDE_LENGTH)
+    (n != NARROW_LENGTH) & (n != WIDE_LENGTH)
 }
 
 // The numbers in 12 bytes of settings.
 fn narrow_numbers(settings: &[u8]) -> Settings
-    requires { ⌜ length (now settings) ≡ settingsLength ⌝ }
+    requires { ⌜ length (now settings) ≡ narrowLength ⌝ }
     ensures { λ r. ⌜ r ≡ narrowSettings (now (settings .entry)) ⌝ }
 {
     Settings {

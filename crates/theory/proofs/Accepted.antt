@@ -46,6 +46,7 @@ reads s f file next g h = rw (g, h)
 
 pub record InRange (σ : Settings) : Type 0 where
   pub positive : Positive σ
+  pub lasts : 1 ≤ σ .period
   pub narrow : σ .window ≤ 1000000
   pub short : σ .period ≤ 1000000
 
@@ -79,6 +80,7 @@ in-range s e = go (settingsOf s) (neither (badSettingsLength (length s)) (outOfR
             spaced = at-least-1 (σ .spacing) (h5 .1);
             window-lasts = at-least-1 (σ .window) (h6 .1);
           };
+          lasts = at-least-1 (σ .period) (h7 .1);
           narrow = ltb-false 1000000 (σ .window) (h8 .1);
           short = ltb-false 1000000 (σ .period) (h9 .1);
         }

@@ -3,6 +3,7 @@ pub mod Demand2
 pub mod Demand3
 pub mod Watching
 pub mod Widened
+pub mod Mixing
 pub mod Bench
 -- times and runs
 pub mod Times
@@ -45,6 +46,7 @@ pub mod Prepared
 pub mod Preparing
 pub mod Ends
 pub mod Reached
+pub mod SameCalls
 -- the watcher
 pub mod WatchRules
 pub mod WatchTables

@@ -1,157 +1,87 @@
--- W-202: what a call is handed as settings counts only by how it is judged and by its numbers, and the wide form holds each number.
+-- W-202: which settings are taken, that the wide form holds each number, and that equal numbers are judged alike.
 use Prim.Native.Nat.{ℕ, zero, suc, _+_, _*_, _/_, _%_, _^_, _≤_, _<_}
 use native.Mathlib.Omega.{arith}
-use mathlib.Core.Path.{_≡_, refl, sym, _∙_}
-use mathlib.Core.Bool.{Bool, true, false, _||_}
+use mathlib.Core.Path.{_≡_, refl, ap, sym, _∙_}
+use mathlib.Core.{Logic._↔_, Logic.inl, Logic.inr, Logic.⊎-elim}
+use mathlib.Core.Bool.{Bool, true, false, not, _||_}
 use mathlib.Core.List.{List, [], _∷_}
-use lib.ListN.{length}
-use Rattle.model.proofs.Bytes.{word-back}
-use Rattle.model.specs.{Limits.settingsLength, Settings.narrowSettings, Settings.settingsOf, Settings.outOfRange, Settings.badSettings, Settings.wideBytes, Records.Bytes}
-use Rattle.model.specs.declared.{Settings.Settings, Form.Form, Stop.Stop}
-use Rattle.model.specs.Replies.{reading, timeReply, equaliseReply, equalisedTree, equaliseOut, layOutReply, laidTree, layOutOut, prepareReply, prepareOut}
-use Rattle.model.specs.Replies.{Loan, ready, stepsOf, runReply, runBuffers, imageAt, stopReply, stopBuffers, stopImage}
-use Rattle.model.specs.Replies.{takenUp, takenBuffers, resumeReply, resumeBuffers, restartReply, restartBuffers}
-use Rattle.model.specs.Chain.{Set, End, equalisedFile, preparedLoan, plainLoan, plainEndOne, outputsLeft, again}
-use Rattle.model.specs.{Limits.fileLength, Answers.valueAt, Rehearsal.chain, Rehearsal.room, Rehearsal.rehearsal, Rehearsal.wholeOf, Rehearsal.stoppedOf}
-use Rattle.model.specs.{Listing.listStarts, Listing.printed}
-use Rattle.theory.specs.Widened.{SameNumbers, FitsWide, Widened, under}
+use lib.{Dec.eqb, Dec.leb, ListN.length, ListN.getD, ListN.take, Seq.take-all, Seq.length-take-le, Seq.getD-take}
+use borrow.Author.Tests.{eqb-true, ne-eqb, not-false, le-ltb, leb-true, leb-false}
+use Rattle.model.specs.{Limits.mostTicks, Limits.narrowLength, Limits.wideLength, Placement.Positive}
+use Rattle.model.specs.declared.Settings.{Settings}
+use Rattle.model.specs.Records.{Bytes, wordAt}
+use Rattle.model.specs.Settings.{narrowSettings, wideSettings, settingsOf, outOfRange, badZero, badSettingsLength, badSettings, wideBytes}
+use Rattle.model.proofs.{Bytes.word-back, Shapes.neither, Shapes.and-false}
+use Rattle.theory.specs.Widened.{Formed, Good, FitsWide, Alike, Widened}
+use Rattle.theory.proofs.{Accepted.in-range, SameCalls.same-calls}
 
-module _ (s t : List ℕ) (h : SameNumbers s t) where
-  time : (f : Form) (file : List ℕ) → timeReply s f file ≡ timeReply t f file
-  unfolding timeReply reading
-  time f file = rw (h .judged, h .numbers)
+-- EITHER FORM
 
-  equalise : (task : List ℕ) (room : ℕ) → equaliseReply s task room ≡ equaliseReply t task room
-  unfolding equaliseReply reading
-  equalise task room = rw (h .judged, h .numbers)
+is-narrow : (s : List ℕ) → length s ≡ narrowLength → settingsOf s ≡ narrowSettings s
+unfolding settingsOf
+is-narrow s twelve = rw twelve
 
-  equalised : (task out : List ℕ) → equaliseOut s task out ≡ equaliseOut t task out
-  unfolding equaliseOut equalisedTree
-  equalised task out = rw (equalise task (length out), h .numbers)
+is-wide : (s : List ℕ) → length s ≡ wideLength → settingsOf s ≡ wideSettings s
+unfolding settingsOf
+is-wide s long = rw long
 
-  lay-out : (file : List ℕ) (room : ℕ) → layOutReply s file room ≡ layOutReply t file room
-  unfolding layOutReply reading
-  lay-out file room = rw (h .judged, h .numbers)
+or-false : (o : Bool) → (o || false) ≡ o
+or-false true = refl
+or-false false = refl
 
-  laid : (file out : List ℕ) → layOutOut s file out ≡ layOutOut t file out
-  unfolding layOutOut laidTree
-  laid file out = rw (lay-out file (length out), h .numbers)
+-- of settings that are formed well, the numbers decide
+by-numbers : (s : List ℕ) → Formed s → badSettings s ≡ outOfRange (settingsOf s)
+unfolding badSettings
+by-numbers s (inl twelve) = rw twelve (or-false (outOfRange (settingsOf s)))
+by-numbers s (inr f) = rw (f .0, f .1) (or-false (outOfRange (settingsOf s)))
 
-  prepare : (task : List ℕ) (room : ℕ) → prepareReply s task room ≡ prepareReply t task room
-  unfolding prepareReply equalisedTree
-  prepare task room = rw (equalise task fileLength, h .numbers, lay-out _ room)
+formed : (s : List ℕ) → badSettingsLength (length s) ≡ false → badZero s ≡ false → Formed s
+formed s a z = ⊎-elim (λ e. inl (eqb-true (length s) narrowLength (not-false _ e)))
+    (λ e. let long = eqb-true (length s) wideLength (not-false _ e) in inr (long, eqb-true (wordAt s 20) 0 (not-false _ (rw long at z))))
+    (and-false (not (eqb (length s) narrowLength)) (not (eqb (length s) wideLength)) a)
 
-  prepared : (task out : List ℕ) → prepareOut s task out ≡ prepareOut t task out
-  unfolding prepareOut equalisedTree laidTree
-  prepared task out = rw (prepare task (length out), h .numbers)
+-- WHICH ARE TAKEN
 
-  -- RUNS
+good-numbers : (s : List ℕ) → badSettings s ≡ false → Formed s
+unfolding badSettings
+good-numbers s e =
+    let p = neither (badSettingsLength (length s) || outOfRange (settingsOf s)) (badZero s) e in
+    formed s (neither (badSettingsLength (length s)) (outOfRange (settingsOf s)) (p .0) .0) (p .1)
 
-  run : (c : Loan) → runReply (under s c) ≡ runReply (under t c)
-  unfolding runReply ready reading stepsOf
-  run c = rw (h .judged, h .numbers)
+in-limits : (σ : Settings) → Positive σ → 1 ≤ σ .period → σ .window ≤ mostTicks → σ .period ≤ mostTicks → outOfRange σ ≡ false
+in-limits σ P l w p =
+    rw (
+      lasts (P .set-lasts),
+      lasts (P .read-lasts),
+      lasts (P .write-lasts),
+      lasts (P .beat-lasts),
+      lasts (P .save-lasts),
+      lasts (P .multiply-lasts),
+      lasts (P .spaced),
+      lasts (P .window-lasts),
+      lasts l,
+      le-ltb mostTicks (σ .window) w,
+      le-ltb mostTicks (σ .period) p,
+    )
+  where
+    lasts : {n : ℕ} → 1 ≤ n → eqb n 0 ≡ false
+    lasts {n} h = ne-eqb n 0 (λ e. omega arith)
 
-  ran : (c : Loan) → runBuffers (under s c) ≡ runBuffers (under t c)
-  unfolding runBuffers stepsOf
-  ran c = rw (run c, h .numbers)
+good : (s : List ℕ) → (badSettings s ≡ false) ↔ Good s
+good s = (there, back)
+  where
+    there : badSettings s ≡ false → Good s
+    there e =
+        let I = in-range s e in
+        record { formed = good-numbers s e; positive = I .positive; period-lasts = I .lasts; window-limit = I .narrow; period-limit = I .short }
 
-  run-until : (c : Loan) (image : List ℕ) (stop : ℕ) → stopReply (under s c) image stop ≡ stopReply (under t c) image stop
-  unfolding stopReply ready reading stepsOf
-  run-until c image stop = rw (h .judged, h .numbers)
-
-  stopped : (c : Loan) (image : List ℕ) (stop : ℕ) → stopBuffers (under s c) image stop ≡ stopBuffers (under t c) image stop
-  unfolding stopBuffers stepsOf
-  stopped c image stop = rw (run-until c image stop, h .numbers)
-
-  saved : (c : Loan) (image : List ℕ) (stop : ℕ) → stopImage (under s c) image stop ≡ stopImage (under t c) image stop
-  unfolding stopImage imageAt stepsOf
-  saved c image stop = rw (run-until c image stop, h .numbers)
-
-  resume : (c : Loan) (image : List ℕ) → resumeReply (under s c) image ≡ resumeReply (under t c) image
-  unfolding resumeReply ready reading takenUp
-  resume c image = rw (h .judged, h .numbers)
-
-  resumed : (c : Loan) (image : List ℕ) → resumeBuffers (under s c) image ≡ resumeBuffers (under t c) image
-  unfolding resumeBuffers takenBuffers takenUp
-  resumed c image = rw (resume c image, h .numbers)
-
-  restart : (c : Loan) → restartReply (under s c) ≡ restartReply (under t c)
-  unfolding restartReply ready reading takenUp
-  restart c = rw (h .judged, h .numbers)
-
-  restarted : (c : Loan) → restartBuffers (under s c) ≡ restartBuffers (under t c)
-  unfolding restartBuffers takenBuffers takenUp
-  restarted c = rw (restart c, h .numbers)
-
-  -- LISTINGS
-
-  starts : (task table : List ℕ) → listStarts s task table ≡ listStarts t task table
-  unfolding listStarts equalisedTree laidTree
-  starts task table = rw (prepare task fileLength, h .numbers)
-
-  listing : (task : List ℕ) → printed s task ≡ printed t task
-  unfolding printed equalisedTree laidTree
-  listing task = rw (prepare task fileLength, h .numbers)
-
-  -- THE CHAIN
-
-  whole-alike : (a : End) (n : ℕ) (c : Loan) → wholeOf a n (under s c) ≡ wholeOf a n (under t c)
-  whole-alike a n c = rw (run c, ran c)
-
-  stopped-alike : (a : End) (n : ℕ) (c : Loan) (image spare : List ℕ) (stop : ℕ)
-      → stoppedOf a n (under s c) image spare stop ≡ stoppedOf a n (under t c) image spare stop
-  stopped-alike a n c image spare stop =
-      let o = outputsLeft (under t c) image stop in
-      let m = stopImage (under t c) image stop in
-      rw (
-        run-until c image stop,
-        stopped c image stop,
-        saved c image stop,
-        resume (again c spare o) m,
-        resumed (again c spare o) m,
-        restart (again c (c .buffers .variables) o),
-        restarted (again c (c .buffers .variables) o),
-      )
-
-  rehearse : (task : List ℕ) (x y : Set) (stop : Stop) → rehearsal stop (chain s task x y stop) ≡ rehearsal stop (chain t task x y stop)
-  unfolding rehearsal
-  rehearse task x y stop = go stop
-    where
-      go : (z : Stop) → rehearsal z (chain s task x y z) ≡ rehearsal z (chain t task x y z)
-      go Stop.Never =
-          let k = chain t task x y Stop.Never in
-          let one = plainLoan k (k .one) (k .plainOne) in
-          rw (
-            equalise task (length room),
-            equalised task room,
-            lay-out (equalisedFile k) (length room),
-            laid (equalisedFile k) room,
-            run one,
-            ran one,
-            whole-alike (plainEndOne k) (valueAt 1 (layOutReply t (equalisedFile k) (length room))) (preparedLoan k (k .whole)),
-          )
-      go (Stop.At c) =
-          let k = chain t task x y (Stop.At c) in
-          let one = plainLoan k (k .one) (k .plainOne) in
-          rw (
-            equalise task (length room),
-            equalised task room,
-            lay-out (equalisedFile k) (length room),
-            laid (equalisedFile k) room,
-            run one,
-            ran one,
-            stopped-alike (plainEndOne k) (valueAt 1 (layOutReply t (equalisedFile k) (length room))) (preparedLoan k (k .stopped))
-                (k .image) (k .spare) c,
-          )
+    back : Good s → badSettings s ≡ false
+    back G = by-numbers s (G .formed) ∙ in-limits (settingsOf s) (G .positive) (G .period-lasts) (G .window-limit) (G .period-limit)
 
 -- THE WIDE FORM
 
 half-back : (n : ℕ) → n % 256 + 256 * (n / 256) ≡ n
 half-back n = omega arith
-
-or-false : (o : Bool) → (o || false) ≡ o
-or-false true = refl
-or-false false = refl
 
 numbers-back : (σ : Settings) → σ .multiply ≡ σ .set → settingsOf (wideBytes σ) ≡ σ
 unfolding settingsOf wideBytes
@@ -168,13 +98,9 @@ numbers-back σ one =
       ← one,
     )
 
-judged-back : (σ : Settings) → σ .multiply ≡ σ .set → badSettings (wideBytes σ) ≡ outOfRange σ
-unfolding badSettings wideBytes
-judged-back σ one = rw (numbers-back σ one) (or-false (outOfRange σ))
-
-long : (σ : Settings) → length (wideBytes σ) ≡ 24
+wide-formed : (σ : Settings) → (length (wideBytes σ) ≡ wideLength) × (wordAt (wideBytes σ) 20 ≡ 0)
 unfolding wideBytes
-long σ = refl
+wide-formed σ = (refl, refl)
 
 -- BYTES
 
@@ -209,66 +135,85 @@ wide-bytes σ F =
     (word-small (σ .period) (F .period-fits)
     (word-small 0 (omega arith) tt)))))))))
 
--- 12 BYTES
+-- what bytes hold
+fits : (s : List ℕ) → Bytes s → Formed s → FitsWide (settingsOf s)
+fits s b (inl twelve) = rw (is-narrow s twelve) (record {
+  set-fits = omega (arith, b 0);
+  read-fits = omega (arith, b 1);
+  write-fits = omega (arith, b 2);
+  beat-fits = omega (arith, b 3);
+  save-fits = omega (arith, b 4);
+  spacing-fits = omega (arith, b 5);
+  window-fits = omega (arith, b 6, b 7);
+  period-fits = omega (arith, b 8, b 9, b 10, b 11);
+  one-time = refl;
+})
+fits s b (inr f) = rw (is-wide s (f .0)) (record {
+  set-fits = omega (arith, b 0, b 1);
+  read-fits = omega (arith, b 2, b 3);
+  write-fits = omega (arith, b 4, b 5);
+  beat-fits = omega (arith, b 6, b 7);
+  save-fits = omega (arith, b 8, b 9);
+  spacing-fits = omega (arith, b 10, b 11);
+  window-fits = omega (arith, b 12, b 13, b 14, b 15);
+  period-fits = omega (arith, b 16, b 17, b 18, b 19);
+  one-time = refl;
+})
 
-module _ (s : List ℕ) (twelve : length s ≡ settingsLength) where
-  is-narrow : settingsOf s ≡ narrowSettings s
-  unfolding settingsOf
-  is-narrow = rw (twelve)
+-- ALIKE
 
-  judged : badSettings s ≡ outOfRange (settingsOf s)
-  unfolding badSettings
-  judged = rw (twelve) (or-false (outOfRange (settingsOf s)))
+equal-numbers : (s t : List ℕ) → Formed s → Formed t → settingsOf s ≡ settingsOf t → Alike s t
+equal-numbers s t f g e = record { judged = by-numbers s f ∙ ap outOfRange e ∙ sym (by-numbers t g); numbers = e }
 
-  pub narrow-fits : Bytes s → FitsWide (settingsOf s)
-  narrow-fits b = rw is-narrow (record {
-    set-fits = let h = b 0 in omega arith;
-    read-fits = let h = b 1 in omega arith;
-    write-fits = let h = b 2 in omega arith;
-    beat-fits = let h = b 3 in omega arith;
-    save-fits = let h = b 4 in omega arith;
-    spacing-fits = let h = b 5 in omega arith;
-    window-fits = omega (arith, b 6, b 7);
-    period-fits = omega (arith, b 8, b 9, b 10, b 11);
-    one-time = refl;
-  })
+widens : (s : List ℕ) → length s ≡ narrowLength → Alike s (wideBytes (settingsOf s))
+widens s twelve =
+    let one : settingsOf s .multiply ≡ settingsOf s .set = rw (is-narrow s twelve) in
+    equal-numbers s (wideBytes (settingsOf s)) (inl twelve) (inr (wide-formed (settingsOf s))) (sym (numbers-back (settingsOf s) one))
 
-  pub widens : SameNumbers s (wideBytes (settingsOf s))
-  widens =
-      let one : settingsOf s .multiply ≡ settingsOf s .set = rw is-narrow in
-      record { judged = judged ∙ sym (judged-back (settingsOf s) one); numbers = sym (numbers-back (settingsOf s) one) }
+-- a file of more than 24 bytes is no settings, however much of it is read
+too-long : (s t : List ℕ) → 25 ≤ length s → 25 ≤ length t → narrowSettings s ≡ narrowSettings t → Alike s t
+unfolding badSettings settingsOf
+too-long s t l m e =
+    let a = ne-eqb (length s) narrowLength (λ q. omega arith) in
+    let b = ne-eqb (length s) wideLength (λ q. omega arith) in
+    let c = ne-eqb (length t) narrowLength (λ q. omega arith) in
+    let d = ne-eqb (length t) wideLength (λ q. omega arith) in
+    record { judged = rw (a, b, c, d); numbers = rw (b, d) e }
 
--- W-202
+enough : (s : List ℕ) (n : ℕ) → 25 ≤ n → Alike (take n s) s
+enough s n h = go (leb (length s) n) refl
+  where
+    there : (i : ℕ) → i < n → getD (take n s) i 0 ≡ getD s i 0
+    there i l = getD-take n s i 0 l
+
+    go : (b : Bool) → leb (length s) n ≡ b → Alike (take n s) s
+    go true e = let w = take-all n s (leb-true (length s) n e) in record { judged = ap badSettings w; numbers = ap settingsOf w }
+    go false e =
+        let l = leb-false (length s) n e in
+        let k = length-take-le n s (omega arith) in
+        too-long (take n s) s (omega arith) (omega arith)
+        (rw (
+          there 0 (omega arith),
+          there 1 (omega arith),
+          there 2 (omega arith),
+          there 3 (omega arith),
+          there 4 (omega arith),
+          there 5 (omega arith),
+          there 6 (omega arith),
+          there 7 (omega arith),
+          there 8 (omega arith),
+          there 9 (omega arith),
+          there 10 (omega arith),
+          there 11 (omega arith),
+        ))
 
 pub widened : Widened
 widened = record {
-  same = λ s t h. record {
-    time = time s t h;
-    equalise = equalise s t h;
-    equalised = equalised s t h;
-    lay-out = lay-out s t h;
-    laid = laid s t h;
-    prepare = prepare s t h;
-    prepared = prepared s t h;
-    run = run s t h;
-    ran = ran s t h;
-    run-until = run-until s t h;
-    stopped = stopped s t h;
-    saved = saved s t h;
-    resume = resume s t h;
-    resumed = resumed s t h;
-    restart = restart s t h;
-    restarted = restarted s t h;
-    rehearse = rehearse s t h;
-    starts = starts s t h;
-    listing = listing s t h;
-  };
-  holds = λ σ F. record {
-    bytes = wide-bytes σ F;
-    long = long σ;
-    numbers = numbers-back σ (F .one-time);
-    judged = judged-back σ (F .one-time);
-  };
-  narrow-fits = λ s b twelve. narrow-fits s twelve b;
+  good = good;
+  fits = fits;
+  holds = λ σ F. record { bytes = wide-bytes σ F; formed = wide-formed σ; numbers = numbers-back σ (F .one-time) };
+  equal-numbers = equal-numbers;
+  same = same-calls;
   widens = widens;
+  enough = enough;
 }

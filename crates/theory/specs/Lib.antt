@@ -3,5 +3,6 @@ pub mod Demand2
 pub mod Demand3
 pub mod Watching
 pub mod Widened
+pub mod Mixing
 -- for the contracts of laying out
 pub mod Windows

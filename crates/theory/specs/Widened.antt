@@ -1,22 +1,59 @@
 -- W-202, over the replies of every call that is handed settings: each part under the words that it answers. The proof is in proofs/Widened.antt.
 use Prim.Native.Nat.{ℕ, _^_, _≤_, _<_}
 use mathlib.Core.Path.{_≡_}
+use mathlib.Core.Logic.{_↔_, _⊎_}
+use mathlib.Core.Bool.{false}
 use mathlib.Core.List.{List}
-use lib.ListN.{length}
-use Rattle.model.specs.Limits.{settingsLength, wideLength}
+use lib.ListN.{length, take}
+use Rattle.model.specs.Limits.{mostTicks, narrowLength, wideLength}
+use Rattle.model.specs.Records.{Bytes, wordAt}
 use Rattle.model.specs.declared.Settings.{Settings}
 use Rattle.model.specs.declared.Form.{Form}
 use Rattle.model.specs.declared.Stop.{Stop}
-use Rattle.model.specs.Records.{Bytes}
-use Rattle.model.specs.Settings.{settingsOf, outOfRange, badSettings, wideBytes}
+use Rattle.model.specs.Settings.{settingsOf, badSettings, wideBytes}
+use Rattle.model.specs.Placement.{Positive}
 use Rattle.model.specs.Replies.{timeReply, equaliseReply, equaliseOut, layOutReply, layOutOut, prepareReply, prepareOut}
 use Rattle.model.specs.Replies.{Loan, runReply, runBuffers, stopReply, stopBuffers, stopImage, resumeReply, resumeBuffers, restartReply, restartBuffers}
 use Rattle.model.specs.Chain.{Set}
 use Rattle.model.specs.Rehearsal.{chain, rehearsal}
 use Rattle.model.specs.Listing.{listStarts, printed}
 
--- "settings with equal numbers", of whichever form: judged alike, and alike number by number
-pub record SameNumbers (s t : List ℕ) : Type 0 where
+-- WHICH SETTINGS ARE TAKEN
+
+-- "a length other than 12 or 24" is refused, and so is another number than the zero
+abbrev pub Formed : List ℕ → Type 0
+Formed s = (length s ≡ narrowLength) ⊎ ((length s ≡ wideLength) × (wordAt s 20 ≡ 0))
+
+-- "All are at least 1; P is at most 1,000,000", "H may then reach 1,000,000"
+pub record Good (s : List ℕ) : Type 0 where
+  pub formed : Formed s
+  pub positive : Positive (settingsOf s)
+  pub period-lasts : 1 ≤ settingsOf s .period
+  pub window-limit : settingsOf s .window ≤ mostTicks
+  pub period-limit : settingsOf s .period ≤ mostTicks
+
+-- numbers of 16 and of 32 bits, and one time for every SET
+pub record FitsWide (σ : Settings) : Type 0 where
+  pub set-fits : σ .set ≤ 65535
+  pub read-fits : σ .read ≤ 65535
+  pub write-fits : σ .write ≤ 65535
+  pub beat-fits : σ .beat ≤ 65535
+  pub save-fits : σ .save ≤ 65535
+  pub spacing-fits : σ .spacing ≤ 65535
+  pub window-fits : σ .window < 2 ^ 32
+  pub period-fits : σ .period < 2 ^ 32
+  pub one-time : σ .multiply ≡ σ .set
+
+-- the wide form holds these numbers
+pub record Holds (σ : Settings) : Type 0 where
+  pub bytes : Bytes (wideBytes σ)
+  pub formed : (length (wideBytes σ) ≡ wideLength) × (wordAt (wideBytes σ) 20 ≡ 0)
+  pub numbers : settingsOf (wideBytes σ) ≡ σ
+
+-- EVERY CALL
+
+-- both good or both bad, and each number equal
+pub record Alike (s t : List ℕ) : Type 0 where
   pub judged : badSettings s ≡ badSettings t
   pub numbers : settingsOf s ≡ settingsOf t
 
@@ -24,7 +61,8 @@ pub record SameNumbers (s t : List ℕ) : Type 0 where
 abbrev pub under : List ℕ → Loan → Loan
 under s c = record { settings = s; form = c .form; file = c .file; inputs = c .inputs; buffers = c .buffers }
 
--- every call answers the same and leaves the same in each lent buffer, whatever else it is handed
+-- the eight calls that are handed settings, and `rehearse`, `list_task` and `render`, answer the same and leave the same in each lent buffer,
+-- whatever else they are handed
 pub record SameCalls (s t : List ℕ) : Type 0 where
   pub time : (f : Form) (file : List ℕ) → timeReply s f file ≡ timeReply t f file
   pub equalise : (task : List ℕ) (room : ℕ) → equaliseReply s task room ≡ equaliseReply t task room
@@ -47,32 +85,18 @@ pub record SameCalls (s t : List ℕ) : Type 0 where
   pub starts : (task table : List ℕ) → listStarts s task table ≡ listStarts t task table
   pub listing : (task : List ℕ) → printed s task ≡ printed t task
 
--- numbers of 16 and of 32 bits, and one time for every SET
-pub record FitsWide (σ : Settings) : Type 0 where
-  pub set-fits : σ .set ≤ 65535
-  pub read-fits : σ .read ≤ 65535
-  pub write-fits : σ .write ≤ 65535
-  pub beat-fits : σ .beat ≤ 65535
-  pub save-fits : σ .save ≤ 65535
-  pub spacing-fits : σ .spacing ≤ 65535
-  pub window-fits : σ .window < 2 ^ 32
-  pub period-fits : σ .period < 2 ^ 32
-  pub one-time : σ .multiply ≡ σ .set
-
--- the wide form holds these numbers, and is bad where one of them is out of range
-pub record Holds (σ : Settings) : Type 0 where
-  pub bytes : Bytes (wideBytes σ)
-  pub long : length (wideBytes σ) ≡ wideLength
-  pub numbers : settingsOf (wideBytes σ) ≡ σ
-  pub judged : badSettings (wideBytes σ) ≡ outOfRange σ
-
 -- W-202
 
 pub record Widened : Type 0 where
-  -- "Old and new settings with equal numbers must lay equal files": each call of a chain may be handed either form
-  pub same : (s t : List ℕ) → SameNumbers s t → SameCalls s t
+  -- "Refusal 6 now means a length other than 12 or 24, or a bad number."
+  pub good : (s : List ℕ) → (badSettings s ≡ false) ↔ Good s
   -- "six 16-bit numbers (SET, READ, WRITE, BEAT, SAVE, K), then H, P and a zero, 32 bits each"
+  pub fits : (s : List ℕ) → Bytes s → Formed s → FitsWide (settingsOf s)
   pub holds : (σ : Settings) → FitsWide σ → Holds σ
+  -- "Old and new settings with equal numbers must lay equal files."
+  pub equal-numbers : (s t : List ℕ) → Formed s → Formed t → settingsOf s ≡ settingsOf t → Alike s t
+  pub same : (s t : List ℕ) → Alike s t → SameCalls s t
   -- "old settings are read as wide ones"
-  pub narrow-fits : (s : List ℕ) → Bytes s → length s ≡ settingsLength → FitsWide (settingsOf s)
-  pub widens : (s : List ℕ) → length s ≡ settingsLength → SameNumbers s (wideBytes (settingsOf s))
+  pub widens : (s : List ℕ) → length s ≡ narrowLength → Alike s (wideBytes (settingsOf s))
+  -- the first 25 bytes of a file of settings decide: the list program reads no more than it needs
+  pub enough : (s : List ℕ) (n : ℕ) → 25 ≤ n → Alike (take n s) s

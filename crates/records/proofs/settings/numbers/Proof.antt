@@ -1,19 +1,19 @@
 -- The length tells the form.
 use borrow.Author.{Needs.needs, Tests.eq-eqb, Tests.ne-eqb, Tests.eqb-true, Tests.not-false}
-use mathlib.Core.Path.{_≡_}
-use mathlib.Core.Bool.{Bool, true, false, _&&_}
+use mathlib.Core.{Path._≡_, Logic.⊎-elim}
+use mathlib.Core.Bool.{false, not}
 use Prim.Native.Nat.{ℕ}
-use Rattle.model.specs.{Limits.settingsLength, Limits.wideLength, Settings.settingsOf, Settings.badSettingsLength}
+use lib.Dec.{eqb}
+use Rattle.model.proofs.Shapes.{and-false}
+use Rattle.model.specs.{Limits.narrowLength, Limits.wideLength, Settings.settingsOf, Settings.badSettingsLength}
 use Rattle.records.proofs.settings.numbers.Statement.{statement}
 use Rattle.records.proofs.settings.numbers.Tie as tie
 
 -- a length that is taken, and is not that of the wide form
-first-form : (n : ℕ) → badSettingsLength n ≡ false → (n ≡ wideLength → ⊥) → n ≡ settingsLength
-first-form n good other = eqb-true n settingsLength (not-false _ (and-true _ (rw (ne-eqb n wideLength other) at good)))
-  where
-    and-true : (a : Bool) → (a && true) ≡ false → a ≡ false
-    and-true true e = e
-    and-true false e = e
+first-form : (n : ℕ) → badSettingsLength n ≡ false → (n ≡ wideLength → ⊥) → n ≡ narrowLength
+first-form n good other =
+    ⊎-elim (λ e. eqb-true n narrowLength (not-false _ e)) (λ e. absurd (other (eqb-true n wideLength (not-false _ e))))
+    (and-false (not (eqb n narrowLength)) (not (eqb n wideLength)) good)
 
 narrow-requires : tie.Need-narrow-numbers-requires
 narrow-requires c κs = first-form _ (c .before .before .pre) (c .if1 .left)
