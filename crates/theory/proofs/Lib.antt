@@ -1,4 +1,4 @@
--- The proofs of specs/. Demand2, Demand3 and Watching say where each part is proved; the others stand in the order in which they build on each other.
+-- The proofs of specs/. Demand2, Demand3, Watching, Widened and Mixing say where each part is proved; the others stand in the order in which they build on each other.
 pub mod Demand2
 pub mod Demand3
 pub mod Watching
