@@ -30,7 +30,21 @@ rack n p q r = n ∷ n ∷ n ∷ n ∷ n ∷ n ∷ 20 ∷ 0 ∷ p ∷ q ∷ r �
 abbrev wide : ℕ → ℕ → ℕ → ℕ → List ℕ
 wide m n h z = m ∷ n ∷ m ∷ n ∷ m ∷ n ∷ m ∷ n ∷ m ∷ n ∷ 1 ∷ 0 ∷ h ∷ 66 ∷ 15 ∷ 0 ∷ 64 ∷ 66 ∷ 15 ∷ 0 ∷ z ∷ 0 ∷ 0 ∷ 0 ∷ []
 
--- each number of the wide form at its place, the lowest byte first
+-- each number at its place, the lowest byte first
+pub narrow-places : settingsOf (1 ∷ 2 ∷ 3 ∷ 4 ∷ 5 ∷ 6 ∷ 7 ∷ 8 ∷ 9 ∷ 10 ∷ 11 ∷ 12 ∷ []) ≡ record {
+  set = 1;
+  read = 2;
+  write = 3;
+  beat = 4;
+  save = 5;
+  multiply = 1;
+  spacing = 6;
+  window = 2055;
+  period = 202050057;
+}
+unfolding settingsOf
+narrow-places = refl
+
 pub wide-places : settingsOf (1 ∷ 2 ∷ 3 ∷ 4 ∷ 5 ∷ 6 ∷ 7 ∷ 8 ∷ 9 ∷ 10 ∷ 11 ∷ 12 ∷ 13 ∷ 14 ∷ 15 ∷ 16 ∷ 17 ∷ 18 ∷ 19 ∷ 20 ∷ 0 ∷ 0 ∷ 0 ∷ 0 ∷ []) ≡ record {
   set = 513;
   read = 1027;

@@ -9,7 +9,7 @@ use Rattle.model.specs.Records.{halfAt, halfBytes, wordAt, wordBytes}
 use Rattle.model.specs.declared.Settings.{Settings}
 
 -- "bytes 0 to 4 the ticks of SET, READ, WRITE, BEAT (called B) and SAVE (called S), byte 5 the checkpoint spacing K, in windows,
--- bytes 6 and 7 the window H, bytes 8 to 11 the period P." In either form a SET that multiplies takes the ticks of any SET.
+-- bytes 6 and 7 the window H, bytes 8 to 11 the period P." In either form a SET that multiplies takes as many ticks as any other.
 abbrev pub narrowSettings : List ℕ → Settings
 narrowSettings s = record {
   set = getD s 0 0;
@@ -43,13 +43,13 @@ isWide s = eqb (length s) wideLength
 unfoldable pub settingsOf : List ℕ → Settings
 settingsOf s = cond (isWide s) (wideSettings s) (narrowSettings s)
 
--- "All are at least 1; P is at most 1,000,000." and W-202: "H may then reach 1,000,000." Ticks and K have no limit but their bytes.
+-- "All are at least 1; P is at most 1,000,000." and W-202: "H may then reach 1,000,000." Ticks and K have no other upper limit than what their bytes hold.
 abbrev pub outOfRange : Settings → Bool
 outOfRange σ =
     eqb (σ .set) 0 || eqb (σ .read) 0 || eqb (σ .write) 0 || eqb (σ .beat) 0 || eqb (σ .save) 0 || eqb (σ .multiply) 0
     || eqb (σ .spacing) 0 || eqb (σ .window) 0 || eqb (σ .period) 0 || ltb mostTicks (σ .window) || ltb mostTicks (σ .period)
 
--- "and a zero, 32 bits each", which 12 bytes lack
+-- 24 bytes end in "a zero", and 12 have none
 abbrev pub badZero : List ℕ → Bool
 badZero s = isWide s && not (eqb (wordAt s 20) 0)
 
@@ -60,7 +60,7 @@ badSettingsLength n = not (eqb n narrowLength) && not (eqb n wideLength)
 unfoldable pub badSettings : List ℕ → Bool
 badSettings s = badSettingsLength (length s) || outOfRange (settingsOf s) || badZero s
 
--- the 24 bytes that hold these numbers, where 16 and 32 bits can hold them
+-- the 24 bytes of these numbers, where 16 and 32 bits can hold them and a SET that multiplies takes as many ticks as any other
 unfoldable pub wideBytes : Settings → List ℕ
 wideBytes σ =
     halfBytes (σ .set) ++ halfBytes (σ .read) ++ halfBytes (σ .write) ++ halfBytes (σ .beat) ++ halfBytes (σ .save) ++ halfBytes (σ .spacing)

@@ -11,7 +11,7 @@ use model::LaidOut;
 // A task of 256 records becomes at most 1,025.
 const EQUALISED_LENGTH: usize = 12300;
 
-// The equalised file is the call's own.
+// The laid file of a task over the front of out, or the first refusal. The equalised file is the call's own.
 pub fn prepare(settings: &[u8], task: &[u8], out: &mut [u8]) -> LaidOut
     ensures { λ r. ⌜ (laidOut r ≡ prepareReply (now (settings .entry)) (now (task .entry)) (length (now (out .entry))))
         × (now (out .exit) ≡ prepareOut (now (settings .entry)) (now (task .entry)) (now (out .entry))) ⌝ }

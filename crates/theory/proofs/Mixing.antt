@@ -1,10 +1,11 @@
 -- Each call of a chain answers and leaves under its own settings what it does under those of the chain.
-use mathlib.Core.Path.{_≡_, sym}
+use mathlib.Core.Path.{_≡_, ap, sym, _∙_}
 use lib.ListN.{length}
-use Rattle.model.specs.Replies.{stopImage}
+use Rattle.model.specs.{Replies.stopImage, Answers.isFinished}
 use Rattle.model.specs.Chain.{Chain, equalisedFile, laidFile, plainLoan, wholeLoan, stoppedLoan, outputsLeft, again}
-use Rattle.theory.specs.{Widened.SameCalls, Mixing.Forms, Mixing.AlikeForms, Mixing.equalisedBy, Mixing.laidBy, Mixing.Mixing}
-use Rattle.theory.proofs.SameCalls.{same-calls}
+use Rattle.theory.specs.Widened.{SameCalls}
+use Rattle.theory.specs.Mixing.{Results, resultsOf, Forms, AlikeForms, equalisedBy, laidBy, resultsBy, Mixing}
+use Rattle.theory.proofs.{SameCalls.same-calls, Demand3.demand3}
 
 module _ (m : Forms) (k : Chain) (A : AlikeForms (k .settings) m) where
   equalised : SameCalls (k .settings) (m .equalising)
@@ -34,30 +35,41 @@ module _ (m : Forms) (k : Chain) (A : AlikeForms (k .settings) m) where
   taken-up : SameCalls (k .settings) (m .takenUp)
   taken-up = same-calls (k .settings) (m .takenUp) (A .takenUp)
 
+  results : resultsBy m k ≡ resultsOf k
+  results =
+      let c = stoppedLoan k in
+      let i = k .image in
+      let n = k .stop in
+      let one = plainLoan k (k .one) (k .plainOne) in
+      let two = plainLoan k (k .two) (k .plainTwo) in
+      let up = again c (k .spare) (outputsLeft c i n) in
+      let anew = again c (k .two .variables) (outputsLeft c i n) in
+      rw (
+        laid-file,
+        equalised-file,
+        ← equalised .equalise (k .task) (length (k .equalisedRoom)),
+        ← laid .lay-out (equalisedFile k) (length (k .laidRoom)),
+        ← plain-one .run one,
+        ← plain-one .ran one,
+        ← plain-two .run two,
+        ← plain-two .ran two,
+        ← whole .run (wholeLoan k),
+        ← whole .ran (wholeLoan k),
+        ← stopped .run-until c i n,
+        ← stopped .stopped c i n,
+        ← stopped .saved c i n,
+        ← stopped .steps c,
+        ← A .stopped .numbers,
+        ← taken-up .resume up (stopImage c i n),
+        ← taken-up .resumed up (stopImage c i n),
+        ← taken-up .restart anew,
+        ← taken-up .restarted anew,
+      )
+
 pub mixing : Mixing
-mixing m k A =
-    let f = laid-file m k A in
-    let S = stopped m k A in
-    let U = taken-up m k A in
-    let c = stoppedLoan k in
-    let i = k .image in
-    let n = k .stop in
-    let up = again c (k .spare) (outputsLeft c i n) in
-    let anew = again c (k .two .variables) (outputsLeft c i n) in
+mixing m k lent A equalises lays =
+    let r = results m k A in
     record {
-      equalises = sym (equalised m k A .equalise (k .task) (length (k .equalisedRoom)));
-      lays-out = rw (equalised-file m k A, laid m k A .lay-out (equalisedFile k) (length (k .laidRoom)));
-      file = f;
-      plain-one = sym (plain-one m k A .run (plainLoan k (k .one) (k .plainOne)));
-      plain-one-left = sym (plain-one m k A .ran (plainLoan k (k .one) (k .plainOne)));
-      plain-two = sym (plain-two m k A .run (plainLoan k (k .two) (k .plainTwo)));
-      plain-two-left = sym (plain-two m k A .ran (plainLoan k (k .two) (k .plainTwo)));
-      whole = rw f (sym (whole m k A .run (wholeLoan k)));
-      whole-left = rw f (sym (whole m k A .ran (wholeLoan k)));
-      stops = rw f (sym (S .run-until c i n));
-      stop-left = rw f (sym (S .stopped c i n));
-      image = rw f (sym (S .saved c i n));
-      takes-up = rw (f, ← S .run-until c i n, ← S .stopped c i n, ← S .saved c i n, ← U .resume up (stopImage c i n), ← U .restart anew);
-      take-up-left = rw (f, ← S .run-until c i n, ← S .stopped c i n, ← S .saved c i n, ← U .resumed up (stopImage c i n), ← U .restarted anew);
-      twice = rw (f, ← S .run-until c i n, ← S .saved c i n);
+      results = r;
+      unseen = demand3 k lent (sym (ap (λ (x : Results). isFinished (x .equalising)) r) ∙ equalises) (sym (ap (λ (x : Results). isFinished (x .layingOut)) r) ∙ lays);
     }

@@ -3,6 +3,7 @@ use Prim.Native.Nat.{ℕ}
 use mathlib.Core.{Path._≡_, List.List}
 use lib.ListN.{length}
 use Rattle.model.specs.declared.{Form.Form, Stop.Stop}
+use Rattle.model.specs.Stopping.{Image}
 use Rattle.model.specs.Replies.{reading, timeReply, equaliseReply, equalisedTree, equaliseOut, layOutReply, laidTree, layOutOut, prepareReply, prepareOut}
 use Rattle.model.specs.Replies.{Loan, ready, stepsOf, runReply, runBuffers, imageAt, stopReply, stopBuffers, stopImage}
 use Rattle.model.specs.Replies.{takenUp, takenBuffers, resumeReply, resumeBuffers, restartReply, restartBuffers}
@@ -45,6 +46,14 @@ module _ (s t : List ℕ) (h : Alike s t) where
   run : (c : Loan) → runReply (under s c) ≡ runReply (under t c)
   unfolding runReply ready reading stepsOf
   run c = rw (h .judged, h .numbers)
+
+  steps : (c : Loan) → stepsOf (under s c) ≡ stepsOf (under t c)
+  unfolding stepsOf
+  steps c = rw (h .numbers)
+
+  steps-taken-up : (c : Loan) (i : Image) → takenUp (under s c) i ≡ takenUp (under t c) i
+  unfolding takenUp
+  steps-taken-up c i = rw (h .numbers)
 
   ran : (c : Loan) → runBuffers (under s c) ≡ runBuffers (under t c)
   unfolding runBuffers stepsOf
@@ -157,6 +166,8 @@ module _ (s t : List ℕ) (h : Alike s t) where
     resumed = resumed;
     restart = restart;
     restarted = restarted;
+    steps = steps;
+    steps-taken-up = steps-taken-up;
     rehearse = rehearse;
     starts = starts;
     listing = listing;

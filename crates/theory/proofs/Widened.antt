@@ -12,7 +12,7 @@ use Rattle.model.specs.declared.Settings.{Settings}
 use Rattle.model.specs.Records.{Bytes, wordAt}
 use Rattle.model.specs.Settings.{narrowSettings, wideSettings, settingsOf, outOfRange, badZero, badSettingsLength, badSettings, wideBytes}
 use Rattle.model.proofs.{Bytes.word-back, Shapes.neither, Shapes.and-false}
-use Rattle.theory.specs.Widened.{Formed, Good, FitsWide, Alike, Widened}
+use Rattle.theory.specs.Widened.{Formed, Good, FitsNarrow, FitsWide, EqualNumbers, Alike, Widened}
 use Rattle.theory.proofs.{Accepted.in-range, SameCalls.same-calls}
 
 -- EITHER FORM
@@ -160,15 +160,32 @@ fits s b (inr f) = rw (is-wide s (f .0)) (record {
   one-time = refl;
 })
 
+narrow-fits : (s : List ℕ) → Bytes s → length s ≡ 12 → FitsNarrow (settingsOf s)
+narrow-fits s b twelve = rw (is-narrow s twelve) (record {
+  set-fits = omega (arith, b 0);
+  read-fits = omega (arith, b 1);
+  write-fits = omega (arith, b 2);
+  beat-fits = omega (arith, b 3);
+  save-fits = omega (arith, b 4);
+  spacing-fits = omega (arith, b 5);
+  window-fits = omega (arith, b 6, b 7);
+})
+
 -- ALIKE
 
-equal-numbers : (s t : List ℕ) → Formed s → Formed t → settingsOf s ≡ settingsOf t → Alike s t
-equal-numbers s t f g e = record { judged = by-numbers s f ∙ ap outOfRange e ∙ sym (by-numbers t g); numbers = e }
+equal-settings : (s t : List ℕ) → Formed s → Formed t → settingsOf s ≡ settingsOf t → Alike s t
+equal-settings s t f g e = record { judged = by-numbers s f ∙ ap outOfRange e ∙ sym (by-numbers t g); numbers = e }
+
+equal-numbers : (s t : List ℕ) → EqualNumbers s t → Alike s t
+equal-numbers s t E =
+    equal-settings s t (inl (E .old)) (inr (E .new, E .zero))
+    (rw
+    (is-narrow s (E .old), is-wide t (E .new), E .set, E .read, E .write, E .beat, E .save, E .spacing, E .window, E .period))
 
 widens : (s : List ℕ) → length s ≡ narrowLength → Alike s (wideBytes (settingsOf s))
 widens s twelve =
     let one : settingsOf s .multiply ≡ settingsOf s .set = rw (is-narrow s twelve) in
-    equal-numbers s (wideBytes (settingsOf s)) (inl twelve) (inr (wide-formed (settingsOf s))) (sym (numbers-back (settingsOf s) one))
+    equal-settings s (wideBytes (settingsOf s)) (inl twelve) (inr (wide-formed (settingsOf s))) (sym (numbers-back (settingsOf s) one))
 
 -- a file of more than 24 bytes is no settings, however much of it is read
 too-long : (s t : List ℕ) → 25 ≤ length s → 25 ≤ length t → narrowSettings s ≡ narrowSettings t → Alike s t
@@ -211,8 +228,10 @@ pub widened : Widened
 widened = record {
   good = good;
   fits = fits;
+  narrow-fits = narrow-fits;
   holds = λ σ F. record { bytes = wide-bytes σ F; formed = wide-formed σ; numbers = numbers-back σ (F .one-time) };
   equal-numbers = equal-numbers;
+  equal-settings = equal-settings;
   same = same-calls;
   widens = widens;
   enough = enough;

@@ -1,19 +1,64 @@
 -- W-202 and the chain of demand 3: each call may be handed settings of either form, where their numbers are equal. The proof is in proofs/Mixing.antt.
-use Prim.Native.Nat.{ℕ}
+use Prim.Native.Nat.{ℕ, _*_}
 use mathlib.Core.Path.{_≡_}
-use mathlib.Core.Bool.{cond}
+use mathlib.Core.Bool.{true, cond}
 use mathlib.Core.List.{List}
 use lib.ListN.{length, take}
 use Rattle.model.specs.declared.Form.the-variants.{Task, Laid}
-use Rattle.model.specs.Runs.{Buffers}
-use Rattle.model.specs.Answers.{Verdict, valueAt}
-use Rattle.model.specs.Replies.{equaliseReply, equaliseOut, layOutReply, layOutOut, Loan, runReply, runBuffers}
-use Rattle.model.specs.Replies.{stopReply, stopBuffers, stopImage, resumeReply, resumeBuffers, restartReply, restartBuffers}
-use Rattle.model.specs.Chain.{Set, Outputs, Chain, equalising, layingOut, laidFile, lend, plainLoan, wholeLoan, stoppedLoan}
-use Rattle.model.specs.Chain.{hasImage, outputsLeft, again, takingUp, takenUpBuffers, runTwice}
+use Rattle.model.specs.Settings.{settingsOf}
+use Rattle.model.specs.Runs.{Step, Buffers}
+use Rattle.model.specs.Answers.{Verdict, isFinished, valueAt}
+use Rattle.model.specs.Replies.{equaliseReply, equaliseOut, layOutReply, layOutOut, Loan, stepsOf, runReply}
+use Rattle.model.specs.Replies.{stopReply, stopImage, resumeReply, resumeBuffers, restartReply, restartBuffers}
+use Rattle.model.specs.Chain.{Set, Outputs, Chain, Lent, equalising, equalisedFile, layingOut, laidFile, lend, plainLoan, wholeLoan, stoppedLoan}
+use Rattle.model.specs.Chain.{hasImage, outputsLeft, again, takingUp, imageTick, runTwice, End, endOf, runEnd, plainEndOne, plainEndTwo, wholeEnd, stoppedEnd}
 use Rattle.theory.specs.Widened.{Alike, under}
+use Rattle.theory.specs.Demand3.{Unseen}
 
--- "under settings of the same numbers throughout" (document 01): what each call of a chain is handed, where the chain itself names one
+-- all that demand 3 speaks of: what each call answers, both files, how each run ends, the steps of the stopped run, the image's tick, the ticks
+-- run twice and the spacing
+pub record Results : Type 0 where
+  pub equalising : Verdict
+  pub equalised : List ℕ
+  pub layingOut : Verdict
+  pub laid : List ℕ
+  pub plainOne : Verdict
+  pub plainTwo : Verdict
+  pub whole : Verdict
+  pub stop : Verdict
+  pub takingUp : Verdict
+  pub plainEndOne : End
+  pub plainEndTwo : End
+  pub wholeEnd : End
+  pub stoppedEnd : End
+  pub steps : List Step
+  pub imageTick : ℕ
+  pub twice : ℕ
+  pub spacing : ℕ
+
+-- with the chain's own settings for every call
+abbrev pub resultsOf : Chain → Results
+resultsOf k = record {
+  equalising = equalising k;
+  equalised = equalisedFile k;
+  layingOut = layingOut k;
+  laid = laidFile k;
+  plainOne = runReply (plainLoan k (k .one) (k .plainOne));
+  plainTwo = runReply (plainLoan k (k .two) (k .plainTwo));
+  whole = runReply (wholeLoan k);
+  stop = stopReply (stoppedLoan k) (k .image) (k .stop);
+  takingUp = takingUp (stoppedLoan k) (k .image) (k .spare) (k .stop);
+  plainEndOne = plainEndOne k;
+  plainEndTwo = plainEndTwo k;
+  wholeEnd = wholeEnd k;
+  stoppedEnd = stoppedEnd k;
+  steps = stepsOf (stoppedLoan k);
+  imageTick = imageTick (stoppedLoan k) (k .image) (k .stop);
+  twice = runTwice (stoppedLoan k) (k .image) (k .stop);
+  spacing = settingsOf (k .settings) .spacing * settingsOf (k .settings) .window;
+}
+
+-- settings for each call
 pub record Forms : Type 0 where
   pub equalising : List ℕ
   pub layingOut : List ℕ
@@ -23,6 +68,7 @@ pub record Forms : Type 0 where
   pub stopped : List ℕ
   pub takenUp : List ℕ
 
+-- "under settings of the same numbers throughout" (document 01)
 pub record AlikeForms (s : List ℕ) (m : Forms) : Type 0 where
   pub equalising : Alike s (m .equalising)
   pub layingOut : Alike s (m .layingOut)
@@ -32,8 +78,8 @@ pub record AlikeForms (s : List ℕ) (m : Forms) : Type 0 where
   pub stopped : Alike s (m .stopped)
   pub takenUp : Alike s (m .takenUp)
 
+-- the calls of a chain as `Chain` has them, each with its own settings
 module _ (m : Forms) (k : Chain) where
-  -- as in `Chain`, each call with settings of its own
   abbrev pub equalisingBy : Verdict
   equalisingBy = equaliseReply (m .equalising) (k .task) (length (k .equalisedRoom))
 
@@ -46,15 +92,16 @@ module _ (m : Forms) (k : Chain) where
   abbrev pub laidBy : List ℕ
   laidBy = take (valueAt 0 layingOutBy) (layOutOut (m .layingOut) equalisedBy (k .laidRoom))
 
-  abbrev pub preparedBy : List ℕ → Outputs → Loan
-  preparedBy s o = lend s Laid laidBy (k .two .inputs) (k .two .variables) o
-
   abbrev pub plainBy : List ℕ → Set → Outputs → Loan
   plainBy s x o = lend s Task (k .task) (x .inputs) (x .variables) o
+
+  abbrev pub preparedBy : List ℕ → Outputs → Loan
+  preparedBy s o = lend s Laid laidBy (k .two .inputs) (k .two .variables) o
 
   abbrev pub stoppedBy : Loan
   stoppedBy = preparedBy (m .stopped) (k .stopped)
 
+  -- taken up with these variables lent
   abbrev pub upBy : List ℕ → Loan
   upBy v = under (m .takenUp) (again stoppedBy v (outputsLeft stoppedBy (k .image) (k .stop)))
 
@@ -70,23 +117,33 @@ module _ (m : Forms) (k : Chain) where
       (resumeBuffers (upBy (k .spare)) (stopImage stoppedBy (k .image) (k .stop)))
       (restartBuffers (upBy (k .two .variables)))
 
-  -- all that demand 3 speaks of is what it is under the one settings of the chain
-  pub record Mixed : Type 0 where
-    pub equalises : equalisingBy ≡ equalising k
-    pub lays-out : layingOutBy ≡ layingOut k
-    pub file : laidBy ≡ laidFile k
-    pub plain-one : runReply (plainBy (m .plainOne) (k .one) (k .plainOne)) ≡ runReply (plainLoan k (k .one) (k .plainOne))
-    pub plain-one-left : runBuffers (plainBy (m .plainOne) (k .one) (k .plainOne)) ≡ runBuffers (plainLoan k (k .one) (k .plainOne))
-    pub plain-two : runReply (plainBy (m .plainTwo) (k .two) (k .plainTwo)) ≡ runReply (plainLoan k (k .two) (k .plainTwo))
-    pub plain-two-left : runBuffers (plainBy (m .plainTwo) (k .two) (k .plainTwo)) ≡ runBuffers (plainLoan k (k .two) (k .plainTwo))
-    pub whole : runReply (preparedBy (m .whole) (k .whole)) ≡ runReply (wholeLoan k)
-    pub whole-left : runBuffers (preparedBy (m .whole) (k .whole)) ≡ runBuffers (wholeLoan k)
-    pub stops : stopReply stoppedBy (k .image) (k .stop) ≡ stopReply (stoppedLoan k) (k .image) (k .stop)
-    pub stop-left : stopBuffers stoppedBy (k .image) (k .stop) ≡ stopBuffers (stoppedLoan k) (k .image) (k .stop)
-    pub image : stopImage stoppedBy (k .image) (k .stop) ≡ stopImage (stoppedLoan k) (k .image) (k .stop)
-    pub takes-up : takingUpBy ≡ takingUp (stoppedLoan k) (k .image) (k .spare) (k .stop)
-    pub take-up-left : takenUpBuffersBy ≡ takenUpBuffers (stoppedLoan k) (k .image) (k .spare) (k .stop)
-    pub twice : runTwice stoppedBy (k .image) (k .stop) ≡ runTwice (stoppedLoan k) (k .image) (k .stop)
+  abbrev pub resultsBy : Results
+  resultsBy = record {
+    equalising = equalisingBy;
+    equalised = equalisedBy;
+    layingOut = layingOutBy;
+    laid = laidBy;
+    plainOne = runReply (plainBy (m .plainOne) (k .one) (k .plainOne));
+    plainTwo = runReply (plainBy (m .plainTwo) (k .two) (k .plainTwo));
+    whole = runReply (preparedBy (m .whole) (k .whole));
+    stop = stopReply stoppedBy (k .image) (k .stop);
+    takingUp = takingUpBy;
+    plainEndOne = runEnd (plainBy (m .plainOne) (k .one) (k .plainOne));
+    plainEndTwo = runEnd (plainBy (m .plainTwo) (k .two) (k .plainTwo));
+    wholeEnd = runEnd (preparedBy (m .whole) (k .whole));
+    stoppedEnd = endOf takingUpBy takenUpBuffersBy;
+    steps = stepsOf stoppedBy;
+    imageTick = imageTick stoppedBy (k .image) (k .stop);
+    twice = runTwice stoppedBy (k .image) (k .stop);
+    spacing = settingsOf (m .stopped) .spacing * settingsOf (m .stopped) .window;
+  }
+
+-- demand 3 holds of the results of a chain whose calls are handed either form
+pub record MixedUnseen (m : Forms) (k : Chain) : Type 0 where
+  pub results : resultsBy m k ≡ resultsOf k
+  pub unseen : Unseen k
 
 abbrev pub Mixing : Type 0
-Mixing = (m : Forms) (k : Chain) → AlikeForms (k .settings) m → Mixed m k
+Mixing =
+    (m : Forms) (k : Chain) → Lent k → AlikeForms (k .settings) m → isFinished (equalisingBy m k) ≡ true → isFinished (layingOutBy m k) ≡ true
+    → MixedUnseen m k

@@ -1,36 +1,48 @@
--- W-202, over the replies of every call that is handed settings: each part under the words that it answers. The proof is in proofs/Widened.antt.
+-- W-202, over the replies of the calls: each part under the words that it answers. The proof is in proofs/Widened.antt. "Equalising, layout and taking
+-- up are shown for the wide numbers" by `Demand2` and `Demand3`, which are over any settings that are taken.
 use Prim.Native.Nat.{ℕ, _^_, _≤_, _<_}
 use mathlib.Core.Path.{_≡_}
 use mathlib.Core.Logic.{_↔_, _⊎_}
 use mathlib.Core.Bool.{false}
 use mathlib.Core.List.{List}
-use lib.ListN.{length, take}
-use Rattle.model.specs.Limits.{mostTicks, narrowLength, wideLength}
-use Rattle.model.specs.Records.{Bytes, wordAt}
+use lib.ListN.{length, getD, take}
+use Rattle.model.specs.Records.{Bytes, halfAt, wordAt}
 use Rattle.model.specs.declared.Settings.{Settings}
 use Rattle.model.specs.declared.Form.{Form}
 use Rattle.model.specs.declared.Stop.{Stop}
 use Rattle.model.specs.Settings.{settingsOf, badSettings, wideBytes}
 use Rattle.model.specs.Placement.{Positive}
 use Rattle.model.specs.Replies.{timeReply, equaliseReply, equaliseOut, layOutReply, layOutOut, prepareReply, prepareOut}
-use Rattle.model.specs.Replies.{Loan, runReply, runBuffers, stopReply, stopBuffers, stopImage, resumeReply, resumeBuffers, restartReply, restartBuffers}
+use Rattle.model.specs.Stopping.{Image}
+use Rattle.model.specs.Replies.{Loan, stepsOf, runReply, runBuffers, stopReply, stopBuffers, stopImage}
+use Rattle.model.specs.Replies.{takenUp, resumeReply, resumeBuffers, restartReply, restartBuffers}
 use Rattle.model.specs.Chain.{Set}
 use Rattle.model.specs.Rehearsal.{chain, rehearsal}
 use Rattle.model.specs.Listing.{listStarts, printed}
 
 -- WHICH SETTINGS ARE TAKEN
 
--- "a length other than 12 or 24" is refused, and so is another number than the zero
+-- "a length other than 12 or 24" is refused, and so are 24 bytes that do not end in a zero
 abbrev pub Formed : List ℕ → Type 0
-Formed s = (length s ≡ narrowLength) ⊎ ((length s ≡ wideLength) × (wordAt s 20 ≡ 0))
+Formed s = (length s ≡ 12) ⊎ ((length s ≡ 24) × (wordAt s 20 ≡ 0))
 
 -- "All are at least 1; P is at most 1,000,000", "H may then reach 1,000,000"
 pub record Good (s : List ℕ) : Type 0 where
   pub formed : Formed s
   pub positive : Positive (settingsOf s)
   pub period-lasts : 1 ≤ settingsOf s .period
-  pub window-limit : settingsOf s .window ≤ mostTicks
-  pub period-limit : settingsOf s .period ≤ mostTicks
+  pub window-limit : settingsOf s .window ≤ 1000000
+  pub period-limit : settingsOf s .period ≤ 1000000
+
+-- "our ticks are single bytes"
+pub record FitsNarrow (σ : Settings) : Type 0 where
+  pub set-fits : σ .set ≤ 255
+  pub read-fits : σ .read ≤ 255
+  pub write-fits : σ .write ≤ 255
+  pub beat-fits : σ .beat ≤ 255
+  pub save-fits : σ .save ≤ 255
+  pub spacing-fits : σ .spacing ≤ 255
+  pub window-fits : σ .window ≤ 65535
 
 -- numbers of 16 and of 32 bits, and one time for every SET
 pub record FitsWide (σ : Settings) : Type 0 where
@@ -47,10 +59,24 @@ pub record FitsWide (σ : Settings) : Type 0 where
 -- the wide form holds these numbers
 pub record Holds (σ : Settings) : Type 0 where
   pub bytes : Bytes (wideBytes σ)
-  pub formed : (length (wideBytes σ) ≡ wideLength) × (wordAt (wideBytes σ) 20 ≡ 0)
+  pub formed : (length (wideBytes σ) ≡ 24) × (wordAt (wideBytes σ) 20 ≡ 0)
   pub numbers : settingsOf (wideBytes σ) ≡ σ
 
 -- EVERY CALL
+
+-- "Old and new settings with equal numbers": 12 bytes s and 24 bytes t
+pub record EqualNumbers (s t : List ℕ) : Type 0 where
+  pub old : length s ≡ 12
+  pub new : length t ≡ 24
+  pub set : getD s 0 0 ≡ halfAt t 0
+  pub read : getD s 1 0 ≡ halfAt t 2
+  pub write : getD s 2 0 ≡ halfAt t 4
+  pub beat : getD s 3 0 ≡ halfAt t 6
+  pub save : getD s 4 0 ≡ halfAt t 8
+  pub spacing : getD s 5 0 ≡ halfAt t 10
+  pub window : halfAt s 6 ≡ wordAt t 12
+  pub period : wordAt s 8 ≡ wordAt t 16
+  pub zero : wordAt t 20 ≡ 0
 
 -- both good or both bad, and each number equal
 pub record Alike (s t : List ℕ) : Type 0 where
@@ -61,8 +87,8 @@ pub record Alike (s t : List ℕ) : Type 0 where
 abbrev pub under : List ℕ → Loan → Loan
 under s c = record { settings = s; form = c .form; file = c .file; inputs = c .inputs; buffers = c .buffers }
 
--- the eight calls that are handed settings, and `rehearse`, `list_task` and `render`, answer the same and leave the same in each lent buffer,
--- whatever else they are handed
+-- the eight calls of the table's refusals, and `rehearse`, `list_task` and `render`, which are made of them, answer the same and leave the same in each
+-- lent buffer, whatever else they are handed; and runs do the same steps, of which demand 2 speaks
 pub record SameCalls (s t : List ℕ) : Type 0 where
   pub time : (f : Form) (file : List ℕ) → timeReply s f file ≡ timeReply t f file
   pub equalise : (task : List ℕ) (room : ℕ) → equaliseReply s task room ≡ equaliseReply t task room
@@ -81,6 +107,8 @@ pub record SameCalls (s t : List ℕ) : Type 0 where
   pub resumed : (c : Loan) (image : List ℕ) → resumeBuffers (under s c) image ≡ resumeBuffers (under t c) image
   pub restart : (c : Loan) → restartReply (under s c) ≡ restartReply (under t c)
   pub restarted : (c : Loan) → restartBuffers (under s c) ≡ restartBuffers (under t c)
+  pub steps : (c : Loan) → stepsOf (under s c) ≡ stepsOf (under t c)
+  pub steps-taken-up : (c : Loan) (i : Image) → takenUp (under s c) i ≡ takenUp (under t c) i
   pub rehearse : (task : List ℕ) (x y : Set) (stop : Stop) → rehearsal stop (chain s task x y stop) ≡ rehearsal stop (chain t task x y stop)
   pub starts : (task table : List ℕ) → listStarts s task table ≡ listStarts t task table
   pub listing : (task : List ℕ) → printed s task ≡ printed t task
@@ -92,11 +120,13 @@ pub record Widened : Type 0 where
   pub good : (s : List ℕ) → (badSettings s ≡ false) ↔ Good s
   -- "six 16-bit numbers (SET, READ, WRITE, BEAT, SAVE, K), then H, P and a zero, 32 bits each"
   pub fits : (s : List ℕ) → Bytes s → Formed s → FitsWide (settingsOf s)
+  pub narrow-fits : (s : List ℕ) → Bytes s → length s ≡ 12 → FitsNarrow (settingsOf s)
   pub holds : (σ : Settings) → FitsWide σ → Holds σ
   -- "Old and new settings with equal numbers must lay equal files."
-  pub equal-numbers : (s t : List ℕ) → Formed s → Formed t → settingsOf s ≡ settingsOf t → Alike s t
+  pub equal-numbers : (s t : List ℕ) → EqualNumbers s t → Alike s t
+  pub equal-settings : (s t : List ℕ) → Formed s → Formed t → settingsOf s ≡ settingsOf t → Alike s t
   pub same : (s t : List ℕ) → Alike s t → SameCalls s t
   -- "old settings are read as wide ones"
-  pub widens : (s : List ℕ) → length s ≡ narrowLength → Alike s (wideBytes (settingsOf s))
-  -- the first 25 bytes of a file of settings decide: the list program reads no more than it needs
+  pub widens : (s : List ℕ) → length s ≡ 12 → Alike s (wideBytes (settingsOf s))
+  -- 25 bytes of a file of settings are enough: more than 24 are refused, whatever follows
   pub enough : (s : List ℕ) (n : ℕ) → 25 ≤ n → Alike (take n s) s
