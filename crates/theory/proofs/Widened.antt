@@ -73,7 +73,7 @@ good s = (there, back)
     there : badSettings s ≡ false → Good s
     there e =
         let I = in-range s e in
-        record { formed = good-numbers s e; positive = I .positive; period-lasts = I .lasts; window-limit = I .narrow; period-limit = I .short }
+        record { formed = good-numbers s e; positive = I .positive; period-lasts = I .lasts; window-limit = omega (arith, I .narrow); period-limit = I .short }
 
     back : Good s → badSettings s ≡ false
     back G = by-numbers s (G .formed) ∙ in-limits (settingsOf s) (G .positive) (G .period-lasts) (G .window-limit) (G .period-limit)
