@@ -21,13 +21,14 @@ use Rattle.reading.proofs.Walking.{whole-file}
 use Rattle.stepping.specs.declared.progress.Progress.{Progress}
 use Rattle.stepping.specs.Machines.{Held, held, Machine, machine, does, runs}
 use Rattle.stepping.specs.Steps.{going, reached}
-use Rattle.machine.specs.Contracts.{at-end, Chain, along, Started, RecordsRan}
 use Rattle.stepping.specs.Buffers.{withVariables, withOutputs, Stored, StoredImage}
-use Rattle.machine.specs.Calls.{ReadyToRun, steps, RunWhole, StopsSound, againRows, Resumes}
-use Rattle.machine.proofs.{Files.file-sound, Files.file-size, Doing.heldAfter, Doing.does-upto, Marks.marks-bytes, Running.runs-same}
-use Rattle.machine.proofs.Positions.{joined, Position, position, rest-shorter}
-use Rattle.machine.proofs.Bare.{bare, ahead-joined, runs-bare}
 use Rattle.stepping.proofs.ImageLaws.{beyond}
+use Rattle.running.specs.Contracts.{at-end, Chain, along, Started, RecordsRan}
+use Rattle.running.proofs.{Files.file-sound, Files.file-size, Doing.heldAfter, Doing.does-upto, Running.runs-same}
+use Rattle.running.proofs.Positions.{joined, Position, position, rest-shorter}
+use Rattle.running.proofs.Bare.{bare, ahead-joined, runs-bare}
+use Rattle.machine.specs.Calls.{ReadyToRun, steps, RunWhole, StopsSound, againRows, Resumes}
+use Rattle.machine.proofs.Marks.{marks-bytes}
 
 -- LENGTHS
 

@@ -1,3 +1,2 @@
 -- What the contracts of the machine cite beside the model's definitions.
-pub mod Contracts
 pub mod Calls

@@ -1,7 +1,5 @@
 // Runs of files of all three forms: whole, up to a tick, and taken up.
-mod blocks;
 mod ready;
-mod tables;
 
 ghost use mathlib.Core.Path.{_≡_};
 ghost use lib.ListN.{length, replicate};
@@ -21,6 +19,7 @@ use reading::Checked;
 use ready::bad_buffers;
 use ready::ready;
 use records::words::copy;
+use running::tables::run_from;
 use stepping::buffers::load_outputs;
 use stepping::buffers::load_variables;
 use stepping::buffers::load_words;
@@ -30,7 +29,6 @@ use stepping::cells::CELLS;
 use stepping::images::after_save;
 use stepping::images::store_image;
 use stepping::progress::Progress;
-use tables::run_from;
 
 // All levels and marks set to 0.
 fn clear(levels: &mut [u32], marks: &mut [u8])

@@ -17,7 +17,7 @@ use Rattle.model.proofs.Shapes.{neither}
 use Rattle.theory.proofs.{Within.run-within, Left.rest-0, Reached.rest-reached}
 use Rattle.theory.proofs.Accepted.{passed, read, in-range, equalise-accepted, lay-out-accepted}
 use Rattle.preparation.proofs.Chaining.{second-done}
-use Rattle.machine.proofs.Positions.{rest-shorter}
+use Rattle.running.proofs.Positions.{rest-shorter}
 use Rattle.rack.specs.Words.{fileWord, runWord}
 use Rattle.tables.specs.Numbers.{entryFrom, badTable, numbersReply, numbersStatus}
 use Rattle.tables.proofs.TableLaws.{health-small}

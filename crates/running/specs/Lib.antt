@@ -1,0 +1,2 @@
+-- What the contracts of running cite beside the model's definitions.
+pub mod Contracts
