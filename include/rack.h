@@ -9,7 +9,7 @@
 // Stack: measured on files nested as deep as may be, a call needs up to 18,224 bytes, and rack_prepare 27,536.
 // Settings: RACK_SETTINGS bytes or, where a number is wider, RACK_WIDE_SETTINGS; any other length is refused 6. Equal numbers give every call
 // the same answer and the same bytes in either form. Heartbeats, totals and taking up are as promised where a task is prepared, run and taken
-// up under settings of the same numbers. Other settings are not refused: the file is then run as its records stand.
+// up under settings of the same numbers. Those of other numbers are not refused: the file is then run as its records stand.
 //
 // A call answers one number.
 // Finished: bit 63 is 0. Bits 0 to 23 hold the first value, bits 24 to 55 the second, and bits 56 to 62 the flags: RACK_OVERRAN and
