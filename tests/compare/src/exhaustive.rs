@@ -19,6 +19,7 @@ const SMALL: Settings = Settings {
     spacing: 2,
     window: 4,
     period: 60,
+    wide: true,
 };
 
 pub fn part(comparer: &mut Comparer, seed: u64) {
