@@ -257,12 +257,15 @@ pub fn stops(
     task: &[u8],
     set: &Set,
 ) {
-    let prepared = prepare(comparer, random, settings, task).expect("the task is laid out");
+    let Some(prepared) = prepare(comparer, random, settings, task) else {
+        return comparer.fault("a task is not laid out");
+    };
     prepared.run_all(comparer, random, set);
     for form in [TASK, EQUALISED, LAID] {
         let job = prepared.job(form, set);
-        let (_, whole) = chain::run(comparer, random, &job);
-        let whole = whole.expect("the task runs");
+        let (_, Some(whole)) = chain::run(comparer, random, &job) else {
+            return comparer.fault("a task does not run");
+        };
         for tick in 0..=whole.tick + 1 {
             chain::stop(comparer, random, &job, &whole, tick);
         }

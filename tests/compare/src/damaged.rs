@@ -167,8 +167,9 @@ fn noise(comparer: &mut Comparer, random: &mut Random, settings: &Settings) {
     let length = random.pick(&[0, 1, 11, 12, 13, 24, 72]);
     let file = random.bytes(length);
     let form = random.between(0, 3) as u8;
+    let length = random.pick(&[12, WIDE_SETTINGS]);
     let settings = match random.chance(1, 2) {
-        true => random.bytes(12),
+        true => random.bytes(length),
         false => settings.bytes(),
     };
     all_calls(comparer, random, &settings, form, &file);

@@ -25,10 +25,9 @@ pub fn settings(random: &mut Random) -> Settings {
     }
 }
 
-/// Numbers that one record holds; at times they are in two all the same.
+/// Numbers that one record holds.
 pub fn small(random: &mut Random) -> Settings {
     let numbers = Settings {
-        wide: random.chance(1, 3),
         spacing: random.pick(&[1, 1, 2, 2, 3, 3, 7, 255]),
         ..of_ticks(random, |random| match random.below(40) {
             0 => 255,
@@ -86,9 +85,11 @@ fn large(random: &mut Random) -> Settings {
     numbers.with_window(window.max(least))
 }
 
-/// Settings of such ticks, with a period that suits them. The spacing and the
-/// window are still to be chosen.
+/// Settings of such ticks, with a period that suits them, at times in two
+/// records where one would do. The spacing and the window are still to be
+/// chosen.
 fn of_ticks(random: &mut Random, ticks: fn(&mut Random) -> u32) -> Settings {
+    let wide = random.chance(1, 3);
     let mut ticks = || ticks(random) as u16;
     let numbers = Settings {
         set: ticks(),
@@ -99,7 +100,7 @@ fn of_ticks(random: &mut Random, ticks: fn(&mut Random) -> u32) -> Settings {
         spacing: 1,
         window: 1,
         period: 1,
-        wide: true,
+        wide,
     };
     let longest = with_room(&numbers).period;
     numbers.with_period(random.between(1, longest))

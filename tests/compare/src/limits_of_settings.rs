@@ -19,6 +19,7 @@ pub fn part(comparer: &mut Comparer, seed: u64) {
     row.last_number();
 }
 
+/// The smallest numbers under which a file is laid out.
 const LEAST: Settings = Settings {
     set: 1,
     read: 1,
@@ -39,7 +40,7 @@ struct Row<'a> {
 fn in_range(numbers: &Settings) -> bool {
     let mut numbers = *numbers;
     let (window, period) = (numbers.window, numbers.period);
-    SMALL.iter().all(|place| *place(&mut numbers) > 0)
+    SMALL_NUMBERS.iter().all(|place| *place(&mut numbers) > 0)
         && (1..=MOST_WINDOW).contains(&window)
         && (1..=MOST_PERIOD).contains(&period)
 }
@@ -117,7 +118,7 @@ impl Row<'_> {
     /// Lengths other than 12 and 24, the bytes repeated or followed by zeros.
     fn lengths(&mut self) {
         const LENGTHS: [usize; 8] = [0, 11, 13, 23, 25, 36, 48, 96];
-        // Right again if all but one or two bytes of the length were lost.
+        // Right again if only one byte of the length, or two, were looked at.
         const FAR: [usize; 4] = [12 + 256, 24 + 256, 12 + 65_536, 24 + 65_536];
         for good in [LEAST.bytes(), LEAST.two_records()] {
             for length in LENGTHS.into_iter().chain(FAR) {
@@ -160,7 +161,7 @@ impl Row<'_> {
     }
 
     fn least_numbers(&mut self) {
-        for place in SMALL {
+        for place in SMALL_NUMBERS {
             for number in [0, 1, 2] {
                 let mut numbers = LEAST;
                 *place(&mut numbers) = number;
@@ -180,7 +181,7 @@ impl Row<'_> {
         let mut all = Vec::new();
         for number in [254, 255, 256, 257, 65_280, 65_534, 65_535] {
             let mut every = long;
-            for place in SMALL {
+            for place in SMALL_NUMBERS {
                 let mut single = long;
                 *place(&mut single) = number;
                 *place(&mut every) = number;
@@ -190,7 +191,7 @@ impl Row<'_> {
         }
         for numbers in all {
             let least = numbers.least_window();
-            for window in [200_000, least, least - 1, least + 1] {
+            for window in [200_000, 999_999, MOST_WINDOW, least, least - 1, least + 1] {
                 self.numbers(&numbers.with_window(window));
             }
         }

@@ -46,7 +46,7 @@ use std::process::ExitCode;
 use std::time::{Duration, Instant, SystemTime, UNIX_EPOCH};
 
 /// A default run with fewer calls has lost a part.
-const LEAST_CALLS: u64 = 3_000_000;
+const LEAST_CALLS: u64 = 4_200_000;
 
 /// Likewise, by what the calls answered.
 const LEAST_OF_A_KIND: u64 = 100;

@@ -107,7 +107,7 @@ fn break_settings(random: &mut Random, settings: &mut Vec<u8>) {
         3 => zero(settings, random.index(6)),
         4 if settings.len() == WIDE_SETTINGS => settings[20 + random.index(4)] = 1,
         _ => {
-            let at = settings.len() / 12 * 8;
+            let at = period_place(settings);
             settings[at..at + 4].copy_from_slice(&1_000_001u32.to_le_bytes());
         }
     }

@@ -128,16 +128,9 @@ pub fn image(index: u32, tick: u32, variables: &[u32]) -> Vec<u8> {
     words.flat_map(u32::to_le_bytes).collect()
 }
 
-/// The period of settings in either form.
-pub fn period_of(settings: &[u8]) -> u32 {
-    number(
-        settings,
-        if settings.len() == WIDE_SETTINGS {
-            16
-        } else {
-            8
-        },
-    )
+/// Where the period stands in settings of either form.
+pub fn period_place(settings: &[u8]) -> usize {
+    settings.len() / 3 * 2
 }
 
 /// The settings' numbers, named.
@@ -155,8 +148,8 @@ pub struct Settings {
     pub wide: bool,
 }
 
-/// The six small numbers in turn.
-pub const SMALL: [fn(&mut Settings) -> &mut u16; 6] = [
+/// The numbers other than the window and the period, in turn.
+pub const SMALL_NUMBERS: [fn(&mut Settings) -> &mut u16; 6] = [
     |numbers| &mut numbers.set,
     |numbers| &mut numbers.read,
     |numbers| &mut numbers.write,

@@ -201,7 +201,7 @@ impl Control {
         // A period longer by a window, since less may not show.
         let period = settings.with_period(settings.period + settings.window);
         let told = |other: &Settings| told_apart(settings, other, &factorial());
-        for other in SMALL.iter().map(more).chain([window, period]) {
+        for other in SMALL_NUMBERS.iter().map(more).chain([window, period]) {
             self.tried += 1;
             self.missed += u64::from(told(settings) || !told(&other));
         }

@@ -4,6 +4,7 @@
 
 use crate::bench::{lettered, stops};
 use crate::call::{Answer, Call, Kind, Outcome, Set};
+use crate::chain::prepare;
 use crate::comparer::Comparer;
 use crate::damaged::{damage, zero};
 use crate::generate::{self, set_of_values};
@@ -164,7 +165,8 @@ fn written(outcome: Outcome) -> Option<Vec<u8>> {
     }
 }
 
-/// Its listing, and every stop tick on both sides of its IF.
+/// Its listing, the shortest period for it, and every stop tick on both sides
+/// of its IF.
 fn river(comparer: &mut Comparer, random: &mut Random) {
     if RIVER.bytes() != RIVER_SETTINGS {
         comparer.fault("river.set has other numbers");
@@ -172,6 +174,12 @@ fn river(comparer: &mut Comparer, random: &mut Random) {
     let listing = second::list(RIVER_SETTINGS, RIVER_TASK);
     if listing != RIVER_LISTING {
         comparer.fault(&format!("the river room's listing:\n{listing}"));
+    }
+    for (period, fits) in [(3003, true), (3002, false)] {
+        let tight = RIVER.with_period(period);
+        if prepare(comparer, random, &tight, RIVER_TASK).is_some() != fits {
+            comparer.fault("the river room's total is another");
+        }
     }
     for probe in [49, 50] {
         let set = Set {

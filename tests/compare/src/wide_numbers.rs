@@ -18,6 +18,7 @@ pub fn part(comparer: &mut Comparer, seed: u64) {
     wide.sums();
     wide.far_times();
     wide.long_skips();
+    wide.far_clocks();
 }
 
 /// Every step takes one tick, and the period is the longest.
@@ -31,6 +32,13 @@ const QUICK: Settings = Settings {
     window: 4,
     period: MOST_PERIOD,
     wide: true,
+};
+
+/// Commands take nearly all of a window.
+const CROWDED: Settings = Settings {
+    beat: 65_535,
+    save: 65_535,
+    ..QUICK
 };
 
 struct Wide<'a> {
@@ -60,8 +68,7 @@ impl Wide<'_> {
         self.comparer.expect(&call, expected);
     }
 
-    /// Each step takes the ticks in its place: all different, then one of them
-    /// at an edge.
+    /// Each step takes the ticks in its own place, in either form.
     fn places(&mut self) {
         let narrow = Settings {
             set: 2,
@@ -137,7 +144,9 @@ impl Wide<'_> {
 
     fn saves(&mut self, numbers: &Settings, task: &[u8]) {
         let prepared = prepare(self.comparer, &mut self.random, numbers, task);
-        let prepared = prepared.expect("the task is laid out");
+        let Some(prepared) = prepared else {
+            return self.comparer.fault("a task is not laid out");
+        };
         let apart = numbers.ticks_between_saves() as usize;
         let commands = u32::from(numbers.beat) + u32::from(numbers.save);
         let last = prepared.total - u32::from(numbers.beat);
@@ -224,12 +233,15 @@ impl Wide<'_> {
         };
         let task = bytes(&[read(0, 0), set(ADD, 0, 0, 1), write(0, 0), write(0, 1)]);
         let prepared = prepare(self.comparer, &mut self.random, &numbers, &task);
-        let prepared = prepared.expect("the task is laid out");
+        let Some(prepared) = prepared else {
+            return self.comparer.fault("a task is not laid out");
+        };
         let set = set_of_values(&mut self.random);
         for form in [TASK, EQUALISED, LAID] {
             let job = prepared.job(form, &set);
-            let (_, whole) = chain::run(self.comparer, &mut self.random, &job);
-            let whole = whole.expect("the task runs");
+            let (_, Some(whole)) = chain::run(self.comparer, &mut self.random, &job) else {
+                return self.comparer.fault("a task does not run");
+            };
             let ends = (ticks..=whole.tick).step_by(ticks as usize);
             for tick in ends.flat_map(|end| [end - ticks / 2, end - 1, end, end + 1]) {
                 chain::stop(self.comparer, &mut self.random, &job, &whole, tick);
@@ -248,11 +260,8 @@ impl Wide<'_> {
         let few = bytes(&[set(ADD, 0, 0, 1), read(0, 0), write(0, 0), write(0, 0)]);
         let many = vec![write(0, 0); 15];
         let exact = bytes(&[many.clone(), vec![skip(16_975)]].concat());
-        for (file, time) in [
-            (few, 171_370),
-            (bytes(&many), 983_025),
-            (exact, MOST_PERIOD),
-        ] {
+        let files = [few, bytes(&many), exact];
+        for (file, time) in files.into_iter().zip([171_370, 983_025, MOST_PERIOD]) {
             for period in [time, time - 1] {
                 let settings = slow.with_period(period).bytes();
                 self.all_timed(&settings, &file, time, period);
@@ -264,31 +273,21 @@ impl Wide<'_> {
 
     /// A file of steps alone, in each call that answers its time or runs it.
     fn all_timed(&mut self, settings: &[u8], file: &[u8], time: u32, period: u32) {
-        let (overran, saved) = (false, false);
+        let (tick, overran) = (time, false);
+        let ended = Answer::Ended { tick, overran };
+        let (tick, saved) = (1, false);
         let bytes = file.len();
         let taken = [
             (Kind::Time, Answer::Time(time)),
             (Kind::Equalise, Answer::Written { bytes, time }),
-            (
-                Kind::Run,
-                Answer::Ended {
-                    tick: time,
-                    overran,
-                },
-            ),
-            (Kind::RunUntil, Answer::Stopped { tick: 1, saved }),
-            (
-                Kind::Restart,
-                Answer::Ended {
-                    tick: time,
-                    overran,
-                },
-            ),
+            (Kind::Run, ended.clone()),
+            (Kind::RunUntil, Answer::Stopped { tick, saved }),
+            (Kind::Restart, ended),
         ];
         for (kind, answer) in taken {
             let lend = |call: &mut Call| {
                 call.lent.out = vec![9; bytes];
-                call.stop = 1;
+                call.stop = tick;
             };
             let expected = if time <= period {
                 answer
@@ -329,22 +328,43 @@ impl Wide<'_> {
     /// With one tick beside the commands of a window, a SKIP of 7 still fits
     /// the period, and one of 1,000,000 would last 131,071,000,000 ticks.
     fn long_skips(&mut self) {
-        let slow = Settings {
-            beat: 65_535,
-            save: 65_535,
-            ..QUICK
-        };
-        let numbers = slow.with_window(131_071);
+        let numbers = CROWDED.with_window(131_071);
         let windows = [beat(1), save(), skip(1)].repeat(7);
         let laid = bytes(&[windows, vec![beat(1)]].concat());
         self.laid(&numbers, &skip(7), &laid, 7 * 131_071 + 65_535);
-        let (settings, refused) = (numbers.bytes(), Answer::refused(8));
+        for count in [8, 1000, 999_999, 1_000_000] {
+            self.too_long(TASK, &numbers, &[skip(count)]);
+        }
         let sides = [test(IF, EQUAL, 0, 0), skip(999_999), otherwise(), end()];
-        let files = [bytes(&[skip(8)]), bytes(&[skip(1_000_000)]), bytes(&sides)];
-        for file in files {
-            for kind in [Kind::LayOut, Kind::Prepare] {
-                self.expect(kind, &settings, (TASK, &file), |_| {}, refused.clone());
-            }
+        self.too_long(TASK, &numbers, &sides);
+    }
+
+    /// With two ticks beside them, 65,536 steps last 2^32 ticks. Those after them
+    /// would be at the start again if the clock went by 32 bits.
+    fn far_clocks(&mut self) {
+        let numbers = CROWDED.with_window(131_072);
+        for more in [0, 1, 6, 10] {
+            self.too_long(TASK, &numbers, &[skip(65_536 + more)]);
+            self.too_long(TASK, &numbers, &[write(0, 0), skip(65_535 + more)]);
+            // The last test is a step too.
+            let rounds = vec![repeat(TIMES, BELOW, 0, 0, 65_535), write(0, 0), end()];
+            let steps = vec![write(0, 0); more as usize];
+            self.too_long(EQUALISED, &numbers, &[rounds, steps].concat());
+        }
+    }
+
+    /// A file whose own time is within the period, but not that of the laid one.
+    /// A task is handed over as an equalised file too: it has no loops.
+    fn too_long(&mut self, form: u8, numbers: &Settings, file: &[Record]) {
+        let (settings, file) = (numbers.bytes(), bytes(file));
+        let kinds: &[Kind] = match form {
+            TASK => &[Kind::LayOut, Kind::Prepare],
+            _ => &[Kind::LayOut],
+        };
+        for &kind in kinds {
+            let call = Call::new(kind, &settings, form, &file, &mut self.random);
+            let call = call.with_out(MOST_BYTES, &mut self.random);
+            self.comparer.expect(&call, Answer::refused(8));
         }
     }
 }
