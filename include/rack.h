@@ -7,8 +7,9 @@
 // Threads: there is no global data, and a call keeps nothing and uses no heap. Calls may be made from any threads at once, each with
 // buffers of its own.
 // Stack: measured on files nested as deep as may be, a call needs up to 18,224 bytes, and rack_prepare 27,536.
-// Settings: heartbeats, totals and taking up are as promised where a task is prepared, run and taken up under settings of the same numbers.
-// Other settings are not refused: the file is then run as its records stand.
+// Settings: RACK_SETTINGS bytes or, where a number is wider, RACK_WIDE_SETTINGS; any other length is refused 6. Equal numbers give every call
+// the same answer and the same bytes in either form. Heartbeats, totals and taking up are as promised where a task is prepared, run and taken
+// up under settings of the same numbers. Those of other numbers are not refused: the file is then run as its records stand.
 //
 // A call answers one number.
 // Finished: bit 63 is 0. Bits 0 to 23 hold the first value, bits 24 to 55 the second, and bits 56 to 62 the flags: RACK_OVERRAN and
@@ -25,7 +26,7 @@ extern "C" {
 #endif
 
 // Raised with every change of a call, a number or a format.
-#define RACK_VERSION 2
+#define RACK_VERSION 3
 
 // The form of a file. Any other number is taken as laid.
 enum { RACK_TASK = 0, RACK_EQUALISED = 1, RACK_LAID = 2 };
@@ -53,8 +54,13 @@ enum {
     RACK_BAD_ENTRY = 13
 };
 
+// The bytes of settings, which have the ticks of SET, READ, WRITE, BEAT and SAVE, the spacing K, the window H and the period P. In
+// RACK_SETTINGS they are six numbers of one byte, one of two bytes and one of four; in RACK_WIDE_SETTINGS six of two bytes and two of four,
+// and then a zero of four. Each is at least 1, and H and P are at most 1,000,000.
+enum { RACK_SETTINGS = 12, RACK_WIDE_SETTINGS = 24 };
+
 // Lengths that a call asks for, in elements.
-enum { RACK_SETTINGS = 12, RACK_VARIABLES = 16, RACK_PORTS = 8, RACK_IMAGE = 72 };
+enum { RACK_VARIABLES = 16, RACK_PORTS = 8, RACK_IMAGE = 72 };
 
 // The bytes of a record, the most records of a task and of any file, and the bytes of the longest file.
 enum { RACK_RECORD = 12, RACK_TASK_RECORDS = 256, RACK_RECORDS = 5461, RACK_LONGEST = 65532 };
@@ -145,29 +151,29 @@ struct rack_state {
     uint8_t marks[RACK_PORTS];
 };
 
-// The calls above on a state, with the lengths that they ask for: settings of RACK_SETTINGS bytes, RACK_PORTS inputs, and an image of
-// RACK_IMAGE bytes.
-static inline uint64_t rack_state_run(const uint8_t *settings, uint8_t form, const uint8_t *file, size_t file_length,
-                                      struct rack_state *state, const uint32_t *inputs) {
-    return rack_run(settings, RACK_SETTINGS, form, file, file_length, state->variables, RACK_VARIABLES, inputs, RACK_PORTS, state->levels,
-                    RACK_PORTS, state->marks, RACK_PORTS);
+// The calls above on a state, with the lengths that they ask for: RACK_PORTS inputs, and an image of RACK_IMAGE bytes.
+static inline uint64_t rack_state_run(const uint8_t *settings, size_t settings_length, uint8_t form, const uint8_t *file,
+                                      size_t file_length, struct rack_state *state, const uint32_t *inputs) {
+    return rack_run(settings, settings_length, form, file, file_length, state->variables, RACK_VARIABLES, inputs, RACK_PORTS,
+                    state->levels, RACK_PORTS, state->marks, RACK_PORTS);
 }
 
-static inline uint64_t rack_state_run_until(const uint8_t *settings, uint8_t form, const uint8_t *file, size_t file_length,
-                                            struct rack_state *state, const uint32_t *inputs, uint8_t *image, uint32_t stop) {
-    return rack_run_until(settings, RACK_SETTINGS, form, file, file_length, state->variables, RACK_VARIABLES, inputs, RACK_PORTS,
+static inline uint64_t rack_state_run_until(const uint8_t *settings, size_t settings_length, uint8_t form, const uint8_t *file,
+                                            size_t file_length, struct rack_state *state, const uint32_t *inputs, uint8_t *image,
+                                            uint32_t stop) {
+    return rack_run_until(settings, settings_length, form, file, file_length, state->variables, RACK_VARIABLES, inputs, RACK_PORTS,
                           state->levels, RACK_PORTS, state->marks, RACK_PORTS, image, RACK_IMAGE, stop);
 }
 
-static inline uint64_t rack_state_resume(const uint8_t *settings, uint8_t form, const uint8_t *file, size_t file_length,
-                                         struct rack_state *state, const uint32_t *inputs, const uint8_t *image) {
-    return rack_resume(settings, RACK_SETTINGS, form, file, file_length, state->variables, RACK_VARIABLES, inputs, RACK_PORTS,
+static inline uint64_t rack_state_resume(const uint8_t *settings, size_t settings_length, uint8_t form, const uint8_t *file,
+                                         size_t file_length, struct rack_state *state, const uint32_t *inputs, const uint8_t *image) {
+    return rack_resume(settings, settings_length, form, file, file_length, state->variables, RACK_VARIABLES, inputs, RACK_PORTS,
                        state->levels, RACK_PORTS, state->marks, RACK_PORTS, image, RACK_IMAGE);
 }
 
-static inline uint64_t rack_state_restart(const uint8_t *settings, uint8_t form, const uint8_t *file, size_t file_length,
-                                          struct rack_state *state, const uint32_t *inputs) {
-    return rack_restart(settings, RACK_SETTINGS, form, file, file_length, state->variables, RACK_VARIABLES, inputs, RACK_PORTS,
+static inline uint64_t rack_state_restart(const uint8_t *settings, size_t settings_length, uint8_t form, const uint8_t *file,
+                                          size_t file_length, struct rack_state *state, const uint32_t *inputs) {
+    return rack_restart(settings, settings_length, form, file, file_length, state->variables, RACK_VARIABLES, inputs, RACK_PORTS,
                         state->levels, RACK_PORTS, state->marks, RACK_PORTS);
 }
 

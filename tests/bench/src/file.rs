@@ -18,20 +18,27 @@ pub const MOST_ROUNDS: u32 = 65535;
 pub const PERIOD: u32 = 1_000_000;
 
 /// The ticks of SET, READ and WRITE, then B, S, K and H. The period is the longest that there is.
-pub fn settings(step: u8, beat: u8, save: u8, spacing: u8, window: u16) -> [u8; RECORD] {
-    let mut bytes = [step, step, step, beat, save, spacing, 0, 0, 0, 0, 0, 0];
+pub fn settings(step: u8, beat: u8, save: u8, spacing: u8, window: u16) -> Vec<u8> {
+    let mut bytes = vec![step, step, step, beat, save, spacing, 0, 0, 0, 0, 0, 0];
     bytes[6..8].copy_from_slice(&window.to_le_bytes());
     bytes[8..].copy_from_slice(&PERIOD.to_le_bytes());
     bytes
 }
 
 /// The bench settings of the paper, with the longest period.
-pub fn usual() -> [u8; RECORD] {
+pub fn usual() -> Vec<u8> {
     settings(3, 3, 10, 4, 20)
 }
 
+/// The same numbers in two records.
+pub fn usual_wide() -> Vec<u8> {
+    let small = [3u16, 3, 3, 3, 10, 4].map(u16::to_le_bytes);
+    let large = [20, PERIOD, 0].map(u32::to_le_bytes);
+    [small.concat(), large.concat()].concat()
+}
+
 /// Every step takes one tick, and a window is long.
-pub fn quick() -> [u8; RECORD] {
+pub fn quick() -> Vec<u8> {
     settings(1, 1, 1, 255, 10000)
 }
 

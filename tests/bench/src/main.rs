@@ -21,7 +21,7 @@ type Call = fn(&Input) -> Measured;
 struct Case<'a> {
     call: &'a str,
     make: Call,
-    settings: [u8; RECORD],
+    settings: Vec<u8>,
     form: Form,
 }
 
@@ -46,7 +46,7 @@ fn wanted(call: &str, input: &str) -> bool {
 }
 
 /// Laid out; a task is equalised first.
-fn laid(settings: &[u8; RECORD], form: Form, file: &[u8]) -> Option<Vec<u8>> {
+fn laid(settings: &[u8], form: Form, file: &[u8]) -> Option<Vec<u8>> {
     let mut room = vec![0; RECORD * LONGEST];
     let make = if form == Form::Task { rack::prepare } else { rack::lay_out };
     let n = make(settings, file, &mut room).ok()?.bytes;
@@ -67,7 +67,7 @@ fn largest(most: u32, holds: impl Fn(u32) -> bool) -> u32 {
     low
 }
 
-fn fitting(settings: &[u8; RECORD], shape: Shape, most: u32, records: usize) -> u32 {
+fn fitting(settings: &[u8], shape: Shape, most: u32, records: usize) -> u32 {
     largest(most, |n| {
         let file = made(shape, n);
         file.records() <= LONGEST && laid(settings, Form::Equalised, &file.0).is_some_and(|l| l.len() <= RECORD * records)
@@ -75,7 +75,7 @@ fn fitting(settings: &[u8; RECORD], shape: Shape, most: u32, records: usize) -> 
 }
 
 /// The largest n that the period takes, by the time of the file once it is laid out.
-fn in_period(settings: &[u8; RECORD], shape: Shape, most: u32) -> u32 {
+fn in_period(settings: &[u8], shape: Shape, most: u32) -> u32 {
     largest(most, |n| {
         let file = made(shape, n).0;
         let mut room = vec![0; RECORD * LONGEST];
@@ -149,19 +149,19 @@ fn preparing() {
 
 /// The inputs that cost most. Their numbers are those of the notes under the table.
 fn worst_lay_out() {
-    let case = |settings| Case { call: "lay out", make: calls::lay_out, settings, form: Form::Equalised };
+    let case = |settings: &[u8]| Case { call: "lay out", make: calls::lay_out, settings: settings.to_vec(), form: Form::Equalised };
     let narrow = file::settings(1, 1, 1, 1, 3);
     let n = in_period(&narrow, file::nested_skip, PERIOD);
-    case(narrow).measure("1. 16 nested IFs around SKIP n, H 3, K 1", file::nested_skip, n, 17.0 * f64::from(n), "windows of sides");
+    case(&narrow).measure("1. 16 nested IFs around SKIP n, H 3, K 1", file::nested_skip, n, 17.0 * f64::from(n), "windows of sides");
     let n = in_period(&file::quick(), file::empty_loops, MOST_ROUNDS);
-    case(file::quick()).measure("2. TIMES n of 15 empty TIMES 65535", file::empty_loops, n, 15.0 * f64::from(n), "empty TIMES");
+    case(&file::quick()).measure("2. TIMES n of 15 empty TIMES 65535", file::empty_loops, n, 15.0 * f64::from(n), "empty TIMES");
     let commands = file::settings(1, 255, 255, 255, 511);
     let n = in_period(&commands, file::rounds, MOST_ROUNDS);
-    case(commands).measure("3. TIMES n of 9 steps, B = S = 255, H 511, K 255", file::rounds, n, 9.0 * f64::from(n), "steps");
+    case(&commands).measure("3. TIMES n of 9 steps, B = S = 255, H 511, K 255", file::rounds, n, 9.0 * f64::from(n), "steps");
     let n = MOST_ROUNDS;
-    case(file::quick()).measure("4. TIMES n of a full tree of 1023 IFs", file::full_tree, n, 1023.0 * f64::from(n), "IFs");
+    case(&file::quick()).measure("4. TIMES n of a full tree of 1023 IFs", file::full_tree, n, 1023.0 * f64::from(n), "IFs");
     let n = in_period(&narrow, file::skips_in_a_row, 1000);
-    case(narrow).measure(
+    case(&narrow).measure(
         "5. 1365 IFs in a row around SKIP n, H 3, K 1",
         file::skips_in_a_row,
         n,
@@ -170,7 +170,7 @@ fn worst_lay_out() {
     );
     // A window for each tick of the SKIP and each test on the path.
     let n = PERIOD / 3 - 13;
-    case(narrow).measure(
+    case(&narrow).measure(
         "5. 1535 IFs, 13 deep, around SKIP n, H 3, K 1",
         file::skips_in_a_tree,
         n,
@@ -178,10 +178,10 @@ fn worst_lay_out() {
         "windows of sides",
     );
     // 15 * 65500 ticks end in the last window that the period takes whole.
-    let wide = file::settings(1, 1, 1, 255, 65535);
+    let long = file::settings(1, 1, 1, 255, 65535);
     let n = 65500;
-    case(wide).measure("6. 546 loops in a tree, TIMES 15 of TIMES n of an IF", file::loops_in_a_tree, n, 8190.0 * f64::from(n), "IFs");
-    case(wide).measure("7. 121 loops, 15 deep, TIMES n of 15 SKIP 1", file::loops_in_second_sides, n, 1815.0 * f64::from(n), "SKIPs");
+    case(&long).measure("6. 546 loops in a tree, TIMES 15 of TIMES n of an IF", file::loops_in_a_tree, n, 8190.0 * f64::from(n), "IFs");
+    case(&long).measure("7. 121 loops, 15 deep, TIMES n of 15 SKIP 1", file::loops_in_second_sides, n, 1815.0 * f64::from(n), "SKIPs");
 }
 
 fn running() {
@@ -236,6 +236,21 @@ fn stop_laid(input: &str, form: Form, shape: Shape, n: u32) {
     line(&Work { call: "run until, resume", input, records, units: records as f64, unit: "laid records" }, &m);
 }
 
+/// The numbers of the other lines, in two records.
+fn wide_settings() {
+    let input = "the factorial, wide settings";
+    let case = |call, make, form| Case { call, make, settings: file::usual_wide(), form };
+    let task = made(file::factorial, 10).0;
+    let mut room = vec![0; RECORD * LONGEST];
+    let n = rack::equalise(&file::usual_wide(), &task, &mut room).map_or(0, |w| w.bytes);
+    let laid = laid(&file::usual_wide(), Form::Task, &task).unwrap_or_default();
+    let records = (laid.len() / RECORD) as f64;
+    case("equalise", calls::equalise, Form::Task).measure_bytes(input, &task, 12.0, "records");
+    case("lay out", calls::lay_out, Form::Equalised).measure_bytes(input, &room[..n], records, "laid records");
+    case("prepare", calls::prepare, Form::Task).measure_bytes(input, &task, records, "laid records");
+    case("run", calls::run, Form::Laid).measure_bytes(input, &laid, records, "laid records");
+}
+
 fn main() {
     table::head();
     timing();
@@ -244,6 +259,7 @@ fn main() {
     preparing();
     running();
     stopping();
+    wide_settings();
     watch::watching();
     worst_lay_out();
     if std::env::args().len() == 1 {

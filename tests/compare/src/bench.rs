@@ -17,6 +17,7 @@ pub const BENCH: Settings = Settings {
     spacing: 4,
     window: 20,
     period: 100,
+    wide: false,
 };
 
 const LISTING_B: &str =
@@ -242,17 +243,31 @@ impl Bench<'_> {
         }
     }
 
-    /// All three forms, stopped at each tick up to one past the end.
     fn stops(&mut self, settings: &Settings, task: &[u8], set: &Set) {
-        let prepared = self.prepared(settings, task);
-        prepared.run_all(self.comparer, &mut self.random, set);
-        for form in [TASK, EQUALISED, LAID] {
-            let job = prepared.job(form, set);
-            let (_, whole) = chain::run(self.comparer, &mut self.random, &job);
-            let whole = whole.expect("a bench task runs");
-            for tick in 0..=whole.tick + 1 {
-                chain::stop(self.comparer, &mut self.random, &job, &whole, tick);
-            }
+        stops(self.comparer, &mut self.random, settings, task, set);
+    }
+}
+
+/// All three forms of a task that is laid out, stopped at each tick up to one
+/// past the end.
+pub fn stops(
+    comparer: &mut Comparer,
+    random: &mut Random,
+    settings: &Settings,
+    task: &[u8],
+    set: &Set,
+) {
+    let Some(prepared) = prepare(comparer, random, settings, task) else {
+        return comparer.fault("a task is not laid out");
+    };
+    prepared.run_all(comparer, random, set);
+    for form in [TASK, EQUALISED, LAID] {
+        let job = prepared.job(form, set);
+        let (_, Some(whole)) = chain::run(comparer, random, &job) else {
+            return comparer.fault("a task does not run");
+        };
+        for tick in 0..=whole.tick + 1 {
+            chain::stop(comparer, random, &job, &whole, tick);
         }
     }
 }

@@ -10,7 +10,7 @@ use crate::records::*;
 pub fn part(comparer: &mut Comparer, seed: u64, rounds: u64) {
     let mut random = Random::new(seed);
     for _ in 0..rounds {
-        let settings = generate::settings(&mut random).with_period(3000);
+        let settings = generate::with_room(&generate::settings(&mut random));
         let size = generate::size(&mut random, TASK);
         let task = bytes(&generate::file(&mut random, &settings, TASK, size));
         let Some(prepared) = prepare(comparer, &mut random, &settings, &task) else {

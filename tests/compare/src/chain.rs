@@ -15,7 +15,7 @@ pub struct Job<'a> {
     pub file: &'a [u8],
     pub set: &'a Set,
     /// The ticks that taking up may run again, where the paper bounds them.
-    pub spacing: Option<u32>,
+    pub spacing: Option<u64>,
 }
 
 /// What demand 3 compares, and the end tick, which it does not.
@@ -60,14 +60,14 @@ impl End {
 
 /// A task that was equalised and laid out.
 pub struct Prepared {
-    pub settings: [u8; 12],
+    pub settings: Vec<u8>,
     pub task: Vec<u8>,
     pub equalised: Vec<u8>,
     pub laid: Vec<u8>,
     pub time: u32,
     pub total: u32,
     pub walk: Walk,
-    spacing: u32,
+    spacing: u64,
 }
 
 /// Times a file; the call answers a refusal as nothing.
@@ -147,7 +147,7 @@ pub fn prepare(
         time: time_equal,
         total,
         walk,
-        spacing: u32::from(numbers.spacing) * u32::from(numbers.window),
+        spacing: numbers.ticks_between_saves(),
     })
 }
 
@@ -220,7 +220,7 @@ pub fn stop(comparer: &mut Comparer, random: &mut Random, job: &Job, whole: &End
     } else {
         0
     };
-    let again = tick.saturating_sub(from);
+    let again = u64::from(tick.saturating_sub(from));
     let few = job.spacing.is_none_or(|spacing| again < spacing);
     comparer.hold(few, "fewer ticks than K x H run again", &call, &outcome);
     take_up(comparer, random, job, whole, &outcome, saved);

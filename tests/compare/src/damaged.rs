@@ -11,7 +11,7 @@ use crate::records::*;
 pub fn part(comparer: &mut Comparer, seed: u64, rounds: u64) {
     let mut random = Random::new(seed);
     for round in 0..rounds {
-        let settings = generate::settings(&mut random).with_period(3000);
+        let settings = generate::with_room(&generate::settings(&mut random));
         let (form, file) = sound_file(comparer, &mut random, &settings);
         for _ in 0..4 {
             let damaged = damage(&mut random, &file);
@@ -100,19 +100,33 @@ fn edge(random: &mut Random, record: &mut [u8]) {
     }
 }
 
+/// Settings with a wrong length or number; some are right all the same.
 pub fn wrong_settings(random: &mut Random, settings: &Settings) -> Vec<u8> {
-    let mut bytes = settings.bytes().to_vec();
-    match random.below(5) {
-        0 => bytes.truncate(random.index(12)),
-        1 => bytes.resize(random.pick(&[13, 16, 24, 12 + 256, 12 + 65_536]), 1),
-        2 => bytes[random.index(6)] = 0,
-        3 => bytes[6..8].fill(0),
+    let mut bytes = settings.bytes();
+    let width = bytes.len() / 12;
+    let limits = [0, 65_536, 1_000_000, 1_000_001, 1 << 24, 1 << 31, u32::MAX];
+    match random.below(7) {
+        0 => bytes.truncate(random.index(bytes.len())),
+        1 => {
+            let lengths = [13, 16, 23, 24, 25, 36, 12 + 256, 12 + 65_536, 24 + 65_536];
+            bytes.resize(random.pick(&lengths), 1);
+        }
+        2 => zero(&mut bytes, random.index(6)),
+        3 => bytes[6 * width..8 * width].fill(0),
+        4 => bytes = settings.with_period(random.pick(&limits)).bytes(),
+        5 => bytes = settings.with_window(random.pick(&limits)).bytes(),
         _ => {
-            let period = random.pick(&[0, 1_000_000, 1_000_001, u32::MAX]);
-            bytes = settings.with_period(period).bytes().to_vec();
+            let last = bytes.len() - 1 - random.index(4);
+            bytes[last] = random.pick(&[1, 128, 255]);
         }
     }
     bytes
+}
+
+/// Makes one of the six small numbers 0.
+pub fn zero(settings: &mut [u8], place: usize) {
+    let width = settings.len() / 12;
+    settings[width * place..][..width].fill(0);
 }
 
 /// Each call that could take a file of the form.
@@ -153,9 +167,10 @@ fn noise(comparer: &mut Comparer, random: &mut Random, settings: &Settings) {
     let length = random.pick(&[0, 1, 11, 12, 13, 24, 72]);
     let file = random.bytes(length);
     let form = random.between(0, 3) as u8;
+    let length = random.pick(&[12, WIDE_SETTINGS]);
     let settings = match random.chance(1, 2) {
-        true => random.bytes(12),
-        false => settings.bytes().to_vec(),
+        true => random.bytes(length),
+        false => settings.bytes(),
     };
     all_calls(comparer, random, &settings, form, &file);
 }

@@ -9,7 +9,7 @@ use crate::random::Random;
 use crate::records::*;
 
 /// A window with 2 ticks left after BEAT and SAVE, so that waiting and
-/// splitting show in short tasks.
+/// splitting show in short tasks; in two records.
 const SMALL: Settings = Settings {
     set: 2,
     read: 1,
@@ -19,6 +19,7 @@ const SMALL: Settings = Settings {
     spacing: 2,
     window: 4,
     period: 60,
+    wide: true,
 };
 
 pub fn part(comparer: &mut Comparer, seed: u64) {

@@ -16,35 +16,107 @@ pub struct Size {
     pub time: u64,
 }
 
+/// Small numbers mostly, in either form; else some that only two records hold.
 pub fn settings(random: &mut Random) -> Settings {
-    let mut ticks = || -> u8 {
-        match random.below(40) {
-            0 => 255,
-            1 => random.between(1, 255) as u8,
-            _ => random.between(1, 6) as u8,
-        }
-    };
-    let (set, read, write, beat, save) = (ticks(), ticks(), ticks(), ticks(), ticks());
-    let mut numbers = Settings {
-        set,
-        read,
-        write,
-        beat,
-        save,
+    match random.below(8) {
+        0 => large(random),
+        1 | 2 => slow(random),
+        _ => small(random),
+    }
+}
+
+/// Numbers that one record holds.
+pub fn small(random: &mut Random) -> Settings {
+    let numbers = Settings {
         spacing: random.pick(&[1, 1, 2, 2, 3, 3, 7, 255]),
-        window: 0,
-        period: random.between(1, 3000),
+        ..of_ticks(random, |random| match random.below(40) {
+            0 => 255,
+            1 => random.between(1, 255),
+            _ => random.between(1, 6),
+        })
     };
-    let least = numbers.least_window();
     let more = match random.below(8) {
         0..=2 => 0,
         3 => 1,
-        4..=5 => random.between(0, 10) as u16,
-        6 => random.between(0, 300) as u16,
-        _ => random.between(0, 64_000) as u16,
+        4..=5 => random.between(0, 10),
+        6 => random.between(0, 300),
+        _ => random.between(0, 64_000),
     };
-    numbers.window = least + more;
-    numbers
+    numbers.with_window(numbers.least_window() + more)
+}
+
+/// Steps of some hundred ticks among short ones, as of slow pumps.
+fn slow(random: &mut Random) -> Settings {
+    let numbers = Settings {
+        spacing: random.pick(&[1, 1, 2, 3, 255, 256, 257, 65_535]),
+        ..of_ticks(random, |random| match random.below(4) {
+            0 => random.pick(&[255, 256, 257, 512, 900]),
+            1 => random.between(200, 1200),
+            _ => random.between(1, 6),
+        })
+    };
+    let more = match random.below(4) {
+        0 => 0,
+        1 => random.between(0, 10),
+        2 => random.between(0, 3000),
+        _ => random.between(60_000, 70_000),
+    };
+    numbers.with_window(numbers.least_window() + more)
+}
+
+/// Numbers up to the largest, some of them small.
+fn large(random: &mut Random) -> Settings {
+    let numbers = Settings {
+        spacing: random.pick(&[1, 1, 2, 3, 256, 16_385, 32_769, 65_535]),
+        ..of_ticks(random, |random| match random.below(8) {
+            0 => 65_535,
+            1 | 2 => random.between(1, 65_535),
+            3 => random.between(250, 10_000),
+            _ => random.between(1, 6),
+        })
+    };
+    let least = numbers.least_window();
+    let window = match random.below(4) {
+        0 => least,
+        1 => least + random.between(0, 1000),
+        2 => random.pick(&[65_536, 131_072, 262_144, 499_000, MOST_WINDOW]),
+        _ => random.between(least, MOST_WINDOW),
+    };
+    numbers.with_window(window.max(least))
+}
+
+/// Settings of such ticks, with a period that suits them, at times in two
+/// records where one would do. The spacing and the window are still to be
+/// chosen.
+fn of_ticks(random: &mut Random, ticks: fn(&mut Random) -> u32) -> Settings {
+    let wide = random.chance(1, 3);
+    let mut ticks = || ticks(random) as u16;
+    let numbers = Settings {
+        set: ticks(),
+        read: ticks(),
+        write: ticks(),
+        beat: ticks(),
+        save: ticks(),
+        spacing: 1,
+        window: 1,
+        period: 1,
+        wide,
+    };
+    let longest = with_room(&numbers).period;
+    numbers.with_period(random.between(1, longest))
+}
+
+/// The same settings, with a period that holds most files of `file`.
+pub fn with_room(settings: &Settings) -> Settings {
+    let period = 3000 * slowness(settings);
+    settings.with_period(period.min(MOST_PERIOD.into()) as u32)
+}
+
+/// By how much files are longer than those of steps of a few ticks.
+fn slowness(settings: &Settings) -> u64 {
+    let steps = [settings.set, settings.read, settings.write];
+    let sum: u64 = steps.into_iter().map(u64::from).sum();
+    (sum / 20).max(1)
 }
 
 /// Mostly small numbers, so that tests fall both ways.
@@ -63,9 +135,11 @@ pub fn set_of_values(random: &mut Random) -> Set {
     }
 }
 
-/// A well-formed file of a form, no longer and no slower than `size`.
+/// A well-formed file of a form, no longer than `size`, and no slower where its
+/// steps take a few ticks.
 pub fn file(random: &mut Random, settings: &Settings, form: u8, size: Size) -> Vec<Record> {
     let steps = random.pick(&[1, 4, 6, 10, 20, 60, 600]);
+    let slowness = slowness(settings);
     let mut maker = Maker {
         random,
         settings: *settings,
@@ -73,8 +147,11 @@ pub fn file(random: &mut Random, settings: &Settings, form: u8, size: Size) -> V
         records: Vec::new(),
         room: size.records,
         rounds: 1,
+        // Slow files have time for more rounds, but are to be as quickly run.
+        most_rounds: if slowness > 1 { size.time } else { MOST_ROUNDS },
     };
-    maker.sequence(size.depth, size.time, steps);
+    let time = (size.time * slowness).min(MOST_PERIOD.into());
+    maker.sequence(size.depth, time, steps);
     maker.records
 }
 
@@ -103,6 +180,7 @@ struct Maker<'a> {
     room: usize,
     /// How often the place reached is run at most.
     rounds: u64,
+    most_rounds: u64,
 }
 
 impl Maker<'_> {
@@ -146,7 +224,7 @@ impl Maker<'_> {
 
     fn leaf(&mut self, time: u64) -> u64 {
         let record = match self.random.below(if self.form == LAID { 12 } else { 7 }) {
-            0 => skip(self.random.pick(&[1, 1, 2, 3, 5, 8, 13, 70])),
+            0 => self.any_skip(),
             1..=3 => self.any_set(),
             4 => read(self.target(), self.up_to(7)),
             5 | 6 => write(self.up_to(15), self.up_to(7)),
@@ -160,6 +238,15 @@ impl Maker<'_> {
         }
         self.add(record);
         ticks
+    }
+
+    /// Mostly short; else about the length of a window.
+    fn any_skip(&mut self) -> Record {
+        if self.random.chance(7, 8) {
+            return skip(self.random.pick(&[1, 1, 2, 3, 5, 8, 13, 70]));
+        }
+        let most = (2 * self.settings.window).clamp(1, MOST_PERIOD);
+        skip(self.random.between(1, most))
     }
 
     fn up_to(&mut self, most: u8) -> u8 {
@@ -257,7 +344,8 @@ impl Maker<'_> {
 
     /// A loop's count, such that `rounds` rounds would still be in time.
     fn count(&mut self, rounds: u64) -> u32 {
-        let most = rounds.min(MOST_ROUNDS / self.rounds).clamp(1, 65_535) as u32;
+        let most = rounds.min(self.most_rounds / self.rounds);
+        let most = most.clamp(1, 65_535) as u32;
         match self.random.below(6) {
             0 => most,
             1 => self.random.between(1, most),

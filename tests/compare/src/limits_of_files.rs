@@ -25,7 +25,7 @@ struct Timing<'a> {
     random: Random,
 }
 
-const WIDE: Settings = Settings {
+const LONG: Settings = Settings {
     period: MOST_PERIOD,
     ..BENCH
 };
@@ -49,21 +49,21 @@ impl Timing<'_> {
     }
 
     fn lasts(&mut self, form: u8, file: &[Record], time: u32) {
-        let settings = WIDE.bytes();
+        let settings = LONG.bytes();
         self.bytes(&settings, form, &bytes(file), Answer::Time(time));
     }
 
     fn refused(&mut self, form: u8, file: &[Record], number: u8, value: usize) {
         let expected = Answer::refused_at(number, value);
-        self.bytes(&WIDE.bytes(), form, &bytes(file), expected);
+        self.bytes(&LONG.bytes(), form, &bytes(file), expected);
     }
 
     /// Row 6, before anything of the file.
     fn settings(&mut self) {
         let least = [1, 1, 1, 1, 1, 1, 1, 0, 1, 0, 0, 0];
         self.bytes(&least, TASK, &[], Answer::Time(0));
-        self.bytes(&WIDE.bytes(), TASK, &[], Answer::Time(0));
-        let over = WIDE.with_period(MOST_PERIOD + 1);
+        self.bytes(&LONG.bytes(), TASK, &[], Answer::Time(0));
+        let over = LONG.with_period(MOST_PERIOD + 1);
         self.bytes(&over.bytes(), TASK, &[], Answer::refused(6));
         for place in [0, 1, 2, 3, 4, 5, 6, 8] {
             let mut low = least;
@@ -82,7 +82,7 @@ impl Timing<'_> {
             self.refused(form, &vec![skip(1); most + 1], 1, 12 * (most + 1));
             for length in [11, 13] {
                 let expected = Answer::refused_at(1, length);
-                self.bytes(&WIDE.bytes(), form, &vec![9; length], expected);
+                self.bytes(&LONG.bytes(), form, &vec![9; length], expected);
             }
         }
     }

@@ -15,6 +15,7 @@ mod generate;
 mod guard;
 mod limits;
 mod limits_of_files;
+mod limits_of_settings;
 mod listing;
 mod order;
 mod paper;
@@ -34,6 +35,8 @@ mod walk;
 mod watch;
 mod watched;
 mod watcher;
+mod wide;
+mod wide_numbers;
 
 use comparer::Comparer;
 use random::Random;
@@ -43,7 +46,7 @@ use std::process::ExitCode;
 use std::time::{Duration, Instant, SystemTime, UNIX_EPOCH};
 
 /// A default run with fewer calls has lost a part.
-const LEAST_CALLS: u64 = 3_000_000;
+const LEAST_CALLS: u64 = 4_200_000;
 
 /// Likewise, by what the calls answered.
 const LEAST_OF_A_KIND: u64 = 100;
@@ -51,7 +54,7 @@ const LEAST_OF_A_KIND: u64 = 100;
 /// A part makes its calls through the comparer, from a seed.
 type Part = fn(&mut Comparer, u64);
 
-const PARTS: [(&str, Part); 8] = [
+const PARTS: [(&str, Part); 9] = [
     ("bench", |comparer, seed| {
         bench::part(comparer, seed);
         limits_of_files::part(comparer, seed);
@@ -75,7 +78,12 @@ const PARTS: [(&str, Part); 8] = [
     ("order", |comparer, seed| order::part(comparer, seed, 7000)),
     ("watcher", |comparer, seed| {
         watcher::part(comparer, seed, 400);
-        steady::part(comparer, seed, 300);
+        steady::part(comparer, seed, 450);
+    }),
+    ("wide", |comparer, seed| {
+        limits_of_settings::part(comparer, seed);
+        wide_numbers::part(comparer, seed);
+        wide::part(comparer, seed, 10_000);
     }),
 ];
 
@@ -153,7 +161,7 @@ fn coverage(comparer: &Comparer) -> bool {
 
 fn self_check() -> bool {
     let Control { tried, missed } = self_check::check();
-    println!("self-check: {tried} flipped bits, {missed} missed");
+    println!("self-check: {tried} changes, {missed} missed");
     missed == 0
 }
 
@@ -186,6 +194,7 @@ fn round(comparer: &mut Comparer) {
     order::part(comparer, streams.next(), 60);
     watcher::long_sequences(comparer, streams.next(), 4);
     steady::generated(comparer, streams.next(), 2);
+    wide::generated(comparer, streams.next(), 40);
 }
 
 /// The last line; a run that was not sound never says "no difference".

@@ -4,7 +4,7 @@
 use crate::buffers::wrong_lengths;
 use crate::call::{Answer, Call, Kind};
 use crate::comparer::Comparer;
-use crate::damaged::{damage, wrong_settings};
+use crate::damaged::{damage, wrong_settings, zero};
 use crate::generate::{self, set_of_values};
 use crate::random::Random;
 use crate::records::*;
@@ -40,7 +40,7 @@ fn known_faults(comparer: &mut Comparer, random: &mut Random, kind: Kind) {
     }
     let file = faulty_file(random, form, parts, &mut fault);
     let numbers = tight_settings(random, kind, parts, &mut fault);
-    let mut settings = numbers.bytes().to_vec();
+    let mut settings = numbers.bytes();
     if fault == Some((6, None)) {
         break_settings(random, &mut settings);
     }
@@ -63,7 +63,7 @@ fn known_faults(comparer: &mut Comparer, random: &mut Random, kind: Kind) {
 /// and perhaps with a period below the file's time. Preparing equalises first,
 /// so that there the time decides before the window.
 fn tight_settings(random: &mut Random, kind: Kind, parts: u64, fault: &mut Fault) -> Settings {
-    let mut numbers = generate::settings(random).with_period(200_000);
+    let mut numbers = roomy(random);
     let lays_out = matches!(kind, Kind::LayOut | Kind::Prepare);
     let (narrow, late) = (lays_out && random.chance(parts, 8), random.chance(parts, 8));
     if late && kind == Kind::Prepare {
@@ -80,13 +80,36 @@ fn tight_settings(random: &mut Random, kind: Kind, parts: u64, fault: &mut Fault
     numbers
 }
 
+/// Settings under which a file of this part is laid out. It has 14 steps at
+/// most, each of which takes a window at most, but for a SKIP of 5 where a
+/// window has fewer ticks beside its commands.
+fn roomy(random: &mut Random) -> Settings {
+    let fits = |numbers: &Settings| {
+        let commands = u32::from(numbers.beat) + u32::from(numbers.save);
+        let windows = if numbers.window - commands < 5 {
+            71
+        } else {
+            15
+        };
+        windows * numbers.window <= MOST_PERIOD
+    };
+    let mut tries = std::iter::repeat_with(|| generate::settings(random));
+    let numbers = tries.find(fits).expect("some settings are roomy");
+    numbers.with_period(MOST_PERIOD)
+}
+
 /// Settings that are wrong for certain.
 fn break_settings(random: &mut Random, settings: &mut Vec<u8>) {
-    match random.below(4) {
+    match random.below(6) {
         0 => settings.truncate(random.index(12)),
-        1 => settings.push(0),
-        2 => settings[random.index(6)] = 0,
-        _ => settings[8..].copy_from_slice(&1_000_001u32.to_le_bytes()),
+        1 => settings.truncate(settings.len() - 1),
+        2 => settings.push(0),
+        3 => zero(settings, random.index(6)),
+        4 if settings.len() == WIDE_SETTINGS => settings[20 + random.index(4)] = 1,
+        _ => {
+            let at = period_place(settings);
+            settings[at..at + 4].copy_from_slice(&1_000_001u32.to_le_bytes());
+        }
     }
 }
 
@@ -186,7 +209,7 @@ fn lend(random: &mut Random, call: &mut Call, parts: u64, fault: &mut Fault) {
     }
     call.stop = 1;
     if call.kind == Kind::RunUntil && random.chance(parts, 6) {
-        call.stop = random.pick(&[200_001, u32::MAX]);
+        call.stop = random.pick(&[1_000_001, u32::MAX]);
         *fault = fault.or(Some((12, None)));
     }
     if runs && random.chance(parts, 8) {
@@ -212,7 +235,7 @@ fn any_faults(comparer: &mut Comparer, random: &mut Random, kind: Kind) {
         file = damage(random, &file);
     }
     let period = random.pick(&[1, 20, 50, 100, 3000]);
-    let mut settings = numbers.with_period(period).bytes().to_vec();
+    let mut settings = numbers.with_period(period).bytes();
     if random.chance(1, 6) {
         settings = wrong_settings(random, &numbers);
     }

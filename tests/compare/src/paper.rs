@@ -2,7 +2,7 @@
 //! made it.
 
 use crate::call::{Answer, Call, Kind, Lent, Outcome};
-use crate::records::{number, MOST_BYTES, SAVE};
+use crate::records::{number, period_place, MOST_BYTES, SAVE};
 use crate::watched;
 
 /// The first statement that an outcome breaks.
@@ -61,7 +61,7 @@ fn refused(call: &Call, lent: &Lent, number: u8, value: Option<u64>) -> Result<(
 fn finished(call: &Call, outcome: &Outcome) -> Result<(), String> {
     let (before, after) = (&call.lent, &outcome.lent);
     hold(before.inputs == after.inputs, "inputs stay as they are")?;
-    let period = number(call.settings, 8);
+    let period = number(call.settings, period_place(call.settings));
     match (call.kind, &outcome.answer) {
         (Kind::Time, Answer::Time(time)) => {
             hold(before == after, "timing writes nothing")?;

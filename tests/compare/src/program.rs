@@ -1,12 +1,13 @@
 //! Part 8: the list program itself, run on tasks and settings of all sorts and
 //! held against the second implementation's text.
 
-use crate::bench::{factorial, BENCH};
+use crate::bench::{factorial, lettered, BENCH};
 use crate::comparer::Comparer;
 use crate::damaged::{damage, wrong_settings};
 use crate::generate;
 use crate::random::Random;
 use crate::records::*;
+use crate::wide::{RIVER_LISTING, RIVER_SETTINGS, RIVER_TASK};
 use std::collections::BTreeSet;
 use std::env;
 use std::fs;
@@ -54,6 +55,7 @@ pub fn part(comparer: &mut Comparer, seed: u64) {
         seen: BTreeSet::new(),
     };
     edges(comparer, &mut runs);
+    two_records(comparer, &mut runs);
     every_kind(comparer, &mut runs);
     every_refusal(comparer, &mut runs);
     let mut random = Random::new(seed);
@@ -77,7 +79,7 @@ struct Runs {
 
 /// A missing, empty, short or long `rack.set`, and input that is empty or too long.
 fn edges(comparer: &mut Comparer, runs: &mut Runs) {
-    let bench = BENCH.bytes().to_vec();
+    let bench = BENCH.bytes();
     runs.compare(comparer, None, &factorial());
     for settings in [vec![], vec![3; 11], bench.repeat(2), bench.repeat(9)] {
         runs.compare(comparer, Some(&settings), &factorial());
@@ -90,6 +92,29 @@ fn edges(comparer: &mut Comparer, runs: &mut Runs) {
             Some(&BENCH.with_period(1_000_000).bytes()),
             &steps,
         );
+    }
+}
+
+/// The lettered tasks under both forms of their settings, and the river room's
+/// under its own, one byte short of them, and with bytes after them.
+fn two_records(comparer: &mut Comparer, runs: &mut Runs) {
+    for (settings, task) in lettered() {
+        let one = runs.compare(comparer, Some(&settings.bytes()), &task);
+        let two = runs.compare(comparer, Some(&settings.two_records()), &task);
+        if one != two {
+            comparer.fault(&format!("listed otherwise in two records: {task:02x?}"));
+        }
+    }
+    let longer = RIVER_SETTINGS.repeat(9);
+    for length in [24, 23, 25, 26, 31, 32, 33, 36, 48, 216] {
+        let printed = runs.compare(comparer, Some(&longer[..length]), RIVER_TASK);
+        let expected = match length {
+            WIDE_SETTINGS => RIVER_LISTING,
+            _ => "refused 6\n",
+        };
+        if printed != expected {
+            comparer.fault(&format!("with {length} bytes of settings: {printed}"));
+        }
     }
 }
 
@@ -148,10 +173,10 @@ fn round(comparer: &mut Comparer, runs: &mut Runs, random: &mut Random) {
     let task = bytes(&generate::file(random, &settings, TASK, size));
     let (settings, task) = match random.below(8) {
         0 => (wrong_settings(random, &settings), task),
-        1 => (settings.bytes().to_vec(), damage(random, &task)),
+        1 => (settings.bytes(), damage(random, &task)),
         _ => {
             let long = settings.with_period(random.pick(&[3000, 100_000, 1_000_000]));
-            (long.bytes().to_vec(), task)
+            (long.bytes(), task)
         }
     };
     runs.compare(comparer, Some(&settings), &task);

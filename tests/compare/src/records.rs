@@ -39,6 +39,10 @@ pub const MOST_RECORDS: usize = 5461;
 pub const MOST_TASK_RECORDS: usize = 256;
 pub const MOST_BYTES: usize = 12 * MOST_RECORDS;
 pub const MOST_PERIOD: u32 = 1_000_000;
+pub const MOST_WINDOW: u32 = 1_000_000;
+
+/// The bytes of settings in two records.
+pub const WIDE_SETTINGS: usize = 24;
 
 pub fn plain(kind: u8) -> Record {
     let mut record = [0; 12];
@@ -124,41 +128,95 @@ pub fn image(index: u32, tick: u32, variables: &[u32]) -> Vec<u8> {
     words.flat_map(u32::to_le_bytes).collect()
 }
 
+/// Where the period stands in settings of either form.
+pub fn period_place(settings: &[u8]) -> usize {
+    settings.len() / 3 * 2
+}
+
 /// The settings' numbers, named.
 #[derive(Clone, Copy)]
 pub struct Settings {
-    pub set: u8,
-    pub read: u8,
-    pub write: u8,
-    pub beat: u8,
-    pub save: u8,
-    pub spacing: u8,
-    pub window: u16,
+    pub set: u16,
+    pub read: u16,
+    pub write: u16,
+    pub beat: u16,
+    pub save: u16,
+    pub spacing: u16,
+    pub window: u32,
     pub period: u32,
+    /// In two records, also where the numbers fit into one.
+    pub wide: bool,
 }
 
+/// The numbers other than the window and the period, in turn.
+pub const SMALL_NUMBERS: [fn(&mut Settings) -> &mut u16; 6] = [
+    |numbers| &mut numbers.set,
+    |numbers| &mut numbers.read,
+    |numbers| &mut numbers.write,
+    |numbers| &mut numbers.beat,
+    |numbers| &mut numbers.save,
+    |numbers| &mut numbers.spacing,
+];
+
 impl Settings {
-    pub fn bytes(&self) -> [u8; 12] {
+    pub fn bytes(&self) -> Vec<u8> {
+        match self.one_record() {
+            Some(record) if !self.wide => record.to_vec(),
+            _ => self.two_records(),
+        }
+    }
+
+    fn small(&self) -> [u16; 6] {
+        let Settings {
+            set,
+            read,
+            write,
+            beat,
+            save,
+            spacing,
+            ..
+        } = *self;
+        [set, read, write, beat, save, spacing]
+    }
+
+    /// The narrow form, where every number fits.
+    pub fn one_record(&self) -> Option<Record> {
         let mut bytes = [0; 12];
-        bytes[..5].copy_from_slice(&[self.set, self.read, self.write, self.beat, self.save]);
-        bytes[5] = self.spacing;
-        bytes[6..8].copy_from_slice(&self.window.to_le_bytes());
+        for (byte, number) in bytes.iter_mut().zip(self.small()) {
+            *byte = number.try_into().ok()?;
+        }
+        let window = u16::try_from(self.window).ok()?;
+        bytes[6..8].copy_from_slice(&window.to_le_bytes());
         bytes[8..].copy_from_slice(&self.period.to_le_bytes());
-        bytes
+        Some(bytes)
+    }
+
+    /// The wide form.
+    pub fn two_records(&self) -> Vec<u8> {
+        let small = self.small().into_iter().flat_map(u16::to_le_bytes);
+        let large = [self.window, self.period, 0]
+            .into_iter()
+            .flat_map(u32::to_le_bytes);
+        small.chain(large).collect()
     }
 
     pub fn with_period(&self, period: u32) -> Settings {
         Settings { period, ..*self }
     }
 
-    pub fn with_window(&self, window: u16) -> Settings {
+    pub fn with_window(&self, window: u32) -> Settings {
         Settings { window, ..*self }
     }
 
     /// The smallest window that laying out takes.
-    pub fn least_window(&self) -> u16 {
+    pub fn least_window(&self) -> u32 {
         let longest = self.set.max(self.read).max(self.write);
-        u16::from(self.beat) + u16::from(self.save) + u16::from(longest)
+        u32::from(self.beat) + u32::from(self.save) + u32::from(longest)
+    }
+
+    /// K x H, which may be above 2^32.
+    pub fn ticks_between_saves(&self) -> u64 {
+        u64::from(self.spacing) * u64::from(self.window)
     }
 
     /// The ticks of a step; ELSE and END take none, a loop's first record

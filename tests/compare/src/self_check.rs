@@ -1,5 +1,5 @@
-//! The negative control: a flipped bit must be reported, wherever it is, and
-//! the same calls without it must not be.
+//! The negative control: a flipped bit or a number changed must be reported,
+//! wherever it is, and the same calls without it must not be.
 
 use crate::bench::{factorial, BENCH};
 use crate::call::{Call, Kind, Set};
@@ -8,11 +8,12 @@ use crate::comparer::{Comparer, Flip, Place};
 use crate::random::Random;
 use crate::records::*;
 use crate::steady::Steady;
+use crate::wide::told_apart;
 use second::Beat;
 
 const RUNS: [Kind; 4] = [Kind::Run, Kind::RunUntil, Kind::Resume, Kind::Restart];
 
-/// How many flips were tried and how many of them went wrong.
+/// How many changes were tried and how many of them went wrong.
 pub struct Control {
     pub tried: u64,
     pub missed: u64,
@@ -36,6 +37,7 @@ pub fn check() -> Control {
     control.ends(&prepared);
     control.entries();
     control.late_beats(&settings);
+    control.forms(&settings);
     control
 }
 
@@ -185,6 +187,24 @@ impl Control {
         };
         self.tried += 1;
         self.missed += u64::from(noticed(3) || !noticed(0));
+    }
+
+    /// One of the numbers is another in two records: only the comparison of
+    /// both forms can tell.
+    fn forms(&mut self, settings: &Settings) {
+        let more = |place: &fn(&mut Settings) -> &mut u16| {
+            let mut other = *settings;
+            *place(&mut other) += 1;
+            other
+        };
+        let window = settings.with_window(settings.window + 1);
+        // A period longer by a window, since less may not show.
+        let period = settings.with_period(settings.period + settings.window);
+        let told = |other: &Settings| told_apart(settings, other, &factorial());
+        for other in SMALL_NUMBERS.iter().map(more).chain([window, period]) {
+            self.tried += 1;
+            self.missed += u64::from(told(settings) || !told(&other));
+        }
     }
 }
 

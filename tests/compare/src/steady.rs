@@ -41,7 +41,7 @@ pub fn part(comparer: &mut Comparer, seed: u64, rounds: u64) {
     for (settings, task) in lettered() {
         let prepared = prepare(comparer, &mut random, &settings, &task);
         let total = prepared.expect("a bench task is laid out").total;
-        let left = (0..=u32::from(settings.window) + 3).map(|left| total + left);
+        let left = (0..=settings.window + 3).map(|left| total + left);
         for period in left.chain([settings.period]) {
             one_task(comparer, &mut random, &settings.with_period(period), &task);
         }
@@ -70,7 +70,7 @@ pub fn generated(comparer: &mut Comparer, seed: u64, rounds: u64) {
 /// beyond a multiple of H, looks in some phases are one more than the windows
 /// that the beat tells.
 fn ticks_left(random: &mut Random, settings: &Settings) -> u32 {
-    let (window, beat) = (u32::from(settings.window), u32::from(settings.beat));
+    let (window, beat) = (settings.window, u32::from(settings.beat));
     let edge = window - beat;
     let any = random.between(0, 6 * window);
     let about = [edge - 1, edge, edge + 1, window - 1, window, window + 1];
@@ -100,8 +100,8 @@ impl Steady {
     ) -> Option<Steady> {
         let prepared = prepare(comparer, random, settings, task)?;
         let mut steady = Steady {
-            window: settings.window.into(),
-            first: random.between(0, 3 * u32::from(settings.window)),
+            window: settings.window,
+            first: random.between(0, 3 * settings.window),
             period: settings.period,
             beats: Vec::new(),
         };
@@ -195,7 +195,7 @@ fn one_run(
     let form = second::Form::Laid;
     let (beats, ended) =
         second::beats(job.settings, form, job.file, &set.variables, &set.inputs).ok()?;
-    let (window, total) = (u32::from(settings.window), prepared.total);
+    let (window, total) = (settings.window, prepared.total);
     let mut due = Vec::new();
     for end in (u32::from(settings.beat)..total).step_by(window as usize) {
         due.push(Beat { end, value: 1 });

@@ -47,7 +47,7 @@ pub fn limits(comparer: &mut Comparer, seed: u64) {
     let settings = Settings {
         window: 65_535,
         period: MOST_PERIOD,
-        ..generate::settings(&mut random)
+        ..generate::small(&mut random)
     };
     for count in [MOST_RECORDS - 4, MOST_RECORDS - 3, MOST_RECORDS] {
         let file = bytes(&vec![write(3, 3); count]);

@@ -190,6 +190,7 @@ const QUICK: Settings = Settings {
     spacing: 1,
     window: 65_535,
     period: MOST_PERIOD,
+    wide: false,
 };
 
 /// A loop of 31 rounds of 176 records and 5 records about them make 5,461;

@@ -40,7 +40,7 @@ impl Walk {
     }
 
     fn last_beat(&mut self, total: u32) {
-        let window = u32::from(self.settings.window);
+        let window = self.settings.window;
         let left = self.settings.period - total;
         let last = self.records.last();
         let ends_well =
@@ -79,7 +79,7 @@ impl Walk {
     fn step(&mut self, from: usize, index: usize, tick: u32) {
         let record = self.records[index];
         let previous = (index > from).then(|| self.records[index - 1][0]);
-        let window = u32::from(self.settings.window);
+        let window = self.settings.window;
         match record[0] {
             BEAT => self.beat(index, tick),
             SAVE => {
@@ -98,7 +98,7 @@ impl Walk {
     }
 
     fn beat(&mut self, index: usize, tick: u32) {
-        let window = u32::from(self.settings.window);
+        let window = self.settings.window;
         self.hold(tick.is_multiple_of(window), "a BEAT is at a multiple of H");
         let last = index + 1 == self.records.len();
         if last {
@@ -106,7 +106,7 @@ impl Walk {
         }
         let value = number(&self.records[index], 4);
         self.hold(value == 1, "a BEAT before the last has value 1");
-        let due = tick.is_multiple_of(window * u32::from(self.settings.spacing));
+        let due = u64::from(tick).is_multiple_of(self.settings.ticks_between_saves());
         let saves = self.records[index + 1][0] == SAVE;
         self.hold(
             due == saves,

@@ -45,7 +45,7 @@ impl<'a> Layout<'a> {
         if past != 0 {
             return window - past;
         }
-        let saves = self.tick.is_multiple_of(self.settings.spacing);
+        let saves = u64::from(self.tick).is_multiple_of(self.settings.spacing);
         let mut used = self.settings.beat;
         self.tape.push(Record::beat(1));
         if saves {
@@ -70,9 +70,11 @@ impl<'a> Layout<'a> {
         self.tick += ticks;
     }
 
-    /// Lays single ticks of SKIP, the commands on the way between them.
+    /// Lays single ticks of SKIP, the commands on the way between them. Where
+    /// a window has few ticks beside its commands a SKIP could outlast any
+    /// number, so it ends once the clock is above the period.
     fn skip(&mut self, mut ticks: u32) {
-        while ticks > 0 {
+        while ticks > 0 && self.tick <= self.settings.period {
             let part = self.ready().min(ticks);
             self.tape.skip(part);
             self.tick += part;

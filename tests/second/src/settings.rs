@@ -1,8 +1,9 @@
-//! The settings record and what it says of a step's ticks.
+//! The settings, in one record or in two, and what they say of a step's ticks.
 
 use crate::record::{Kind, Record, SIZE};
 use crate::Refused;
 
+const MOST_WINDOW: u32 = 1_000_000;
 const MOST_PERIOD: u32 = 1_000_000;
 
 pub(crate) struct Settings {
@@ -11,35 +12,62 @@ pub(crate) struct Settings {
     write: u32,
     pub beat: u32,
     pub save: u32,
-    /// Ticks from one checkpoint to the next, K × H.
-    pub spacing: u32,
+    /// Ticks from one checkpoint to the next, K × H, which 32 bits do not hold.
+    pub spacing: u64,
     pub window: u32,
     pub period: u32,
 }
 
+/// The numbers of either form, as they stand.
+struct Numbers {
+    /// SET, READ, WRITE, BEAT, SAVE and K.
+    small: [u32; 6],
+    window: u32,
+    period: u32,
+    zero: u32,
+}
+
+impl Numbers {
+    fn of_one_record(bytes: &[u8; SIZE]) -> Numbers {
+        let [set, read, write, beat, save, k, low, high, period @ ..] = *bytes;
+        Numbers {
+            small: [set, read, write, beat, save, k].map(u32::from),
+            window: u16::from_le_bytes([low, high]).into(),
+            period: u32::from_le_bytes(period),
+            zero: 0,
+        }
+    }
+
+    fn of_two_records(first: &[u8; SIZE], second: &[u8; SIZE]) -> Numbers {
+        let mut small = [0; 6];
+        for (number, bytes) in small.iter_mut().zip(first.as_chunks().0) {
+            *number = u16::from_le_bytes(*bytes).into();
+        }
+        let large = |at: usize| u32::from_le_bytes(second.as_chunks().0[at]);
+        Numbers { small, window: large(0), period: large(1), zero: large(2) }
+    }
+
+    fn good(&self) -> bool {
+        self.small.iter().all(|&number| number != 0)
+            && (1..=MOST_WINDOW).contains(&self.window)
+            && (1..=MOST_PERIOD).contains(&self.period)
+            && self.zero == 0
+    }
+}
+
 impl Settings {
     pub(crate) fn read(bytes: &[u8]) -> Result<Settings, Refused> {
-        let Ok(bytes) = <&[u8; SIZE]>::try_from(bytes) else {
-            return Err(Refused::plain(6));
+        let numbers = match bytes.as_chunks() {
+            ([record], []) => Numbers::of_one_record(record),
+            ([first, second], []) => Numbers::of_two_records(first, second),
+            _ => return Err(Refused::plain(6)),
         };
-        let window = u32::from(u16::from_le_bytes([bytes[6], bytes[7]]));
-        let period = u32::from_le_bytes([bytes[8], bytes[9], bytes[10], bytes[11]]);
-        let good = bytes[..6].iter().all(|&byte| byte != 0)
-            && window != 0
-            && (1..=MOST_PERIOD).contains(&period);
-        if !good {
+        if !numbers.good() {
             return Err(Refused::plain(6));
         }
-        Ok(Settings {
-            set: bytes[0].into(),
-            read: bytes[1].into(),
-            write: bytes[2].into(),
-            beat: bytes[3].into(),
-            save: bytes[4].into(),
-            spacing: u32::from(bytes[5]) * window,
-            window,
-            period,
-        })
+        let Numbers { small: [set, read, write, beat, save, k], window, period, .. } = numbers;
+        let spacing = u64::from(k) * u64::from(window);
+        Ok(Settings { set, read, write, beat, save, spacing, window, period })
     }
 
     /// The ticks of a record as a step; a test's for the kinds that hold one.

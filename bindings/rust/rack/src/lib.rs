@@ -35,8 +35,9 @@
 //! # Ok::<(), rack::Refusal>(())
 //! ```
 //!
-//! Heartbeats, totals and taking up are as promised where a task is prepared,
-//! run and taken up under settings of the same numbers.
+//! Settings are [`SETTINGS`] bytes or, for slow steps and long windows,
+//! [`WIDE_SETTINGS`]. Heartbeats, totals and taking up are as promised where a
+//! task is prepared, run and taken up under settings of the same numbers.
 //!
 //! A spare controller watches others by a table: [`beat`] has an example.
 
@@ -49,8 +50,36 @@ pub use refusal::Refusal;
 
 use library::{Runs, Writes};
 
-/// The bytes of settings.
+/// The bytes of settings in the narrow form: the ticks of SET, READ, WRITE, BEAT
+/// and SAVE and the spacing K in a byte each, the window H in 2 bytes and the
+/// period P in 4, lowest first. Each is at least 1, and P at most 1,000,000.
 pub const SETTINGS: usize = 12;
+/// The bytes of settings in the wide form: the same six numbers in 2 bytes each,
+/// then H, P and a zero in 4 bytes each. H may reach 1,000,000 too.
+///
+/// Every call takes either form, and under equal numbers it answers and writes
+/// the same. The wide one is for steps of more than 255 ticks:
+///
+/// ```
+/// // SET, READ and BEAT take 3 ticks, WRITE 900 and SAVE 10; every 2nd window
+/// // of 1,000 ticks has a SAVE; the period is 10,000.
+/// let small = [3u16, 3, 900, 3, 10, 2].map(u16::to_le_bytes);
+/// let large = [1_000u32, 10_000, 0].map(u32::to_le_bytes);
+/// let settings = [small.concat(), large.concat()].concat();
+/// assert_eq!(settings.len(), rack::WIDE_SETTINGS);
+///
+/// let task = [
+///     3, 0, 0, 0, 0, 0, 0, 0, 0, 0, 0, 0, // READ variable 0 from port 0
+///     4, 0, 0, 0, 0, 0, 0, 0, 0, 0, 0, 0, // WRITE variable 0 to port 0
+///     4, 0, 0, 1, 0, 0, 0, 0, 0, 0, 0, 0, // WRITE variable 0 to port 1
+/// ];
+/// let mut out = [0; rack::LONGEST];
+/// let laid = rack::prepare(&settings, &task, &mut out)?;
+/// // The second WRITE waits for the window that begins at tick 1,000.
+/// assert_eq!((laid.bytes, laid.time), (108, 2_003));
+/// # Ok::<(), rack::Refusal>(())
+/// ```
+pub const WIDE_SETTINGS: usize = 24;
 /// The variables of a run.
 pub const VARIABLES: usize = 16;
 /// The ports: so many inputs, levels and marks.

@@ -74,7 +74,7 @@ refusals! {
     4 BadStructure "record {} does not fit the open blocks, or the file ends there with a block open",
     5 TooDeep "record {} is nested too deep",
     alone:
-    6 BadSettings "the settings are not 12 bytes, or a number is outside its range",
+    6 BadSettings "the settings are neither 12 nor 24 bytes, or a number is outside its range",
     7 ShortWindow "the window is too short for BEAT, SAVE and the longest step",
     8 OverPeriod "the time or the total is above the period",
     9 NoRoom "the result is longer than the lent buffer or than 5461 records",
@@ -94,6 +94,9 @@ mod tests {
     fn it_says_the_number_the_cause_and_the_value() {
         let text = "refused 3: record 7 has a field out of range or an unused byte that is not 0";
         assert_eq!(Refusal::BadField(7).to_string(), text);
+        let text =
+            "refused 6: the settings are neither 12 nor 24 bytes, or a number is outside its range";
+        assert_eq!(Refusal::BadSettings.to_string(), text);
         let text = "refused 12: the stop tick is at or past the run's end";
         assert_eq!(Refusal::LateStop.to_string(), text);
         let stranger = Refusal::new(21, 5);

@@ -8,6 +8,7 @@ mod random;
 mod refusals;
 mod running;
 mod watching;
+mod wide;
 
 use crate::*;
 
@@ -74,18 +75,38 @@ pub(crate) fn settings(ticks: [u8; 5], k: u8, h: u16, p: u32) -> Raw {
     bytes
 }
 
+/// Settings in two records.
+pub(crate) fn wide(ticks: [u16; 5], k: u16, h: u32, p: u32) -> [u8; 24] {
+    let mut bytes = [0; 24];
+    let small = ticks.into_iter().chain([k]);
+    for (place, number) in bytes.as_chunks_mut().0.iter_mut().zip(small) {
+        *place = number.to_le_bytes();
+    }
+    bytes[12..16].copy_from_slice(&h.to_le_bytes());
+    bytes[16..20].copy_from_slice(&p.to_le_bytes());
+    bytes
+}
+
+/// The same settings with another period.
+pub(crate) fn with_period(settings: &[u8], p: u32) -> Vec<u8> {
+    let at = if settings.len() == 24 { 16 } else { 8 };
+    let mut bytes = settings.to_vec();
+    bytes[at..at + 4].copy_from_slice(&p.to_le_bytes());
+    bytes
+}
+
 /// The bench's settings with another period.
 pub(crate) fn bench_settings(p: u32) -> Raw {
     settings([3, 3, 3, 3, 10], 4, 20, p)
 }
 
-pub(crate) fn equalised(settings: &Raw, task: &[Raw]) -> Result<Vec<Raw>, Refused> {
+pub(crate) fn equalised(settings: &[u8], task: &[Raw]) -> Result<Vec<Raw>, Refused> {
     let mut out = vec![0xA5; ROOM];
     let written = equalise(settings, task.as_flattened(), &mut out);
     cut(out, written)
 }
 
-pub(crate) fn laid(settings: &Raw, file: &[Raw]) -> Result<Vec<Raw>, Refused> {
+pub(crate) fn laid(settings: &[u8], file: &[Raw]) -> Result<Vec<Raw>, Refused> {
     let mut out = vec![0xA5; ROOM];
     let written = lay_out(settings, file.as_flattened(), &mut out);
     cut(out, written)
@@ -99,7 +120,7 @@ fn cut(out: Vec<u8>, written: Result<Written, Refused>) -> Result<Vec<Raw>, Refu
 }
 
 /// By one call, which must do what the two do.
-pub(crate) fn prepared(settings: &Raw, task: &[Raw]) -> Result<Vec<Raw>, Refused> {
+pub(crate) fn prepared(settings: &[u8], task: &[Raw]) -> Result<Vec<Raw>, Refused> {
     let mut out = vec![0xA5; ROOM];
     let written = prepare(settings, task.as_flattened(), &mut out);
     let ready = cut(out, written);
@@ -135,19 +156,19 @@ impl Bench {
         bench
     }
 
-    pub fn run(&mut self, settings: &Raw, form: Form, file: &[Raw]) -> Result<Ended, Refused> {
+    pub fn run(&mut self, settings: &[u8], form: Form, file: &[Raw]) -> Result<Ended, Refused> {
         let Bench { variables, inputs, levels, marks, .. } = self;
         run(settings, form, file.as_flattened(), variables, inputs, levels, marks)
     }
 
-    pub fn restart(&mut self, settings: &Raw, form: Form, file: &[Raw]) -> Result<Ended, Refused> {
+    pub fn restart(&mut self, settings: &[u8], form: Form, file: &[Raw]) -> Result<Ended, Refused> {
         let Bench { variables, inputs, levels, marks, .. } = self;
         restart(settings, form, file.as_flattened(), variables, inputs, levels, marks)
     }
 
     pub fn until(
         &mut self,
-        settings: &Raw,
+        settings: &[u8],
         form: Form,
         file: &[Raw],
         stop: u32,
@@ -157,7 +178,7 @@ impl Bench {
         run_until(settings, form, file, variables, inputs, levels, marks, image, stop)
     }
 
-    pub fn resume(&mut self, settings: &Raw, form: Form, file: &[Raw]) -> Result<Ended, Refused> {
+    pub fn resume(&mut self, settings: &[u8], form: Form, file: &[Raw]) -> Result<Ended, Refused> {
         let Bench { variables, inputs, levels, marks, image } = self;
         let file = file.as_flattened();
         resume(settings, form, file, variables, inputs, levels, marks, image)

@@ -60,19 +60,20 @@ pub(crate) fn tree(file: &[Raw], at: &mut usize) -> Vec<Node> {
     nodes
 }
 
-fn ticks(settings: &Raw, head: &Raw) -> u32 {
+fn ticks(settings: &[u8], head: &Raw) -> u32 {
+    let Numbers { set, read, write, beat, save, .. } = numbers(settings);
     match head[0] {
         SKIP => count(head),
-        SET => settings[0].into(),
-        READ => settings[1].into(),
-        WRITE => settings[2].into(),
-        BEAT => settings[3].into(),
-        SAVE => settings[4].into(),
+        SET => set,
+        READ => read,
+        WRITE => write,
+        BEAT => beat,
+        SAVE => save,
         _ => 1,
     }
 }
 
-pub(crate) fn time(settings: &Raw, nodes: &[Node]) -> u128 {
+pub(crate) fn time(settings: &[u8], nodes: &[Node]) -> u128 {
     let part = |node: &Node, number: usize| time(settings, &node.parts[number]);
     nodes
         .iter()
@@ -104,7 +105,7 @@ fn merged(nodes: Vec<Node>) -> Vec<Node> {
     out
 }
 
-fn even(settings: &Raw, node: &Node) -> Node {
+fn even(settings: &[u8], node: &Node) -> Node {
     let mut parts: Vec<Vec<Node>> = node
         .parts
         .iter()
@@ -131,43 +132,56 @@ fn even(settings: &Raw, node: &Node) -> Node {
     }
 }
 
-pub(crate) fn equal(settings: &Raw, nodes: &[Node]) -> Vec<Node> {
+pub(crate) fn equal(settings: &[u8], nodes: &[Node]) -> Vec<Node> {
     merged(nodes.iter().map(|node| even(settings, node)).collect())
 }
 
-struct Numbers {
+pub(crate) struct Numbers {
+    set: u32,
+    read: u32,
+    write: u32,
     beat: u32,
     save: u32,
     k: u32,
     h: u32,
-    p: u32,
+    pub p: u32,
 }
 
-fn numbers(settings: &Raw) -> Numbers {
+/// Settings of either form: in two records every number but P is twice as wide.
+pub(crate) fn numbers(settings: &[u8]) -> Numbers {
+    let width = settings.len() / 12;
+    let number = |at: usize, bytes: usize| {
+        let bytes = settings[at..at + bytes].iter().rev();
+        bytes.fold(0, |above, &byte| 256 * above + u32::from(byte))
+    };
+    let small = |place: usize| number(width * place, width);
     Numbers {
-        beat: settings[3].into(),
-        save: settings[4].into(),
-        k: settings[5].into(),
-        h: u16::from_le_bytes([settings[6], settings[7]]).into(),
-        p: word(settings, 8),
+        set: small(0),
+        read: small(1),
+        write: small(2),
+        beat: small(3),
+        save: small(4),
+        k: small(5),
+        h: number(6 * width, 2 * width),
+        p: number(8 * width, 4),
     }
 }
 
 /// The commands due before a step at this tick.
-fn commands(settings: &Raw, tick: &mut u32, out: &mut Vec<Node>) {
+fn commands(settings: &[u8], tick: &mut u32, out: &mut Vec<Node>) {
     let Numbers { beat: b, save: s, k, h, .. } = numbers(settings);
     let start = *tick;
     if start.is_multiple_of(h) {
         out.push(leaf(beat(1)));
         *tick += b;
-        if start.is_multiple_of(k * h) {
+        if u64::from(start).is_multiple_of(u64::from(k) * u64::from(h)) {
             out.push(leaf(bare(SAVE)));
             *tick += s;
         }
     }
 }
 
-fn lay_step(settings: &Raw, head: Raw, tick: &mut u32, out: &mut Vec<Node>) {
+fn lay_step(settings: &[u8], head: Raw, tick: &mut u32, out: &mut Vec<Node>) {
     let length = ticks(settings, &head);
     let h = numbers(settings).h;
     commands(settings, tick, out);
@@ -180,7 +194,7 @@ fn lay_step(settings: &Raw, head: Raw, tick: &mut u32, out: &mut Vec<Node>) {
     *tick += length;
 }
 
-fn lay(settings: &Raw, nodes: &[Node], tick: &mut u32, out: &mut Vec<Node>) {
+fn lay(settings: &[u8], nodes: &[Node], tick: &mut u32, out: &mut Vec<Node>) {
     for node in nodes {
         match node.head[0] {
             SKIP => {
@@ -208,7 +222,7 @@ fn lay(settings: &Raw, nodes: &[Node], tick: &mut u32, out: &mut Vec<Node>) {
 }
 
 /// Both sides from one tick, the earlier to end filled.
-fn lay_sides(settings: &Raw, parts: &[Vec<Node>], tick: &mut u32) -> Vec<Vec<Node>> {
+fn lay_sides(settings: &[u8], parts: &[Vec<Node>], tick: &mut u32) -> Vec<Vec<Node>> {
     let mut sides = [Vec::new(), Vec::new()];
     let mut ends = [*tick, *tick];
     for side in 0..2 {
@@ -226,7 +240,7 @@ fn lay_sides(settings: &Raw, parts: &[Vec<Node>], tick: &mut u32) -> Vec<Vec<Nod
 
 /// The laid tree and its total, whatever the period; the value of the last
 /// BEAT is 0 where the total is above it.
-pub(crate) fn lay_all(settings: &Raw, nodes: &[Node]) -> (Vec<Node>, u32) {
+pub(crate) fn lay_all(settings: &[u8], nodes: &[Node]) -> (Vec<Node>, u32) {
     let Numbers { beat: b, h, p, .. } = numbers(settings);
     let (mut out, mut tick) = (Vec::new(), 0);
     commands(settings, &mut tick, &mut out);
@@ -253,7 +267,7 @@ pub(crate) struct Moment {
 }
 
 pub(crate) struct Trace<'a> {
-    pub settings: &'a Raw,
+    pub settings: &'a [u8],
     pub inputs: [u32; 8],
     pub moments: Vec<Moment>,
 }

@@ -4,7 +4,7 @@ use super::bench::factorial;
 use super::*;
 
 /// The answer in a buffer of this length; a refusal must leave it as it was.
-fn in_room(settings: &Raw, task: &[Raw], room: usize) -> Result<Written, Refused> {
+fn in_room(settings: &[u8], task: &[Raw], room: usize) -> Result<Written, Refused> {
     let mut out = vec![0xA5; room];
     let written = prepare(settings, task.as_flattened(), &mut out);
     let bytes = written.map_or(0, |written| written.bytes);

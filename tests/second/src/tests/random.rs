@@ -1,6 +1,6 @@
 //! Many small files by chance, held to the rules read one tick at a time.
 
-use super::naive::{block, equal, flat, lay_all, leaf, time, tree, Moment, Node, Trace};
+use super::naive::{block, equal, flat, lay_all, leaf, numbers, time, tree, Moment, Node, Trace};
 use super::*;
 
 struct Chance(u64);
@@ -56,12 +56,23 @@ impl Chance {
             .collect()
     }
 
-    fn settings(&mut self) -> Raw {
+    /// In two records, where one step may be slower than a byte can say, or in
+    /// one.
+    fn settings(&mut self) -> Vec<u8> {
+        let (two_records, slow) = (self.below(2) == 0, self.below(2) == 0);
         let mut ticks = [0; 5];
         ticks.fill_with(|| 1 + self.small(5));
-        let least = u16::from(ticks[0].max(ticks[1]).max(ticks[2]) + ticks[3] + ticks[4]);
-        let h = least + self.below(12) as u16;
-        settings(ticks, 1 + self.small(4), h, 2_000)
+        let mut slower = ticks.map(u16::from);
+        if two_records && slow {
+            slower[self.below(5) as usize] = 250 + u16::from(self.small(20));
+        }
+        let [set, read, write, beat, save] = slower;
+        let h = beat + save + set.max(read).max(write) + self.below(12) as u16;
+        let k = 1 + self.small(4);
+        match two_records {
+            true => wide(slower, k.into(), h.into(), 2_000).to_vec(),
+            false => settings(ticks, k, h, 2_000).to_vec(),
+        }
     }
 
     fn bench(&mut self) -> Bench {
@@ -79,7 +90,7 @@ fn flattened(nodes: &[Node]) -> Vec<Raw> {
     file
 }
 
-fn trace<'a>(settings: &'a Raw, bench: &Bench, nodes: &[Node]) -> (Trace<'a>, bool) {
+fn trace<'a>(settings: &'a [u8], bench: &Bench, nodes: &[Node]) -> (Trace<'a>, bool) {
     let first =
         Moment { tick: 0, variables: bench.variables, levels: [0; 8], marks: [0; 8], saved: false };
     let mut trace = Trace { settings, inputs: bench.inputs, moments: vec![first] };
@@ -87,7 +98,7 @@ fn trace<'a>(settings: &'a Raw, bench: &Bench, nodes: &[Node]) -> (Trace<'a>, bo
     (trace, overran)
 }
 
-fn check_run(settings: &Raw, form: Form, file: &[Raw], bench: &Bench) -> bool {
+fn check_run(settings: &[u8], form: Form, file: &[Raw], bench: &Bench) -> bool {
     let nodes = tree(file, &mut 0);
     let (trace, overran) = trace(settings, bench, &nodes);
     let last = trace.moments.last().unwrap();
@@ -100,7 +111,7 @@ fn check_run(settings: &Raw, form: Form, file: &[Raw], bench: &Bench) -> bool {
     overran
 }
 
-fn check_stops(settings: &Raw, form: Form, file: &[Raw], bench: &Bench, moments: &[Moment]) {
+fn check_stops(settings: &[u8], form: Form, file: &[Raw], bench: &Bench, moments: &[Moment]) {
     let end = moments.last().unwrap().tick;
     for stop in 0..end {
         let mut after = bench.clone();
@@ -128,7 +139,7 @@ fn check_stops(settings: &Raw, form: Form, file: &[Raw], bench: &Bench, moments:
 }
 
 /// Stopped anywhere and taken up, a laid run ends as the task does.
-fn check_taking_up(settings: &Raw, task: &[Raw], ready: &[Raw], bench: &Bench) {
+fn check_taking_up(settings: &[u8], task: &[Raw], ready: &[Raw], bench: &Bench) {
     let mut plain = bench.clone();
     let overran = plain.run(settings, Form::Task, task).unwrap().overran;
     let end = bench.clone().run(settings, Form::Laid, ready).unwrap().tick;
@@ -148,11 +159,11 @@ fn check_taking_up(settings: &Raw, task: &[Raw], ready: &[Raw], bench: &Bench) {
 }
 
 /// Laid as the tick by tick rules say; answers the laid records if any.
-fn check_laying(settings: &Raw, nodes: &[Node]) -> Option<Vec<Raw>> {
+fn check_laying(settings: &[u8], nodes: &[Node]) -> Option<Vec<Raw>> {
     let file = flattened(nodes);
     let (expected, total) = lay_all(settings, nodes);
     let expected = flattened(&expected);
-    let period = u32::from_le_bytes([settings[8], settings[9], settings[10], settings[11]]);
+    let period = numbers(settings).p;
     let mut out = vec![0; ROOM];
     let written = lay_out(settings, file.as_flattened(), &mut out);
     if total > period {
@@ -179,10 +190,9 @@ fn check_laying(settings: &Raw, nodes: &[Node]) -> Option<Vec<Raw>> {
 }
 
 /// The total is known even where nothing fits: 9 at that period, 8 below it.
-fn check_total(settings: &Raw, file: &[u8], total: u32) {
+fn check_total(settings: &[u8], file: &[u8], total: u32) {
     for (period, number) in [(total, 9), (total - 1, 8)] {
-        let mut other = *settings;
-        other[8..].copy_from_slice(&period.to_le_bytes());
+        let other = with_period(settings, period);
         let refused = lay_out(&other, file, &mut [0; 11]);
         assert_eq!(refused, Err(Refused::plain(number)));
     }
@@ -262,7 +272,7 @@ fn broken_files_by_chance() {
     for _ in 0..3_000 {
         let mut settings = chance.settings();
         if chance.below(4) == 0 {
-            let place = chance.below(12) as usize;
+            let place = chance.below(settings.len() as u64) as usize;
             settings[place] = chance.small(3);
         }
         let file = broken(&mut chance);
