@@ -18,9 +18,9 @@ use Rattle.theory.proofs.{Within.run-within, Left.rest-0, Reached.rest-reached}
 use Rattle.theory.proofs.Accepted.{passed, read, in-range, equalise-accepted, lay-out-accepted}
 use Rattle.preparation.proofs.Chaining.{second-done}
 use Rattle.running.proofs.Positions.{rest-shorter}
-use Rattle.rack.specs.Words.{fileWord, runWord}
+use Rattle.packing.specs.Words.{fileWord, runWord}
+use Rattle.packing.proofs.Healths.{health-small}
 use Rattle.tables.specs.Numbers.{entryFrom, badTable, numbersReply, numbersStatus}
-use Rattle.tables.proofs.TableLaws.{health-small}
 
 -- the values of a result
 abbrev first : List ℕ → ℕ

@@ -9,7 +9,7 @@ use Rattle.model.specs.Answers.{Verdict, finished, refused}
 use Rattle.model.specs.Replies.{equalisedTree, equaliseReply, laidTree, layOutReply, equalisedOf, prepareReply}
 use Rattle.preparation.proofs.Chaining.{second-done}
 use Rattle.theory.proofs.Accepted.{equalise-accepted, lay-out-accepted}
-use Rattle.rack.specs.Words.{firstIn, runWord, packed}
+use Rattle.packing.specs.Words.{firstIn, runWord, packed}
 
 -- The bytes written have room in bits 0 to 23.
 pub equalised-few : (s file : List ℕ) (room : ℕ) (v : Verdict) → v ≡ equaliseReply s file room → firstIn v ≤ 65532

@@ -1,20 +1,11 @@
-// The calls as C makes them. Each answers one number, in which specs/Words.antt packs what the paper returns.
-mod answers;
-mod words;
-
+// The calls as C makes them. Each answers one number, in which `packing` puts what the paper returns.
 ghost use mathlib.Core.Path.{_≡_};
 ghost use lib.ListN.{length};
 ghost use Rattle.model.specs.Replies.{timeReply, equaliseReply, equaliseOut, layOutReply, layOutOut, prepareReply, prepareOut, loan, buffersOf};
 ghost use Rattle.model.specs.Replies.{runReply, runBuffers, stopReply, stopBuffers, stopImage, resumeReply, resumeBuffers, restartReply, restartBuffers};
 ghost use Rattle.model.specs.declared.Event.the-variants.{Beat, Look, Reset};
-ghost use Rattle.rack.specs.Words.{formOf, fileWord, runWord, packed};
+ghost use Rattle.packing.specs.Words.{formOf, fileWord, runWord, packed};
 ghost use Rattle.tables.specs.Numbers.{numbersReply, numbersStatus, numbersTable};
-use answers::equalised_word;
-use answers::laid_word;
-use answers::ran_word;
-use answers::stopped_word;
-use answers::time_word;
-use answers::watched_word;
 use equaliser::equalise;
 use layout::lay_out;
 use machine::restart;
@@ -22,11 +13,17 @@ use machine::resume;
 use machine::run;
 use machine::run_until;
 use model::Event;
+use packing::answers::equalised_word;
+use packing::answers::laid_word;
+use packing::answers::ran_word;
+use packing::answers::stopped_word;
+use packing::answers::time_word;
+use packing::answers::watched_word;
+use packing::words::form_of;
 use preparation::prepare;
 use tables::happen;
 use tables::seen;
 use timing::time_file;
-use words::form_of;
 
 // timing::time_file
 #[no_mangle]

@@ -1,14 +1,13 @@
 -- The watcher's table as C holds it: what a call answers and leaves where refusal 13's cause holds, and where it does not.
-use Prim.Native.Nat.{ℕ, _+_, _*_, _%_, _/_, _<_, _≤_}
+use Prim.Native.Nat.{ℕ, _+_, _*_, _%_, _/_, _<_}
 use native.Mathlib.Omega.{arith}
 use mathlib.Core.{Path._≡_, Path.refl, Path.ap, Path._∙_, List.List}
 use mathlib.Core.Bool.{Bool, true, false, not, _||_}
 use lib.{Dec.eqb, ListN.length, ListN.getD}
 use borrow.Author.Tests.{eqb-true, not-false}
-use Rattle.model.specs.declared.{Entry.Entry, Event.Event, Watched.Watched, Health.Health}
-use Rattle.model.specs.declared.Health.the-variants.{Waiting, Well, Suspect, Failed}
+use Rattle.model.specs.declared.{Entry.Entry, Event.Event, Watched.Watched}
 use Rattle.model.specs.declared.Refusal.the-variants.{BadEntry}
-use Rattle.model.specs.Answers.{watched, refusal, healthNumber}
+use Rattle.model.specs.Answers.{watched, refusal}
 use Rattle.model.specs.Watching.{after, badEntry, badEvent, told}
 use Rattle.model.proofs.Shapes.{neither}
 use Rattle.theory.proofs.WatchTables.{in-table}
@@ -51,9 +50,3 @@ module _ (t : List ℕ) (n : ℕ) (r : Watched) where
   pub status-told : badTable (length t) n ≡ false → watched r ≡ told (entryFrom t (3 * n)) → watched r ≡ numbersStatus t n
   unfolding numbersStatus
   status-told e a = rw e a
-
-pub health-small : (h : Health) → healthNumber h ≤ 3
-health-small Waiting = omega arith
-health-small Well = omega arith
-health-small Suspect = omega arith
-health-small Failed = omega arith

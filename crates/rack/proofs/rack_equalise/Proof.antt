@@ -1,5 +1,5 @@
 use mathlib.Core.Path.{ap, _∙_}
-use Rattle.rack.specs.Words.{fileWord, packed}
+use Rattle.packing.specs.Words.{fileWord, packed}
 use Rattle.rack.proofs.Packing.{equalised-few}
 use borrow.Author.Needs.{needs}
 use Rattle.rack.proofs.rack_equalise.Statement.{statement}

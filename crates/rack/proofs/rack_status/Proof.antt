@@ -1,6 +1,6 @@
 use mathlib.Core.Path.{ap, _∙_}
 use borrow.Author.Needs.{needs}
-use Rattle.rack.specs.Words.{fileWord, packed}
+use Rattle.packing.specs.Words.{fileWord, packed}
 use Rattle.rack.proofs.rack_status.Statement.{statement}
 use Rattle.rack.proofs.rack_status.Tie as tie
 

@@ -2,7 +2,7 @@ use mathlib.Core.Path.{ap, _∙_}
 use denote.Ref.{now}
 use Rattle.model.specs.declared.Form.{Form}
 use Rattle.model.specs.Replies.{timeReply}
-use Rattle.rack.specs.Words.{fileWord, packed}
+use Rattle.packing.specs.Words.{fileWord, packed}
 use borrow.Author.Needs.{needs}
 use Rattle.rack.proofs.rack_time.Statement.{statement}
 use Rattle.rack.proofs.rack_time.Tie as tie

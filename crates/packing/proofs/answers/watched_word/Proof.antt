@@ -1,8 +1,8 @@
 use native.Mathlib.Omega.{arith}
 use borrow.Author.Needs.{needs}
-use Rattle.tables.proofs.TableLaws.{health-small}
-use Rattle.rack.proofs.answers.watched_word.Statement.{statement}
-use Rattle.rack.proofs.answers.watched_word.Tie as tie
+use Rattle.packing.proofs.Healths.{health-small}
+use Rattle.packing.proofs.answers.watched_word.Statement.{statement}
+use Rattle.packing.proofs.answers.watched_word.Tie as tie
 
 pub watched-word-spec : {M : Type 1} → statement M
 watched-word-spec =

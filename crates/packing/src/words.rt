@@ -2,7 +2,7 @@
 ghost use mathlib.Core.Path.{_≡_};
 ghost use lib.ListN.{getD};
 ghost use Rattle.model.specs.Answers.{row};
-ghost use Rattle.rack.specs.Words.{formOf, refusedWord};
+ghost use Rattle.packing.specs.Words.{formOf, refusedWord};
 use model::Form;
 use model::Refusal;
 use model::refusals::row_of;

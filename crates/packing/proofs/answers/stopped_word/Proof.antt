@@ -1,7 +1,7 @@
 use native.Mathlib.Omega.{arith}
 use borrow.Author.Needs.{needs}
-use Rattle.rack.proofs.answers.stopped_word.Statement.{statement}
-use Rattle.rack.proofs.answers.stopped_word.Tie as tie
+use Rattle.packing.proofs.answers.stopped_word.Statement.{statement}
+use Rattle.packing.proofs.answers.stopped_word.Tie as tie
 
 pub stopped-word-spec : {M : Type 1} → statement M
 stopped-word-spec =

@@ -1,6 +1,6 @@
 use borrow.Author.Tests.{ne-eqb}
-use Rattle.rack.proofs.words.form_of.Statement.{statement}
-use Rattle.rack.proofs.words.form_of.Tie as tie
+use Rattle.packing.proofs.words.form_of.Statement.{statement}
+use Rattle.packing.proofs.words.form_of.Tie as tie
 
 pub form-of-spec : {M : Type 1} → statement M
 form-of-spec =

@@ -2,11 +2,11 @@ use Prim.Native.Nat.{_≤_}
 use mathlib.Core.Path.{subst}
 use Rattle.model.specs.declared.Equalised.{Equalised}
 use Rattle.model.specs.Answers.{equalised}
-use Rattle.rack.specs.Words.{firstIn}
+use Rattle.packing.specs.Words.{firstIn}
 use native.Mathlib.Omega.{arith}
 use borrow.Author.Needs.{needs}
-use Rattle.rack.proofs.answers.equalised_word.Statement.{statement}
-use Rattle.rack.proofs.answers.equalised_word.Tie as tie
+use Rattle.packing.proofs.answers.equalised_word.Statement.{statement}
+use Rattle.packing.proofs.answers.equalised_word.Tie as tie
 
 add-result : tie.Need-add-result
 add-result c =

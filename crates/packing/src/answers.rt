@@ -3,7 +3,7 @@ ghost use mathlib.Core.Path.{_≡_};
 ghost use Prim.Native.Nat.{_+_, _*_, _^_, _≤_};
 ghost use Rattle.model.specs.Limits.{fileLength};
 ghost use Rattle.model.specs.Answers.{bit, timed, equalised, laidOut, ran, stopped, healthNumber, watched};
-ghost use Rattle.rack.specs.Words.{fileWord, runWord, packed, firstIn};
+ghost use Rattle.packing.specs.Words.{fileWord, runWord, packed, firstIn};
 use crate::words::refused;
 use model::Equalised;
 use model::Health;

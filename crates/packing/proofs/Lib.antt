@@ -1,0 +1,2 @@
+-- A law of the numbers that are packed.
+pub mod Healths

@@ -1,0 +1,2 @@
+-- What the contracts of packing cite beside the model's definitions.
+pub mod Words

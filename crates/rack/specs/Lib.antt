@@ -1,2 +1,0 @@
--- What the contracts of the interface for C cite beside the model's definitions.
-pub mod Words
