@@ -11,7 +11,7 @@ use Rattle.model.specs.{Records.bytes, Records.over, Times.time, Equalising.equ
 use Rattle.model.specs.Trees.{Block, size, linearise, fileTree}
 use Rattle.model.specs.Answers.{Verdict, finished, refusal, equalised, kept as kept-by}
 use Rattle.model.specs.Replies.{turnDown, noRoom, equaliseRows, equalisedTree, equaliseReply, equaliseOut}
-use Rattle.model.proofs.Sound.{sound-file}
+use Rattle.laws.proofs.Sound.{sound-file}
 use Rattle.reading.specs.declared.Checked.the-variants.{Valid, Refused}
 use Rattle.records.specs.Blocks.{blockBytes, skipRecords}
 use Rattle.records.proofs.Blocks.{length-block}

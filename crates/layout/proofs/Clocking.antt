@@ -9,7 +9,7 @@ use borrow.Author.Tests.{eqb-true, eqb-false}
 use Rattle.model.specs.declared.Settings.{Settings}
 use Rattle.model.specs.Records.{Rec, kindAt, recordAt, SKIP, IF, TIMES}
 use Rattle.model.specs.{Trees.check, Trees.size, Times.longest}
-use Rattle.model.proofs.Shapes.{or-cases, neither}
+use Rattle.laws.proofs.Shapes.{or-cases, neither}
 use Rattle.records.specs.declared.Record.{Record}
 use Rattle.records.specs.Records.{recordOf}
 use Rattle.reading.specs.{Closing.closesBlock, Ranges.firstPart, Ranges.secondPart}

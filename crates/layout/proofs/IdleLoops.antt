@@ -13,7 +13,7 @@ use Rattle.model.specs.Trees.{Test, check, Block, nil, skip, act, _⧺_, size}
 use Rattle.model.specs.{Times.time, Placement.Fits}
 use Rattle.model.specs.{Layout.before, Layout.idle, Layout.idles, Standing.OfForm}
 use Rattle.theory.specs.Windows.{Free}
-use Rattle.model.proofs.{Trees.⧺-nil, Trees.⧺-assoc}
+use Rattle.laws.proofs.{Trees.⧺-nil, Trees.⧺-assoc}
 use Rattle.theory.proofs.{Times.time-⧺, Windows.idles-longer}
 use Rattle.records.specs.declared.Record.{Record}
 use Rattle.records.specs.Records.{recordOf}

@@ -10,7 +10,7 @@ use Rattle.model.specs.declared.Settings.{Settings}
 use Rattle.model.specs.{Records.kindAt, Times.time}
 use Rattle.model.specs.Trees.{Block, nil, _⧺_, size}
 use Rattle.theory.specs.Windows.{Free}
-use Rattle.model.proofs.Trees.{⧺-nil, ⧺-assoc}
+use Rattle.laws.proofs.Trees.{⧺-nil, ⧺-assoc}
 use Rattle.theory.proofs.{Times.time-⧺}
 use Rattle.reading.specs.{Closing.closesBlock, Walks.Walk}
 use Rattle.reading.specs.Ranges.{InFile, firstSize, afterFirst}

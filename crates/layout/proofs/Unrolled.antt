@@ -9,7 +9,7 @@ use Rattle.model.specs.{Times.ticks, Times.time, Standing.OfForm}
 use Rattle.model.specs.Layout.{copies, unroll, before, idles, fill, filled, lay}
 use Rattle.model.specs.Placement.{Fits, CommandFree, LoopFree}
 use Rattle.theory.specs.Windows.{Free}
-use Rattle.model.proofs.{Trees.⧺-nil, Trees.⧺-assoc}
+use Rattle.laws.proofs.{Trees.⧺-nil, Trees.⧺-assoc}
 use Rattle.theory.proofs.{Times.time-⧺, Forms.formed}
 use Rattle.theory.proofs.Unrolling.{unrolled-loop-free, unrolled-command-free, rounds-loop-free, rounds-command-free}
 use Rattle.theory.proofs.Windows.{free-later, free-behind, free-tested, fill-ends}

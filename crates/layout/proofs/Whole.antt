@@ -12,7 +12,7 @@ use Rattle.model.specs.Trees.{beat, save, Block, nil, skip, act, _⧺_, size, f
 use Rattle.model.specs.{Times.time, Equalising.waiting, Equalising.merge, Records.over}
 use Rattle.model.specs.Layout.{unroll, commands, left, lay, opened, body, lastValue, layout, total}
 use Rattle.theory.specs.Windows.{Free, round}
-use Rattle.model.proofs.Trees.{⧺-assoc}
+use Rattle.laws.proofs.Trees.{⧺-assoc}
 use Rattle.theory.proofs.{Times.time-⧺, Windows.window-pos, Windows.commands-0, Windows.free-start}
 use Rattle.records.specs.Blocks.{blockBytes, skipRecords, skipBytes, Wrote}
 use Rattle.records.proofs.Blocks.{size-⧺, size-waiting, bytes-⧺, waiting-bytes, act-bytes, length-block}

@@ -8,7 +8,7 @@ use Rattle.model.specs.declared.Settings.{Settings}
 use Rattle.model.specs.Records.{Rec, kindAt, recordAt, TIMES}
 use Rattle.model.specs.Trees.{check, Block, nil, act, _⧺_, size, actRec}
 use Rattle.model.specs.{Times.time, Layout.before}
-use Rattle.model.proofs.Trees.{⧺-nil, ⧺-assoc}
+use Rattle.laws.proofs.Trees.{⧺-nil, ⧺-assoc}
 use Rattle.theory.proofs.Times.{time-⧺}
 use Rattle.records.proofs.Over.{lent, back}
 use Rattle.placing.specs.declared.clock.State.{State}

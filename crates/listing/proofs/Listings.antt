@@ -12,8 +12,8 @@ use Rattle.model.specs.{Settings.settingsOf, Settings.badSettings, Times.time, 
 use Rattle.model.specs.{Trees.Block, Trees.size, Trees.linearise, Answers.finished, Answers.refusal, Answers.laidOut}
 use Rattle.model.specs.{Listing.startTicks, Listing.laidFrom, Listing.listStarts, Standing.At, Standing.OfForm}
 use Rattle.model.specs.Replies.{equaliseReply, laidTotal, layOutReply, equalisedOf, prepareReply, prepareOut}
-use Rattle.model.proofs.{Bytes.recordsAt, Bytes.first-bytes, Trees.length-linearise, Passes.length-file, Stands.begins}
-use Rattle.model.proofs.{Sound.sound-file}
+use Rattle.laws.proofs.{Bytes.recordsAt, Bytes.first-bytes, Trees.length-linearise, Passes.length-file, Stands.begins}
+use Rattle.laws.proofs.{Sound.sound-file}
 use Rattle.records.specs.declared.settings.Decoded.the-variants.{Refused}
 use Rattle.records.specs.Decoded.{Decodes}
 use Rattle.records.proofs.Stores.{stored-over}

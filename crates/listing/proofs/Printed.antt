@@ -9,7 +9,7 @@ use Rattle.model.specs.{Settings.settingsOf, Trees.Block, Trees.linearise, Limi
 use Rattle.model.specs.Records.{Rec, recordAt, firstRecords, over}
 use Rattle.model.specs.Answers.{finished, row, refusal}
 use Rattle.model.specs.Listing.{lineOf, startTicks, linesOf, laidFrom, listStarts, lineAt, listed, turnedDown, printed}
-use Rattle.model.proofs.{Bytes.recordsAt, Bytes.recordsAt-suc, Trees.length-linearise}
+use Rattle.laws.proofs.{Bytes.recordsAt, Bytes.recordsAt-suc, Trees.length-linearise}
 use Rattle.listing.specs.Lines.{linesIn}
 use Rattle.listing.proofs.LineLaws.{line-there}
 use Rattle.listing.proofs.Listings.{accepted, count, total, ticks-count, table-filled, records-there, laid-length}

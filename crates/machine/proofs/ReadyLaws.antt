@@ -8,7 +8,7 @@ use borrow.Author.Tests.{lt-ltb, le-ltb}
 use Rattle.model.specs.declared.{Form.Form, Settings.Settings, Refusal.Refusal}
 use Rattle.model.specs.{Settings.settingsOf, Trees.fileTree, Times.time, Answers.Verdict, Answers.refusal}
 use Rattle.model.specs.Replies.{reading, above, fileTime, readyRows}
-use Rattle.model.proofs.Sound.{sound-file}
+use Rattle.laws.proofs.Sound.{sound-file}
 use Rattle.theory.proofs.Accepted.{in-range}
 use Rattle.reading.specs.declared.Checked.{Checked}
 use Rattle.reading.specs.declared.Checked.the-variants.{Valid, Refused}

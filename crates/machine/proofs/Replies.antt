@@ -12,7 +12,7 @@ use Rattle.model.specs.Stopping.{upto, none, lastImage, imageOf, start, takeUp}
 use Rattle.model.specs.Answers.{Verdict, finished, bit, ran, stopped, kept}
 use Rattle.model.specs.Replies.{reading, Loan, badLengths, readyRows, ready, ended, stepsOf, runReply, runBuffers, imageAt, stopReply, stopBuffers, imageOver, stopImage, buffersOf, loan}
 use Rattle.model.specs.Replies.{stopRows, takenUp, takenBuffers, resumeReply, resumeBuffers, restartReply, restartBuffers}
-use Rattle.model.proofs.Shapes.{neither}
+use Rattle.laws.proofs.Shapes.{neither}
 use Rattle.theory.proofs.{Left.rest-0}
 use Rattle.reading.specs.declared.Checked.{Checked}
 use Rattle.reading.specs.declared.Checked.the-variants.{Valid, Refused}

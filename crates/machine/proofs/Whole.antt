@@ -13,9 +13,9 @@ use Rattle.model.specs.Runs.{Step, duration, variablesAfter, outputsAfter, leve
 use Rattle.model.specs.Stopping.{upto, Image, Saved, none, lastImage, wordsFrom, imageOf, rest, takeUp}
 use Rattle.model.specs.Replies.{ended, badLengths, isSaved, stopRows, imageOver, afterSave, strayImage, buffersOf}
 use Rattle.model.specs.Answers.{Verdict, finished, refused, bit, kept}
-use Rattle.model.proofs.{Trees.⧺-nil}
+use Rattle.laws.proofs.{Trees.⧺-nil}
 use Rattle.model.specs.{Placement.LoopFree, Records.Bytes}
-use Rattle.model.proofs.Shapes.{neither}
+use Rattle.laws.proofs.Shapes.{neither}
 use Rattle.theory.proofs.{Sequences.⊳-nil, Reached.rest-reached, Stops.upto-all, Within.run-within}
 use Rattle.reading.proofs.Walking.{whole-file}
 use Rattle.stepping.specs.declared.progress.Progress.{Progress}

@@ -1,11 +1,4 @@
--- The laws that tie bytes to trees, and the bench theorem.
-pub mod Bytes
-pub mod Trees
-pub mod Stands
-pub mod Shapes
-pub mod Sound
-pub mod Passes
-pub mod Images
+-- What no answer loses, the bench theorem, and cases at the limits: they test the definitions.
 pub mod Injective
 pub mod Untouched
 pub mod Bench

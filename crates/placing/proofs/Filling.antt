@@ -7,7 +7,7 @@ use Rattle.model.specs.declared.Settings.{Settings}
 use Rattle.model.specs.Trees.{Block, nil, skip, _⧺_}
 use Rattle.model.specs.Times.{time}
 use Rattle.model.specs.Layout.{before, idle, idles, fill}
-use Rattle.model.proofs.Trees.{⧺-assoc}
+use Rattle.laws.proofs.Trees.{⧺-assoc}
 use Rattle.theory.proofs.Times.{time-⧺}
 use Rattle.placing.specs.declared.clock.State.{State}
 use Rattle.placing.specs.States.{Layable, Shows}

@@ -9,7 +9,7 @@ use Rattle.model.specs.declared.Settings.{Settings}
 use Rattle.model.specs.Trees.{beat, save, Block, nil, skip, act}
 use Rattle.model.specs.{Times.time, Times.longest, Layout.commands, Layout.left, Layout.before}
 use Rattle.theory.specs.Windows.{round}
-use Rattle.model.proofs.Trees.{⧺-nil}
+use Rattle.laws.proofs.Trees.{⧺-nil}
 use Rattle.theory.proofs.{Times.time-⧺, Sequences.either, Clock.mod-within, Clock.mod-over}
 use Rattle.theory.proofs.Windows.{window-pos, round-pos, window-on}
 use Rattle.placing.specs.declared.clock.State.{State}

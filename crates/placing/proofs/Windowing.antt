@@ -10,7 +10,7 @@ use Rattle.model.specs.Trees.{Block, nil, skip, _⧺_, size}
 use Rattle.model.specs.{Times.time, Times.longest, Equalising.merge}
 use Rattle.model.specs.Layout.{commands, before, idle, idles, fill}
 use Rattle.theory.specs.Windows.{Free}
-use Rattle.model.proofs.{Shapes.and-left, Shapes.and-right, Trees.⧺-assoc}
+use Rattle.laws.proofs.{Shapes.and-left, Shapes.and-right, Trees.⧺-assoc}
 use Rattle.theory.proofs.{Times.time-⧺, Windows.commands-before}
 use Rattle.records.specs.Blocks.{skipRecords}
 use Rattle.records.proofs.Blocks.{one-skip}

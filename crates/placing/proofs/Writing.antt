@@ -7,7 +7,7 @@ use lib.ListN.{length, length-append}
 use Rattle.model.specs.declared.Settings.{Settings}
 use Rattle.model.specs.Records.{bytes}
 use Rattle.model.specs.Trees.{Block, nil, _⧺_, size, linearise}
-use Rattle.model.proofs.Trees.{⧺-nil, ⧺-assoc}
+use Rattle.laws.proofs.Trees.{⧺-nil, ⧺-assoc}
 use Rattle.records.specs.Blocks.{blockBytes}
 use Rattle.records.proofs.Blocks.{length-block}
 use Rattle.records.proofs.Over.{Part, lent, back, part-start, part-first, part-at, part-fits, part-lent, part-end}

@@ -7,7 +7,7 @@ use lib.ListN.{length}
 use Rattle.model.specs.declared.Settings.{Settings}
 use Rattle.model.specs.Trees.{Block, nil, skip, _⧺_}
 use Rattle.model.specs.{Times.time, Times.longest, Layout.idles, Layout.fill}
-use Rattle.model.proofs.Trees.{⧺-assoc}
+use Rattle.laws.proofs.Trees.{⧺-assoc}
 use Rattle.theory.proofs.Times.{time-⧺}
 use Rattle.records.specs.Blocks.{Wrote}
 use Rattle.records.proofs.Over.{Part, lent, back}

@@ -11,7 +11,7 @@ use Rattle.model.specs.{Settings.settingsOf, Settings.badSettings, Trees.size, 
 use Rattle.model.specs.Refusals.{Fault, sound, faulty, fault}
 use Rattle.model.specs.Answers.{Verdict, finished, refusal, valueAt}
 use Rattle.model.specs.Replies.{reading, equalisedTree, equaliseReply, equaliseOut, layOutReply, layOutOut, equalisedOf, prepareReply, prepareOut}
-use Rattle.model.proofs.Sound.{sound-file}
+use Rattle.laws.proofs.Sound.{sound-file}
 use Rattle.theory.proofs.{Accepted.equalise-accepted, Files.equalised-file}
 use Rattle.equaliser.proofs.Merged.{equalise-padded, padded-small}
 use Rattle.preparation.proofs.Chaining.{refused-first}

@@ -13,7 +13,7 @@ use Rattle.model.specs.Stopping.{Image, imageOf, start, rest, takeUp}
 use Rattle.model.specs.Replies.{turnDown, above, fileTime, timeReply, equaliseReply, layOutReply, equalisedOf, prepareReply}
 use Rattle.model.specs.Replies.{Loan, badBuffers, badImageLength, ready, ended, stepsOf, runReply, stopReply, imageAt, isSaved, takenUp, afterSave, strayImage, resumeReply, restartReply}
 use Rattle.model.specs.Watching.{hasFailed, healthOf, unlessFailed, withLeft, after, badEvent, told}
-use Rattle.model.proofs.Shapes.{neither}
+use Rattle.laws.proofs.Shapes.{neither}
 use Rattle.theory.proofs.{Within.run-within, Left.rest-0, Reached.rest-reached}
 use Rattle.theory.proofs.Accepted.{passed, read, in-range, equalise-accepted, lay-out-accepted}
 use Rattle.preparation.proofs.Chaining.{second-done}

@@ -8,7 +8,7 @@ use borrow.Author.Tests.{eqb-true, ne-eqb}
 use Rattle.model.specs.Records.{Rec, kindAt, recordAt, ELSE, WHILE, END, TIMES}
 use Rattle.model.specs.Trees.{Test, Act, Block, nil, skip, act, branch, while, times, size, actRec}
 use Rattle.model.specs.Standing.{At, LoopAt}
-use Rattle.model.proofs.{Shapes.by-act, Shapes.or-cases}
+use Rattle.laws.proofs.{Shapes.by-act, Shapes.or-cases}
 use Rattle.reading.specs.Closing.{Pass, Ends, On, closesBlock, passTo, goOn, closingIn}
 
 -- what a record at i makes of the count is a matter of its kind

@@ -11,7 +11,7 @@ use borrow.Author.Tests.{leb-true, leb-false, eqb-true}
 use Rattle.model.specs.declared.Form.{Form}
 use Rattle.model.specs.Records.{kindAt, IF, ELSE, WHILE, END, TIMES}
 use Rattle.model.specs.Trees.{Block, nil, skip, act, branch, while, times, size}
-use Rattle.model.proofs.Shapes.{or-cases, neither}
+use Rattle.laws.proofs.Shapes.{or-cases, neither}
 use Rattle.reading.specs.Closing.{opensBlock, closesBlock, passTo, closingIn, ClosingsFrom, Closings, On}
 use Rattle.reading.specs.Ranges.{Stands, InFile, Fillable, firstSize, firstPart, secondPart}
 use Rattle.reading.specs.Walks.{StatementAt}

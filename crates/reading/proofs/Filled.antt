@@ -6,7 +6,7 @@ use lib.ListN.{length}
 use Rattle.model.specs.declared.Form.{Form}
 use Rattle.model.specs.Trees.{Block, nil, skip, act, branch, while, times, size, depth}
 use Rattle.model.specs.Standing.{At, OfForm}
-use Rattle.model.proofs.{Sound.Sound}
+use Rattle.laws.proofs.{Sound.Sound}
 use Rattle.reading.specs.Ranges.{Fills, firstSize, afterFirst}
 use Rattle.reading.proofs.Scanning.{deepest}
 

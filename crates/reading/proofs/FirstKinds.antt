@@ -7,7 +7,7 @@ use Rattle.model.specs.declared.Form.{Form}
 use Rattle.model.specs.declared.Form.the-variants.{Task}
 use Rattle.model.specs.Records.{Rec, kindAt, recordAt, SKIP, IF, WHILE, TIMES}
 use Rattle.model.specs.Trees.{Act, Block, nil, skip, act, branch, while, times, actRec}
-use Rattle.model.proofs.Shapes.{by-act}
+use Rattle.laws.proofs.Shapes.{by-act}
 use Rattle.reading.specs.Closing.{opensBlock}
 use Rattle.reading.specs.Ranges.{Fills, firstPart, secondPart, afterFirst, testOf}
 

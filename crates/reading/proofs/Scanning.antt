@@ -11,7 +11,7 @@ use Rattle.model.specs.declared.Form.the-variants.{Task, Equalised, Laid}
 use Rattle.model.specs.Records.{Rec, recordAt, firstRecords, records}
 use Rattle.model.specs.Refusals.{Open, Nesting, misplaced, inside, nest, maxDepth, maxRecords, kindFits, fieldsFit, Fault, sound, faulty, deeper, scan, fault}
 use Rattle.model.specs.Replies.{unless}
-use Rattle.model.proofs.Bytes.{recordsAt, recordsAt-suc, records-at}
+use Rattle.laws.proofs.Bytes.{recordsAt, recordsAt-suc, records-at}
 use Rattle.records.specs.declared.Record.{Record}
 use Rattle.records.specs.Records.{recordOf}
 use Rattle.reading.specs.Nesting.{bits, blocks, nested}

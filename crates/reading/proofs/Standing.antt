@@ -8,7 +8,7 @@ use borrow.Author.Tests.{ltb-true, ltb-false}
 use Rattle.model.specs.declared.Form.{Form}
 use Rattle.model.specs.{Records.Rec, Records.kindAt, Records.recordAt, Standing.At, Standing.LoopAt, Standing.OfForm}
 use Rattle.model.specs.Trees.{Test, Block, nil, skip, act, branch, while, times, size, fileTree}
-use Rattle.model.proofs.{Stands.stands-once as one-stands, Sound.sound-file}
+use Rattle.laws.proofs.{Stands.stands-once as one-stands, Sound.sound-file}
 use Rattle.reading.specs.Closing.{opensBlock, closesBlock, closingIn}
 use Rattle.reading.specs.{Walks.OpenAt, Ranges.SoundFile, Ranges.Stands}
 use Rattle.reading.proofs.{BlockEnds.found, BlockEnds.ends-block, BlockEnds.ran-out, FirstKinds.kind-is, FirstKinds.act-opens, FirstKinds.shut}

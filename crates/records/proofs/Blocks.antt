@@ -9,7 +9,7 @@ use borrow.Author.Tests.{lt-ltb}
 use Rattle.model.specs.Records.{Rec, recordBytes, bytes, IF}
 use Rattle.model.specs.Trees.{Test, Act, Block, nil, skip, act, branch, while, times, _⧺_, testRec, actRec, elseRec, endRec, size, linearise}
 use Rattle.model.specs.{Limits.fileRecords, Equalising.waiting, Replies.noRoom}
-use Rattle.model.proofs.Passes.{length-file}
+use Rattle.laws.proofs.Passes.{length-file}
 use Rattle.records.specs.Blocks.{blockBytes, skipRecords, skipBytes}
 
 pub waiting-⧺ : (n : ℕ) (a b : Block) → waiting n a ⧺ b ≡ waiting n (a ⧺ b)

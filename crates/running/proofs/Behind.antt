@@ -6,7 +6,7 @@ use native.Mathlib.Omega.{arith}
 use lib.{Dec.eqb, ListN.getD}
 use borrow.Author.Tests.{eqb-true, eq-eqb, ne-eqb}
 use Rattle.model.specs.Records.{kindAt, IF, ELSE, WHILE, END, TIMES}
-use Rattle.model.proofs.Shapes.{or-cases}
+use Rattle.laws.proofs.Shapes.{or-cases}
 use Rattle.reading.specs.Closing.{opensBlock, closesBlock}
 use Rattle.running.specs.Contracts.{Inner, closing, closed, passed, isLoop}
 

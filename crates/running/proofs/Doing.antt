@@ -8,7 +8,7 @@ use lib.Dec.{leb, ltb}
 use borrow.Author.Tests.{leb-true, leb-false, le-leb, lt-leb, le-ltb, lt-ltb, ltb-true, ltb-false}
 use Rattle.model.specs.{Trees.Test, Stopping.upto, Stopping.lastImage}
 use Rattle.model.specs.Runs.{nothing, isOverrun, Step, step, duration, variablesAfter, outputsAfter, level, mark, overran, holds, Run, _⊳_, choose, spin, rounds}
-use Rattle.model.proofs.Shapes.{neither}
+use Rattle.laws.proofs.Shapes.{neither}
 use Rattle.stepping.specs.Machines.{Held, affect, Machine, machine, acted, cutOff, turn, does, runs}
 
 -- both sides less the same

@@ -5,7 +5,7 @@ use mathlib.Core.{Path._≡_, List.List}
 use lib.ListN.{length}
 use Rattle.model.specs.declared.Form.{Form}
 use Rattle.model.specs.Trees.{size, fileTree}
-use Rattle.model.proofs.Sound.{Sound, sound-file}
+use Rattle.laws.proofs.Sound.{Sound, sound-file}
 use Rattle.reading.specs.{Closing.Closings, Ranges.SoundFile, Ranges.Fillable}
 use Rattle.reading.proofs.{Scanning.most-records, Walking.whole-file}
 use Rattle.running.specs.Contracts.{extent, Started, Begun}

@@ -9,7 +9,7 @@ use Rattle.model.specs.declared.{Form.Form, Settings.Settings}
 use Rattle.model.specs.Trees.{Test, Block, nil, skip, act, branch, while, times, _⧺_, size}
 use Rattle.model.specs.{Times.time, Stopping.rest, Placement.LoopFree}
 use Rattle.model.specs.Standing.{At, OfForm}
-use Rattle.model.proofs.{Trees.⧺-assoc}
+use Rattle.laws.proofs.{Trees.⧺-assoc}
 use Rattle.theory.proofs.{Times.time-⧺, Left.rest-0}
 use Rattle.reading.specs.Ranges.{Stands}
 use Rattle.reading.proofs.Standing.{stands-last, stands-one, stands-two}

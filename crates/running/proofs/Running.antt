@@ -9,7 +9,7 @@ use Rattle.model.specs.declared.Settings.{Settings}
 use Rattle.model.specs.Records.{kindAt}
 use Rattle.model.specs.Trees.{Block, nil, skip, act, branch, while, times, size}
 use Rattle.model.specs.Runs.{Step, overran, variablesAfter, Run, _⊳_, run}
-use Rattle.model.proofs.Shapes.{neither}
+use Rattle.laws.proofs.Shapes.{neither}
 use Rattle.theory.proofs.{Sequences.⊳-assoc}
 use Rattle.reading.specs.{Closing.closesBlock, Ranges.firstSize, Ranges.afterFirst, Walks.StatementAt}
 use Rattle.reading.proofs.{Filled.size-first, Filled.fills-none, Standing.stands-closed, Walking.some, Walking.behind}

@@ -12,7 +12,7 @@ use Rattle.model.specs.Trees.{Act, set, read, write, check, beat, save, Block, 
 use Rattle.model.specs.{Times.ticks, Standing.Fit}
 use Rattle.model.specs.Refusals.{between, unused, testFits, fieldsFit}
 use Rattle.model.specs.Runs.{Effect, nothing, effect, Run, single, step}
-use Rattle.model.proofs.Shapes.{and-left, or-cases}
+use Rattle.laws.proofs.Shapes.{and-left, or-cases}
 use Rattle.reading.specs.{Closing.opensBlock, Closing.closesBlock, Ranges.Stands, Ranges.firstSize, Ranges.afterFirst}
 use Rattle.reading.proofs.{Standing.stands-once, Walking.some, Walking.skip-at, Walking.act-at}
 use Rattle.timing.specs.Times.{stepTicks}

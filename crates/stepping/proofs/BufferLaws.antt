@@ -6,7 +6,7 @@ use native.Mathlib.{Nat.sub-zero, Numerals.add-one, Omega.arith}
 use lib.ListN.{length, getD, take, drop, set, length-append, drop-of-length-le}
 use lib.Seq.{drop-cons, take-at, drop-at, drop-drop, length-take-le}
 use Rattle.model.specs.{Records.wordAt, Records.wordBytes, Records.over, Stopping.words, Stopping.wordsFrom}
-use Rattle.model.proofs.Images.{length-words}
+use Rattle.laws.proofs.Images.{length-words}
 use Rattle.records.proofs.Over.{Part, part-start, part-put, part-lent, part-end, part-length, lent, back}
 use Rattle.stepping.specs.{Machines.held, Machines.imageIn, Buffers.withVariables, Buffers.withOutputs}
 

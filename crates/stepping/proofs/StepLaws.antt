@@ -9,7 +9,7 @@ use borrow.Author.Tests.{ltb-true, ltb-false, leb-true, eqb-true, eqb-false, le-
 use Rattle.model.specs.Records.{Rec, rec, SET, READ, WRITE, CHECK, BEAT, SAVE}
 use Rattle.model.specs.Refusals.{variable, port, unused, opFits, setFits, testFits, fieldsFit}
 use Rattle.model.specs.Runs.{Effect, nothing, assigns, outputs, beats, saves, overruns, isOverrun, compares, holds, result}
-use Rattle.model.proofs.Shapes.{and-left, and-right, zeros}
+use Rattle.laws.proofs.Shapes.{and-left, and-right, zeros}
 use Rattle.reading.specs.Ranges.{testOf}
 use Rattle.stepping.specs.Machines.{held, affect, setResult, recordEffect}
 use Rattle.stepping.specs.Steps.{ordered, Acts}

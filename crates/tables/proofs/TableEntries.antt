@@ -9,7 +9,7 @@ use Rattle.model.specs.declared.{Entry.Entry, Event.Event}
 use Rattle.model.specs.declared.Event.the-variants.{Beat, Look, Reset}
 use Rattle.model.specs.{Answers.Verdict, Answers.finished, Answers.refused, Answers.kept, Replies.turnDown}
 use Rattle.model.specs.Watching.{hasFailed, healthOf, unlessFailed, withLeft, after, badEntry, badEvent, told, entryAt, eventReply, eventTable, statusReply}
-use Rattle.model.proofs.Shapes.{neither}
+use Rattle.laws.proofs.Shapes.{neither}
 use Rattle.tables.specs.Numbers.{entryFrom, badTable, markAfter, entryOver, numbersReply, numbersStatus, numbersTable, entriesOf, TablesStand}
 use Rattle.tables.proofs.TableLaws.{numbers-within}
 

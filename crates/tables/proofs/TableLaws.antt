@@ -9,7 +9,7 @@ use Rattle.model.specs.declared.{Entry.Entry, Event.Event, Watched.Watched}
 use Rattle.model.specs.declared.Refusal.the-variants.{BadEntry}
 use Rattle.model.specs.Answers.{watched, refusal}
 use Rattle.model.specs.Watching.{after, badEntry, badEvent, told}
-use Rattle.model.proofs.Shapes.{neither}
+use Rattle.laws.proofs.Shapes.{neither}
 use Rattle.theory.proofs.WatchTables.{in-table}
 use Rattle.tables.specs.Numbers.{entryFrom, badTable, markAfter, entryOver, numbersReply, numbersStatus, numbersTable}
 

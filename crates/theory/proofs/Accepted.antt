@@ -15,7 +15,7 @@ use Rattle.model.specs.{Answers.Verdict, Answers.finished, Answers.bit}
 use Rattle.model.specs.Refusals.{Fault, sound, faulty, fault}
 use Rattle.model.specs.Replies.{turnDown, unless, reading, shortWindow, above, noRoom, fileTime, timeReply}
 use Rattle.model.specs.Replies.{equalisedTree, equaliseReply, laidTree, laidTotal, layOutReply, Loan, badBuffers, badImageLength, ready, stepsOf, imageAt, isSaved, stopReply}
-use Rattle.model.proofs.Shapes.{neither}
+use Rattle.laws.proofs.Shapes.{neither}
 
 -- ROWS
 

@@ -13,7 +13,7 @@ use Rattle.model.specs.{Times.ticks, Placement.LoopFree, Replies.afterSave}
 use Rattle.model.specs.Runs.{Effect, nothing, overruns, isSave, Step, duration, onVariables, variablesAfter, holds, effect, Run, _⊳_, run}
 use Rattle.model.specs.Stopping.{upto, Image, none, saved, lastImage}
 use Rattle.model.specs.Standing.{At}
-use Rattle.model.proofs.{Bytes.records-bytes, Bytes.records-at, Stands.begins}
+use Rattle.laws.proofs.{Bytes.records-bytes, Bytes.records-at, Stands.begins}
 use Rattle.theory.proofs.{Sequences.duration-++, Sequences.either, Stops.beyond, Stops.upto-within, Outputs.length-variables}
 use Rattle.theory.proofs.Every.{Every, every-at, every-nil, every-single, every-choose}
 use Rattle.theory.proofs.LastImage.{Made, made, made-within}

@@ -12,7 +12,7 @@ use Rattle.model.specs.Runs.{Step, duration, leave, cleared, run}
 use Rattle.model.specs.Replies.{savedAt, fileTime, equalisedTree, equaliseReply, laidTree, laidTotal, layOutReply}
 use Rattle.model.specs.Replies.{Loan, stepsOf, imageAt, stopReply, stopBuffers, imageOver, stopImage}
 use Rattle.model.specs.Chain.{Outputs, lend, takenUpSteps, imageTick}
-use Rattle.model.proofs.{Sound.sound-file, Passes.length-file}
+use Rattle.laws.proofs.{Sound.sound-file, Passes.length-file}
 use Rattle.theory.proofs.{Times.time-equalise, Lasts.equalised-lasts, TakenUp.laid-again}
 use Rattle.theory.proofs.Laid.{time-laid, placed-laid, total-longer, last-start, laid-lasts}
 use Rattle.theory.proofs.LaidRuns.{Total, LaidFrom, laid-beats, whole-starts, whole-values, whole-saves, cut-values, cut-saves}

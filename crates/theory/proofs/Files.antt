@@ -9,7 +9,7 @@ use Rattle.model.specs.Trees.{Block, size, linearise, fileTree}
 use Rattle.model.specs.Answers.{Verdict, finished, kept, valueAt}
 use Rattle.model.specs.Replies.{fileTime, equalisedTree, equaliseReply, equaliseOut, laidTree, laidTotal, layOutReply, layOutOut}
 use Rattle.model.specs.Standing.{OfForm}
-use Rattle.model.proofs.{Sound.Sound, Sound.sound-file, Passes.passes, Passes.tree-back, Passes.length-file}
+use Rattle.laws.proofs.{Sound.Sound, Sound.sound-file, Passes.passes, Passes.tree-back, Passes.length-file}
 use Rattle.theory.proofs.{Times.time-equalise, Forms.equalised-of-form, Forms.depth-equalise}
 use Rattle.theory.proofs.Laid.{time-laid, laid-of-form, depth-laid}
 use Rattle.theory.proofs.Accepted.{EqualiseAccepted, equalise-accepted, LayOutAccepted, lay-out-accepted, Runnable}

@@ -11,7 +11,7 @@ use Rattle.model.specs.Trees.{depth, testRec, actRec}
 use Rattle.model.specs.{Times.time, Standing.Fit, Standing.OfForm}
 use Rattle.model.specs.Equalising.{pad, F, waiting, merge, equalise}
 use Rattle.model.specs.Refusals.{between, kindFits, testFits, fieldsFit}
-use Rattle.model.proofs.Shapes.{and-left, and-right, within}
+use Rattle.laws.proofs.Shapes.{and-left, and-right, within}
 use Rattle.theory.proofs.Times.{time-F}
 
 -- RECORDS

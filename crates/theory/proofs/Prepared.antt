@@ -10,7 +10,7 @@ use Rattle.model.specs.{Placement.Fits, Placement.Placed}
 use Rattle.model.specs.Answers.{Verdict, finished, refused, isFinished, valueAt}
 use Rattle.model.specs.Replies.{equalisedTree, laidTree, layOutReply, layOutOut}
 use Rattle.model.specs.Chain.{Chain, equalising, layingOut, laidFile}
-use Rattle.model.proofs.Passes.{tree-back}
+use Rattle.laws.proofs.Passes.{tree-back}
 use Rattle.theory.proofs.{Views.Alike, Views.alike-trans, Traces.traced, Agreement.run-equalise, Laid.placed-laid, Laid.run-laid}
 use Rattle.theory.proofs.Accepted.{EqualiseAccepted, equalise-accepted, lay-out-accepted, Runnable}
 use Rattle.theory.proofs.Files.{fileOf, equalised-form, task-runnable, equalised-file, laid-runnable, laid-file}

@@ -11,7 +11,7 @@ use Rattle.model.specs.{Records.kindAt, Records.SAVE, Settings.settingsOf, Layo
 use Rattle.model.specs.{Placement.LoopFree}
 use Rattle.model.specs.Trees.{Block, nil, skip, act, branch, while, times, fileTree}
 use Rattle.model.specs.{Refusals.kindFits, Refusals.sound, Refusals.fault, Replies.laidTree, Replies.layOutReply, Replies.afterSave, Standing.OfForm}
-use Rattle.model.proofs.Sound.{sound-file, sound-kind}
+use Rattle.laws.proofs.Sound.{sound-file, sound-kind}
 use Rattle.theory.proofs.{Forms.formed, Unrolling.unrolled-loop-free, Placing.placed-loop-free, Laid.placed-laid}
 use Rattle.theory.proofs.{Accepted.lay-out-accepted}
 

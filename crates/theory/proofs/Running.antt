@@ -10,7 +10,7 @@ use Rattle.model.specs.Runs.{Step, duration, Buffers, leave, cleared, run}
 use Rattle.model.specs.Stopping.{upto, Image, imageOf, start, takeUp}
 use Rattle.model.specs.Replies.{savedAt, badBuffers, badImageLength, ended, stepsOf, runReply, runBuffers, imageAt, isSaved, stopReply, stopBuffers, imageOver, stopImage}
 use Rattle.model.specs.Replies.{takenUp, takenBuffers, afterSave, resumeReply, resumeBuffers, restartReply, restartBuffers}
-use Rattle.model.proofs.Shapes.{neither}
+use Rattle.laws.proofs.Shapes.{neither}
 use Rattle.theory.proofs.Accepted.{Runnable, readied}
 
 -- what steps from an image on leave, with the outputs o before

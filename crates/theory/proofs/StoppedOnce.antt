@@ -12,7 +12,8 @@ use Rattle.model.specs.Stopping.{upto, Image, Saved, none, saved, imageBytes, i
 use Rattle.model.specs.{Answers.bit, Answers.valueAt, Answers.isFinished, Placement.Fits, Placement.Placed, Placement.StepsPlaced}
 use Rattle.model.specs.Replies.{savedAt, Loan, badBuffers, ended, isSaved, imageOver, stopBuffers, stopImage, takenUp, resumeReply, resumeBuffers, restartReply, restartBuffers}
 use Rattle.model.specs.Chain.{Outputs, lend, hasImage, takingUp, takenUpBuffers, takenUpSteps, imageTick, End, endOf, takenUpEnd}
-use Rattle.model.proofs.{Images.image-length, Images.image-back, Injective.bit-back}
+use Rattle.laws.proofs.{Images.image-length, Images.image-back}
+use Rattle.model.proofs.{Injective.bit-back}
 use Rattle.theory.proofs.{Within.run-within, Placing.placed-loop-free, Placing.placed-run, Twice.savedTick, Twice.few-twice}
 use Rattle.theory.proofs.{Outputs.length-outputs, Resuming.orStart, Resuming.taken-up, Checkpoints.checkpoint, Accepted.Runnable}
 use Rattle.theory.proofs.{Files.fileOf}

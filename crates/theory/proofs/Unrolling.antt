@@ -7,7 +7,7 @@ use Rattle.model.specs.{Records.IF, Records.TIMES, Runs.nothing, Layout.copies,
 use Rattle.model.specs.Trees.{Act, set, read, write, check, beat, save, Block, nil, skip, act, branch, while, times, _⧺_}
 use Rattle.model.specs.{Trees.depth, Trees.testRec, Trees.actRec, Refusals.between, Refusals.testFits, Refusals.fieldsFit}
 use Rattle.model.specs.{Placement.command, Placement.CommandFree, Placement.LoopFree, Standing.Fit}
-use Rattle.model.proofs.Shapes.{and-left}
+use Rattle.laws.proofs.Shapes.{and-left}
 use Rattle.theory.proofs.Forms.{Formed, depth-⧺}
 
 -- an act that may be laid out and is no command

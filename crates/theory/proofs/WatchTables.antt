@@ -15,7 +15,7 @@ use Rattle.model.specs.{Limits.tableEntries, Replies.turnDown}
 use Rattle.model.specs.Answers.{Verdict, finished, refused, kept, isFinished, valueAt, healthNumber}
 use Rattle.model.specs.Watching.{healthOf, freshOf, after, badEntry, badEvent, told, entryAt, eventReply, eventTable, statusReply}
 use Rattle.model.specs.Watching.{Call, tableAfter, own, afterAll}
-use Rattle.model.proofs.Shapes.{neither}
+use Rattle.laws.proofs.Shapes.{neither}
 use Rattle.theory.specs.Watching.{AnswersAlike, NoReset}
 use Rattle.theory.proofs.WatchRules.{number-failed, waiting-looked, told-waiting, rules}
 

@@ -6,7 +6,7 @@ use Rattle.model.specs.declared.Settings.{Settings}
 use Rattle.model.specs.Trees.{Test, Act, beat, save, Block, nil, skip, act, branch, while, times, _⧺_, size, depth}
 use Rattle.model.specs.{Times.ticks, Times.time, Runs.effect, Runs.run, Placement.Each, Placement.LoopFree}
 use Rattle.model.specs.Layout.{commands, left, before, idle, idles, fill, filled, lay, opened, body}
-use Rattle.model.proofs.Trees.{⧺-nil}
+use Rattle.laws.proofs.Trees.{⧺-nil}
 use Rattle.theory.proofs.{Sequences.either, Traces.traced}
 use Rattle.theory.proofs.Views.{Alike, alike-refl, alike-⊳, alike-single, alike-choose}
 

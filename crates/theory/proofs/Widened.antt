@@ -11,7 +11,7 @@ use Rattle.model.specs.{Limits.mostTicks, Limits.narrowLength, Limits.wideLengt
 use Rattle.model.specs.declared.Settings.{Settings}
 use Rattle.model.specs.Records.{Bytes, wordAt}
 use Rattle.model.specs.Settings.{narrowSettings, wideSettings, settingsOf, outOfRange, badZero, badSettingsLength, badSettings, wideBytes}
-use Rattle.model.proofs.{Bytes.word-back, Shapes.neither, Shapes.and-false}
+use Rattle.laws.proofs.{Bytes.word-back, Shapes.neither, Shapes.and-false}
 use Rattle.theory.specs.Widened.{Formed, Good, FitsNarrow, FitsWide, EqualNumbers, Alike, Widened}
 use Rattle.theory.proofs.{Accepted.in-range, SameCalls.same-calls}
 

@@ -13,7 +13,7 @@ use Rattle.model.specs.Runs.{nothing, beats, saves, isBeat, isSave}
 use Rattle.model.specs.Layout.{commands, left, before, idle, idles, fill, filled, lay, opened, body}
 use Rattle.model.specs.Placement.{Fits, command, CommandFree, LoopFree, InPlace, Placed}
 use Rattle.theory.specs.Windows.{Free, Past, bound, past, round}
-use Rattle.model.proofs.Trees.{⧺-nil}
+use Rattle.laws.proofs.Trees.{⧺-nil}
 use Rattle.theory.proofs.{Times.time-⧺, Sequences.either}
 use Rattle.theory.proofs.Clock.{mod-within, mod-over, mod-round}
 

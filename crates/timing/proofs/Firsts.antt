@@ -8,7 +8,7 @@ use Rattle.model.specs.Records.{kindAt, recordAt, WHILE, TIMES}
 use Rattle.model.specs.Trees.{Test, Act, set, read, write, check, beat, save, Block, nil, skip, act, branch, while, times, actRec, testRec}
 use Rattle.model.specs.{Times.ticks, Times.time, Standing.Fit, Standing.OfForm}
 use Rattle.model.specs.Refusals.{testFits, between, fieldsFit}
-use Rattle.model.proofs.Shapes.{and-right, within}
+use Rattle.laws.proofs.Shapes.{and-right, within}
 use Rattle.records.specs.declared.Record.{Record}
 use Rattle.records.specs.Records.{recordOf}
 use Rattle.reading.specs.{Closing.opensBlock, Walks.StatementAt}

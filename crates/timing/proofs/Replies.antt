@@ -5,7 +5,7 @@ use mathlib.Core.List.{List}
 use lib.ListN.{length}
 use Rattle.model.specs.declared.{Form.Form, Settings.Settings, Refusal.Refusal}
 use Rattle.model.specs.{Trees.fileTree, Times.time, Answers.refusal, Replies.timeReply}
-use Rattle.model.proofs.Sound.{sound-file}
+use Rattle.laws.proofs.Sound.{sound-file}
 use Rattle.reading.specs.declared.Checked.the-variants.{Valid, Refused}
 use Rattle.reading.specs.Answers.{Reads}
 use Rattle.reading.proofs.{Filled.fills-file, Entry.read-sound}

@@ -45,7 +45,7 @@ use Rattle.model.specs.declared.{Entry.Entry, Event.Event, Watched.Watched}
 use Rattle.model.specs.declared.Refusal.the-variants.{BadEntry}
 use Rattle.model.specs.Answers.{watched, refusal}
 use Rattle.model.specs.Watching.{after, badEntry, badEvent, told, freshOf, entryAt, eventReply, eventTable}
-use Rattle.model.proofs.Shapes.{neither}
+use Rattle.laws.proofs.Shapes.{neither}
 use Rattle.model.proofs.Entry as T
 use Rattle.model.proofs.Entry.Laws as T′
 use Rattle.model.proofs.Watched as S

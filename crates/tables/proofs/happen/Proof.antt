@@ -4,7 +4,7 @@ use lib.ListN.{length}
 use denote.Ref.{now}
 use Rattle.model.specs.Watching.{after, badEvent}
 use Rattle.tables.specs.Numbers.{badTable}
-use Rattle.model.proofs.Shapes.{neither}
+use Rattle.laws.proofs.Shapes.{neither}
 use Rattle.tables.proofs.TableLaws.{numbers-within, turned-down, written}
 use Rattle.tables.proofs.happen.Statement.{statement}
 use Rattle.tables.proofs.happen.Tie as tie

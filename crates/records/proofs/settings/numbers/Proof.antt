@@ -4,7 +4,7 @@ use mathlib.Core.{Path._≡_, Logic.⊎-elim}
 use mathlib.Core.Bool.{false, not}
 use Prim.Native.Nat.{ℕ}
 use lib.Dec.{eqb}
-use Rattle.model.proofs.Shapes.{and-false}
+use Rattle.laws.proofs.Shapes.{and-false}
 use Rattle.model.specs.{Limits.narrowLength, Limits.wideLength, Settings.settingsOf, Settings.badSettingsLength}
 use Rattle.records.proofs.settings.numbers.Statement.{statement}
 use Rattle.records.proofs.settings.numbers.Tie as tie

@@ -5,14 +5,14 @@ use mathlib.Core.Path.{_≡_, refl, ap, _∙_}
 use mathlib.Core.List.{List, [], _∷_, _++_, append-assoc, append-nil}
 use lib.ListN.{length}
 use borrow.Author.Tests.{le-ltb, eq-eqb}
 use Rattle.model.specs.declared.Form.{Form}
 use Rattle.model.specs.declared.Form.the-variants.{Task, Equalised, Laid}
 use Rattle.model.specs.Records.{Rec, IF, WHILE, TIMES, bytes}
 use Rattle.model.specs.Trees.{Block, nil, skip, act, branch, while, times, size, depth, testRec, skipRec, actRec, elseRec, endRec, linearise, fileTree}
 use Rattle.model.specs.Refusals.{maxRecords, maxDepth, fieldsFit, Open, first, second, loop, inside, nest, sound, scan, fault}
 use Rattle.model.specs.Standing.{Fit, OfForm}
-use Rattle.model.proofs.{Bytes.length-bytes, Bytes.records-bytes, Trees.length-linearise, Trees.treeOf-linearise}
-use Rattle.model.proofs.{Sound.nest-act}
+use Rattle.laws.proofs.{Bytes.length-bytes, Bytes.records-bytes, Trees.length-linearise, Trees.treeOf-linearise}
+use Rattle.laws.proofs.{Sound.nest-act}
 
 else-fits : (f : Form) → Fit f elseRec
 unfolding fieldsFit

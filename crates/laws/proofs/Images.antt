@@ -4,9 +4,9 @@ use native.Mathlib.{Nat.add-zero, Omega.arith}
 use mathlib.Core.Path.{_≡_, refl, ap, ap₂, sym, subst, _∙_}
 use mathlib.Core.List.{List, [], _∷_, _++_}
 use lib.{ListN.length, ListN.drop, Seq.getD-drop, Seq.drop-drop}
 use Rattle.model.specs.Records.{wordAt, wordBytes}
 use Rattle.model.specs.Stopping.{Image, words, wordsFrom, imageBytes, imageOf}
-use Rattle.model.proofs.Bytes.{word-back}
+use Rattle.laws.proofs.Bytes.{word-back}
 
 pub length-words : (ns : List ℕ) → length (words ns) ≡ 4 * length ns
 length-words [] = refl

@@ -3,10 +3,10 @@ use Prim.Native.Nat.{ℕ, zero, suc, _+_}
 use native.Mathlib.Omega.{arith}
 use mathlib.Core.Path.{_≡_, refl, ap, ap₂, sym, _∙_}
 use mathlib.Core.List.{List, [], _∷_, _++_, append-assoc, append-nil}
 use Rattle.model.specs.Records.{Rec, recordAt, firstRecords, IF, WHILE, TIMES}
 use Rattle.model.specs.Trees.{Test, Block, nil, skip, act, branch, while, times, size, testRec, skipRec, actRec, elseRec, endRec, linearise, treeOf}
 use Rattle.model.specs.Standing.{At, LoopAt}
-use Rattle.model.proofs.{Bytes.recordsAt, Bytes.recordsAt-suc, Trees.treeOf-linearise}
+use Rattle.laws.proofs.{Bytes.recordsAt, Bytes.recordsAt-suc, Trees.treeOf-linearise}
 
 -- the first of n records from i on is r, and the others are rs
 record Starts (s : List ℕ) (i n : ℕ) (r : Rec) (rs : List Rec) : Type 0 where

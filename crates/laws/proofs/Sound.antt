@@ -6,16 +6,16 @@ use mathlib.Core.Bool.{Bool, true, false, cond, not, _||_}
 use mathlib.Core.List.{List, [], _∷_, _++_, append-assoc, append-nil}
 use lib.{Dec.eqb, Dec.ltb, ListN.length}
 use borrow.Author.Tests.{eqb-true, ltb-false}
 use Rattle.model.specs.declared.Form.{Form}
 use Rattle.model.specs.Records.{Rec, IF, WHILE, TIMES, Bytes, kindAt, recordAt, records, bytes}
 use Rattle.model.specs.Trees.{Test, Act, Block, nil, skip, act, branch, while, times}
 use Rattle.model.specs.Trees.{size, depth, testRec, skipRec, actRec, elseRec, endRec, linearise, treeOf, fileTree}
 use Rattle.model.specs.Refusals.{maxRecords, maxDepth, kindFits, fieldsFit, Open, first, second, loop, Nesting, misplaced, inside, nest}
 use Rattle.model.specs.Refusals.{sound, faulty, deeper, scan, fault}
 use Rattle.model.specs.Standing.{At, Fit, OfForm}
-use Rattle.model.proofs.Bytes.{bytes-records, length-records, recordsAt, recordsAt-suc, records-at}
-use Rattle.model.proofs.{Trees.length-linearise, Trees.treeOf-linearise, Stands.begins}
-use Rattle.model.proofs.Shapes.{by-act, Shape, is-skip, is-act, is-if, is-while, is-times, is-else, is-end, shape}
+use Rattle.laws.proofs.Bytes.{bytes-records, length-records, recordsAt, recordsAt-suc, records-at}
+use Rattle.laws.proofs.{Trees.length-linearise, Trees.treeOf-linearise, Stands.begins}
+use Rattle.laws.proofs.Shapes.{by-act, Shape, is-skip, is-act, is-if, is-while, is-times, is-else, is-end, shape}
 
 -- BLOCKS
 

@@ -1,0 +1,1 @@
+// The laws that tie bytes, records and trees of `model` to each other, in proofs/. There is no code.
