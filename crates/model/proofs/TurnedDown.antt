@@ -86,7 +86,7 @@ turns =
     -- "file not whole records, or too many"
     ∷ (time Task (skips 256) says 0 ∷ 256 ∷ []) ∷ (time Task (skips 257) says 1 ∷ 3084 ∷ [])
     ∷ (time Laid (skips 5461) says 0 ∷ 5461 ∷ []) ∷ (time Equalised (skips 5462) says 1 ∷ 65544 ∷ [])
-    ∷ (time Laid (junk 13 ∷ []) says 1 ∷ 13 ∷ [])
+    ∷ (time Laid (junk 13 ∷ []) says 1 ∷ 13 ∷ []) ∷ (time Laid (bare BEAT ∷ junk 6 ∷ []) says 1 ∷ 18 ∷ [])
     -- "kind not of this file"
     ∷ (time Task (counted WHILE 1 0 0 ∷ bare END ∷ []) says 0 ∷ 2 ∷ []) ∷ (time Task (counted TIMES 1 0 0 ∷ bare END ∷ []) says 2 ∷ 0 ∷ [])
     ∷ (time Equalised (counted TIMES 1 0 0 ∷ bare END ∷ []) says 0 ∷ 1 ∷ []) ∷ (time Equalised (counted WHILE 1 0 0 ∷ []) says 2 ∷ 0 ∷ [])
