@@ -87,8 +87,8 @@ pub record Alike (s t : List ℕ) : Type 0 where
 abbrev pub under : List ℕ → Loan → Loan
 under s c = record { settings = s; form = c .form; file = c .file; inputs = c .inputs; buffers = c .buffers }
 
--- the eight calls of the table's refusals, and `rehearse`, `list_task` and `render`, which are made of them, answer the same and leave the same in each
--- lent buffer, whatever else they are handed; and runs do the same steps, of which demand 2 speaks
+-- `time_file`, `equalise`, `lay_out`, `prepare`, `run`, `run_until`, `resume` and `restart`, and `rehearse`, `list_task` and `render`, which are made
+-- of them, answer the same and leave the same in each lent buffer, whatever else they are handed. Runs do the same steps, of which demand 2 speaks.
 pub record SameCalls (s t : List ℕ) : Type 0 where
   pub time : (f : Form) (file : List ℕ) → timeReply s f file ≡ timeReply t f file
   pub equalise : (task : List ℕ) (room : ℕ) → equaliseReply s task room ≡ equaliseReply t task room
