@@ -1,19 +1,19 @@
 -- A state's counts tell what the definitions work out by remainders: the commands that are due, the ticks left, what stands before a step.
-use Prim.Native.Nat.{ℕ, _+_, _*_, _-_, _%_, _≤_, _<_}
-use native.Mathlib.{Omega.arith, Nat.add-zero, Nat.mod-lt, Nat.mul-le-mul-left}
+use Prim.Native.Nat.{ℕ, _+_, _*_, _%_, _≤_, _<_}
+use native.Mathlib.{Omega.arith, Nat.add-zero, Nat.mod-lt, Nat.mod-self, Nat.mod-eq-of-lt, Nat.mul-le-mul-left}
 use mathlib.Core.Path.{_≡_, refl, ap, sym, _∙_}
 use mathlib.Core.Bool.{Bool, true, false, cond}
 use lib.Dec.{eqb, ltb}
-use borrow.Author.Tests.{ltb-true, ltb-false, lt-ltb, le-ltb, eqb-true, eqb-false, eq-eqb, ne-eqb}
+use borrow.Author.Tests.{lt-ltb, le-ltb, eqb-true, eqb-false, eq-eqb, ne-eqb}
 use Rattle.model.specs.declared.Settings.{Settings}
 use Rattle.model.specs.Trees.{beat, save, Block, nil, skip, act}
 use Rattle.model.specs.{Times.time, Times.longest, Layout.commands, Layout.left, Layout.before}
 use Rattle.theory.specs.Windows.{round}
 use Rattle.laws.proofs.Trees.{⧺-nil}
-use Rattle.theory.proofs.{Times.time-⧺, Sequences.either, Clock.mod-within, Clock.mod-over}
+use Rattle.theory.proofs.{Times.time-⧺, Sequences.either, Clock.mod-within, Clock.mod-next}
 use Rattle.theory.proofs.Windows.{window-pos, round-pos, window-on}
 use Rattle.placing.specs.declared.clock.State.{State}
-use Rattle.placing.specs.States.{Layable, Shows}
+use Rattle.placing.specs.States.{Layable, Shows, Remainders}
 use Rattle.placing.proofs.Settling.{Alike, alike-eq, alike-trans, alike-skip}
 
 module _ (σ : Settings) where
@@ -33,6 +33,15 @@ module _ (σ : Settings) where
       omega (arith, time-⧺ σ (commands σ t) (cond (ltb (left σ u) d) w nil), c, commands-short t, L .fits .wide)
 
 module _ {σ : Settings} (L : Layable σ) {s : State} (S : Shows σ s) where
+  -- W-203: the counts are what divisions would give
+  pub remainders : Remainders σ s
+  remainders = record {
+    ticks = mod-next (σ .window) (window-pos σ (L .fits)) (s .tick) (s .«ticks_left») (S .below) (S .bound);
+    windows =
+        let h = mul-le-mul-left (σ .window) (S .fewer) in
+        mod-next (round σ) (round-pos σ (L .fits)) (s .tick + s .«ticks_left») (σ .window * s .«windows_left») (omega (arith, window-pos σ (L .fits))) (S .round);
+  }
+
   -- the commands of the next multiple of H
   pub commands-due : commands σ (s .tick + s .«ticks_left») ≡ act (beat 1) (cond (eqb (s .«windows_left») 0) (act (save 0) nil) nil)
   commands-due = rw (eq-eqb (t % σ .window) 0 (S .bound), go (eqb (s .«windows_left») 0) refl)
@@ -58,21 +67,15 @@ module _ {σ : Settings} (L : Layable σ) {s : State} (S : Shows σ s) where
   no-commands l = rw (ne-eqb (s .tick % σ .window) 0 (λ z. omega (arith, S .bound, window-on σ (L .fits) (s .tick) (s .«ticks_left») (omega (arith, S .below)))))
 
   pub left-is : 1 ≤ s .«ticks_left» → left σ (s .tick) ≡ s .«ticks_left»
-  left-is l = go (ltb (s .«ticks_left») k) refl
+  left-is l = go (eqb (s .tick % σ .window) 0) refl
     where
-      k : ℕ
-      k = left σ (s .tick)
-
-      go : (o : Bool) → ltb (s .«ticks_left») k ≡ o → k ≡ s .«ticks_left»
+      go : (o : Bool) → eqb (s .tick % σ .window) 0 ≡ o → left σ (s .tick) ≡ s .«ticks_left»
       go true e =
-          let m = window-on σ (L .fits) (s .tick) (s .«ticks_left») (omega (arith, ltb-true (s .«ticks_left») k e)) in
-          omega (arith, S .bound)
+          let z : left σ (s .tick) ≡ σ .window = omega (arith, eqb-true (s .tick % σ .window) 0 e) in
+          omega (arith, remainders .ticks ∙ ap (λ (x : ℕ). x % σ .window) z ∙ mod-self (σ .window))
       go false e =
           let p = mod-lt (s .tick) (window-pos σ (L .fits)) in
-          let z = mod-over (σ .window) (window-pos σ (L .fits)) (s .tick) k (omega arith) in
-          let m = window-on σ (L .fits) (s .tick + k) (s .«ticks_left» - k) (omega (arith, S .below)) in
-          let t : s .tick + k + (s .«ticks_left» - k) ≡ s .tick + s .«ticks_left» = omega (arith, ltb-false (s .«ticks_left») k e) in
-          omega (arith, ltb-false (s .«ticks_left») k e, ap (λ (x : ℕ). x % σ .window) t, S .bound)
+          sym (remainders .ticks ∙ mod-eq-of-lt (omega (arith, eqb-false (s .tick % σ .window) 0 e)))
 
   -- what stands before a step at a multiple of H, and past its commands
   before-bound : (d : ℕ) → s .«ticks_left» ≡ 0 → d ≤ longest σ → before σ (s .tick) d ≡ commands σ (s .tick)

@@ -8,7 +8,7 @@ use Rattle.model.specs.Times.{ticks, time}
 use Rattle.model.specs.Equalising.{merge}
 use Rattle.model.specs.Layout.{before, idles, fill}
 use Rattle.model.specs.Placement.{Fits}
-use Rattle.theory.specs.Windows.{Free}
+use Rattle.theory.specs.Windows.{round, Free}
 use Rattle.placing.specs.declared.clock.State.{State}
 use Rattle.placing.specs.Merging.{settled, waits}
 
@@ -33,6 +33,11 @@ pub record Shows (σ : Settings) (s : State) : Type 0 where
   pub round : (s .tick + s .«ticks_left» + σ .window * s .«windows_left») % (σ .spacing * σ .window) ≡ 0
   pub waited : s .wait ≤ s .tick
   pub few : s .records ≤ tooMany
+
+-- what remainders by H and K × H give for these counts: the ticks to the next multiple of H, and from there to the next one of K × H
+pub record Remainders (σ : Settings) (s : State) : Type 0 where
+  pub ticks : s .«ticks_left» ≡ (σ .window - s .tick % σ .window) % σ .window
+  pub windows : σ .window * s .«windows_left» ≡ (round σ - (s .tick + s .«ticks_left») % round σ) % round σ
 
 -- a state from which laying out may go on
 pub record Laying (σ : Settings) (s : State) : Type 0 where
