@@ -87,7 +87,8 @@ static size_t step(const char *name, laying *lay, const struct settings *s, cons
     }
     if (divisions != 1) fail(name, divisions ? "laid with more than one division" : "laid without a division");
     if (quotient != number(out + rack_first(answer) - 8, 4)) fail(name, "the quotient is not the last BEAT's value");
-    if (quotient * window(s) + rest != dividend) fail(name, "the division is not by the window");
+    // A quotient of 0 would tell nothing of the divisor.
+    if (!quotient || quotient * window(s) + rest != dividend) fail(name, "the division is not by the window");
     laid++;
     return rack_first(answer);
 }
