@@ -8,7 +8,6 @@ ghost use mathlib.Core.Path.{_≡_};
 ghost use lib.ListN.{length};
 ghost use Rattle.model.specs.declared.Form.the-variants.{Equalised};
 ghost use Rattle.model.specs.Answers.{laidOut};
-ghost use Rattle.model.specs.Times.{longest};
 ghost use Rattle.model.specs.Replies.{shortWindow, layOutReply, layOutOut};
 ghost use Rattle.reading.specs.Ranges.{SoundFile};
 ghost use Rattle.layout.specs.Answers.{InRange, LaysOutSound};
@@ -21,16 +20,9 @@ use model::Settings;
 use reading::Checked;
 use records::no_room;
 use records::skips::skip_records;
-use timing::ticks::later;
+use timing::ticks::longest_step;
 use timing::ticks::ticks_of;
 use write::write_file;
-
-// The longest of the steps that are no commands.
-fn longest_step(rack: Settings) -> u32
-    ensures { λ r. ⌜ r ≡ longest rack ⌝ }
-{
-    later(later(rack.set, rack.multiply), later(rack.read, rack.write))
-}
 
 // Refusal 7.
 fn short_window(rack: Settings) -> bool

@@ -20,9 +20,9 @@ rack = settings 20 100
 abbrev waits : ℕ → List ℕ
 waits n = file (row SKIP 0 0 0 0 n ∷ [])
 
--- W-202: "take 900 ticks to set a level", with the other ticks as ever, K 2, H 768 + h, P 5,000; a probe copied to a port
+-- W-202: "take 900 ticks to set a level", with the other ticks as ever, K 2, H 768 + h, P 5,000, a multiply of 20; a probe copied to a port
 abbrev slow : ℕ → List ℕ
-slow h = 3 ∷ 0 ∷ 3 ∷ 0 ∷ 132 ∷ 3 ∷ 3 ∷ 0 ∷ 10 ∷ 0 ∷ 2 ∷ 0 ∷ h ∷ 3 ∷ 0 ∷ 0 ∷ 136 ∷ 19 ∷ 0 ∷ 0 ∷ 0 ∷ 0 ∷ 0 ∷ 0 ∷ []
+slow h = 3 ∷ 0 ∷ 3 ∷ 0 ∷ 132 ∷ 3 ∷ 3 ∷ 0 ∷ 10 ∷ 0 ∷ 2 ∷ 0 ∷ h ∷ 3 ∷ 0 ∷ 0 ∷ 136 ∷ 19 ∷ 0 ∷ 0 ∷ 20 ∷ 0 ∷ 0 ∷ 0 ∷ []
 
 abbrev copies : List ℕ
 copies = file (row READ 0 0 0 0 0 ∷ row WRITE 0 0 0 0 0 ∷ [])

@@ -4,4 +4,5 @@ pub mod Untouched
 pub mod Bench
 pub mod TurnedDown
 pub mod AtLimits
+pub mod Multiply
 pub mod Watcher

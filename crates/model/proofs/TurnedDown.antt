@@ -26,9 +26,9 @@ Answered cs = map (λ (c : Case). said (c .answer)) cs ≡ map (λ (c : Case). c
 abbrev rack : ℕ → ℕ → ℕ → ℕ → List ℕ
 rack n p q r = n ∷ n ∷ n ∷ n ∷ n ∷ n ∷ 20 ∷ 0 ∷ p ∷ q ∷ r ∷ 0 ∷ []
 
--- wide ones of ticks m + 256 n, K 1, H 999,936 + h, P 1,000,000, and that zero
-abbrev wide : ℕ → ℕ → ℕ → ℕ → List ℕ
-wide m n h z = m ∷ n ∷ m ∷ n ∷ m ∷ n ∷ m ∷ n ∷ m ∷ n ∷ 1 ∷ 0 ∷ h ∷ 66 ∷ 15 ∷ 0 ∷ 64 ∷ 66 ∷ 15 ∷ 0 ∷ z ∷ 0 ∷ 0 ∷ 0 ∷ []
+-- wide ones of ticks m + 256 n, K 1, H 999,936 + h, P 1,000,000, and a multiply of a + 256 b + 65,536 c
+abbrev wide : ℕ → ℕ → ℕ → ℕ → ℕ → ℕ → List ℕ
+wide m n h a b c = m ∷ n ∷ m ∷ n ∷ m ∷ n ∷ m ∷ n ∷ m ∷ n ∷ 1 ∷ 0 ∷ h ∷ 66 ∷ 15 ∷ 0 ∷ 64 ∷ 66 ∷ 15 ∷ 0 ∷ a ∷ b ∷ c ∷ 0 ∷ []
 
 -- each number at its place, the lowest byte first
 pub narrow-places : settingsOf (1 ∷ 2 ∷ 3 ∷ 4 ∷ 5 ∷ 6 ∷ 7 ∷ 8 ∷ 9 ∷ 10 ∷ 11 ∷ 12 ∷ []) ≡ record {
@@ -45,13 +45,13 @@ pub narrow-places : settingsOf (1 ∷ 2 ∷ 3 ∷ 4 ∷ 5 ∷ 6 ∷ 7 ∷ 8 ∷ 
 unfolding settingsOf
 narrow-places = refl
 
-pub wide-places : settingsOf (1 ∷ 2 ∷ 3 ∷ 4 ∷ 5 ∷ 6 ∷ 7 ∷ 8 ∷ 9 ∷ 10 ∷ 11 ∷ 12 ∷ 13 ∷ 14 ∷ 15 ∷ 16 ∷ 17 ∷ 18 ∷ 19 ∷ 20 ∷ 0 ∷ 0 ∷ 0 ∷ 0 ∷ []) ≡ record {
+pub wide-places : settingsOf (1 ∷ 2 ∷ 3 ∷ 4 ∷ 5 ∷ 6 ∷ 7 ∷ 8 ∷ 9 ∷ 10 ∷ 11 ∷ 12 ∷ 13 ∷ 14 ∷ 15 ∷ 16 ∷ 17 ∷ 18 ∷ 19 ∷ 20 ∷ 21 ∷ 22 ∷ 23 ∷ 24 ∷ []) ≡ record {
   set = 513;
   read = 1027;
   write = 1541;
   beat = 2055;
   save = 2569;
-  multiply = 513;
+  multiply = 404166165;
   spacing = 3083;
   window = 269422093;
   period = 336794129;
@@ -80,9 +80,11 @@ turns =
     (timeReply (rack 1 1 0 0) Task [] says 0 ∷ 0 ∷ []) ∷ (timeReply (rack 0 1 0 0) Task [] says 6 ∷ [])
     ∷ (timeReply (rack 1 64 66 15) Task [] says 0 ∷ 0 ∷ []) ∷ (timeReply (rack 1 65 66 15) Task [] says 6 ∷ [])
     ∷ (timeReply (junk 13) Task (junk 5) says 6 ∷ []) ∷ (timeReply (junk 25) Task (junk 5) says 6 ∷ [])
-    ∷ (timeReply (wide 255 255 64 0) Laid (bare SAVE) says 0 ∷ 65535 ∷ []) ∷ (timeReply (wide 0 0 64 0) Task [] says 6 ∷ [])
-    ∷ (timeReply (wide 0 1 64 0) Laid (bare BEAT) says 0 ∷ 256 ∷ []) ∷ (timeReply (wide 0 1 65 0) Task [] says 6 ∷ [])
-    ∷ (timeReply (wide 0 1 64 1) Task [] says 6 ∷ [])
+    ∷ (timeReply (wide 255 255 64 1 0 0) Laid (bare SAVE) says 0 ∷ 65535 ∷ []) ∷ (timeReply (wide 0 0 64 1 0 0) Task [] says 6 ∷ [])
+    ∷ (timeReply (wide 0 1 64 1 0 0) Laid (bare BEAT) says 0 ∷ 256 ∷ []) ∷ (timeReply (wide 0 1 65 1 0 0) Task [] says 6 ∷ [])
+    -- W-204: "a multiply time of 0 or above 65,535 is 6"
+    ∷ (timeReply (wide 0 1 64 255 255 0) Task (row SET 3 0 0 0 0) says 0 ∷ 65535 ∷ []) ∷ (timeReply (wide 0 1 64 0 0 1) Task [] says 6 ∷ [])
+    ∷ (timeReply (wide 0 1 64 0 0 0) Task [] says 6 ∷ [])
     -- "file not whole records, or too many"
     ∷ (time Task (skips 256) says 0 ∷ 256 ∷ []) ∷ (time Task (skips 257) says 1 ∷ 3084 ∷ [])
     ∷ (time Laid (skips 5461) says 0 ∷ 5461 ∷ []) ∷ (time Equalised (skips 5462) says 1 ∷ 65544 ∷ [])

@@ -38,6 +38,10 @@ mostTicks = 1000000
 abbrev pub mostRounds : ℕ
 mostRounds = 65535
 
+-- W-204: "a multiply time of 0 or above 65,535 is 6"
+abbrev pub mostMultiply : ℕ
+mostMultiply = 65535
+
 -- W-202: settings of "a length other than 12 or 24" are turned down
 abbrev pub narrowLength : ℕ
 narrowLength = 12

@@ -6,7 +6,8 @@ use Rattle.model.specs.declared.Settings.{Settings}
 use Rattle.model.specs.Limits.{byVariable}
 use Rattle.model.specs.Trees.{Act, set, read, write, check, beat, save, Block, nil, skip, act, branch, while, times}
 
--- "the ticks of SET, READ, WRITE, BEAT .. and SAVE", "A test takes 1 tick"; operation 3, or 19, multiplies
+-- "the ticks of SET, READ, WRITE, BEAT .. and SAVE", "A test takes 1 tick"; W-204: "A SET's time now depends on its operation", of which 3 and 19
+-- multiply
 abbrev pub ticks : Settings → Act → ℕ
 ticks σ (set o t l x) = cond (eqb (o % byVariable) 3) (σ .multiply) (σ .set)
 ticks σ (read a p) = σ .read
@@ -15,7 +16,7 @@ ticks σ (check q) = 1
 ticks σ (beat x) = σ .beat
 ticks σ (save m) = σ .save
 
--- "the longest of SET, READ, WRITE, used or not" (row 7); a SET that multiplies is a SET
+-- "the longest of SET, READ, WRITE, used or not" (row 7); W-204: "refusal 7's longest step counts" a multiply too
 abbrev pub longest : Settings → ℕ
 longest σ = max (max (σ .set) (σ .multiply)) (max (σ .read) (σ .write))
 

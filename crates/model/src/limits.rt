@@ -19,6 +19,8 @@ pub const BY_VARIABLE: u8 = 16;
 pub const MOST_TICKS: u32 = 1000000;
 
 pub const MOST_ROUNDS: u32 = 65535;
+// The longest multiply.
+pub const MOST_MULTIPLY: u32 = 65535;
 // The bytes of narrow and of wide settings, and of an image.
 pub const NARROW_LENGTH: usize = 12;
 

@@ -3,13 +3,14 @@ ghost use mathlib.Core.Path.{_≡_};
 ghost use mathlib.Core.Bool.{false};
 ghost use lib.ListN.{length};
 ghost use Rattle.model.specs.Limits.{narrowLength, wideLength};
-ghost use Rattle.model.specs.Settings.{narrowSettings, wideSettings, settingsOf, outOfRange, badZero, badSettingsLength};
+ghost use Rattle.model.specs.Settings.{narrowSettings, wideSettings, settingsOf, outOfRange, badSettingsLength};
 ghost use Rattle.records.specs.Decoded.{Decodes};
 use crate::words::half_at;
 use crate::words::wide;
 use crate::words::word_at;
 use model::Refusal;
 use model::Settings;
+use model::limits::MOST_MULTIPLY;
 use model::limits::MOST_TICKS;
 use model::limits::NARROW_LENGTH;
 use model::limits::WIDE_LENGTH;
@@ -55,7 +56,7 @@ fn wide_numbers(settings: &[u8]) -> Settings
         write: half_at(settings, 4),
         beat: half_at(settings, 6),
         save: half_at(settings, 8),
-        multiply: half_at(settings, 0),
+        multiply: word_at(settings, 20),
         spacing: half_at(settings, 10),
         window: word_at(settings, 12),
         period: word_at(settings, 16),
@@ -88,16 +89,7 @@ fn out_of_range(rack: Settings) -> bool
         | (rack.period == 0)
         | (MOST_TICKS < rack.window)
         | (MOST_TICKS < rack.period)
-}
-
-// Whether 24 bytes end in another number than 0.
-fn bad_zero(settings: &[u8]) -> bool
-    ensures { λ r. ⌜ r ≡ badZero (now (settings .entry)) ⌝ }
-{
-    if settings.len() != WIDE_LENGTH {
-        return false;
-    }
-    word_at(settings, 20) != 0
+        | (MOST_MULTIPLY < rack.multiply)
 }
 
 // Refusal 6, or the settings.
@@ -108,7 +100,7 @@ pub fn decode(settings: &[u8]) -> Decoded
         return Decoded::Refused(Refusal::BadSettings);
     }
     let rack = numbers(settings);
-    if out_of_range(rack) | bad_zero(settings) {
+    if out_of_range(rack) {
         return Decoded::Refused(Refusal::BadSettings);
     }
     Decoded::Valid(rack)

@@ -9,7 +9,7 @@ use Rattle.model.specs.{Limits.fileRecords, Limits.imageLength, Times.time, Tim
 use Rattle.model.specs.{Placement.Positive, Placement.Fits}
 use Rattle.model.specs.declared.{Settings.Settings, Form.Form}
 use Rattle.model.specs.declared.Form.the-variants.{Task, Equalised}
-use Rattle.model.specs.Settings.{settingsOf, outOfRange, badZero, badSettingsLength, badSettings}
+use Rattle.model.specs.Settings.{settingsOf, outOfRange, badSettingsLength, badSettings}
 use Rattle.model.specs.Trees.{Block, size, fileTree}
 use Rattle.model.specs.{Answers.Verdict, Answers.finished, Answers.bit}
 use Rattle.model.specs.Refusals.{Fault, sound, faulty, fault}
@@ -49,17 +49,19 @@ pub record InRange (σ : Settings) : Type 0 where
   pub lasts : 1 ≤ σ .period
   pub narrow : σ .window ≤ 1000000
   pub short : σ .period ≤ 1000000
+  pub multiply-limit : σ .multiply ≤ 65535
 
 at-least-1 : (n : ℕ) → eqb n 0 ≡ false → 1 ≤ n
 at-least-1 n e = let h = eqb-false n 0 e in omega arith
 
 pub in-range : (s : List ℕ) → badSettings s ≡ false → InRange (settingsOf s)
 unfolding badSettings
-in-range s e = go (settingsOf s) (neither (badSettingsLength (length s)) (outOfRange (settingsOf s)) (neither _ (badZero s) e .0) .1)
+in-range s e = go (settingsOf s) (neither (badSettingsLength (length s)) (outOfRange (settingsOf s)) e .1)
   where
     go : (σ : Settings) → outOfRange σ ≡ false → InRange σ
     go σ h =
-        let h9 = neither _ (ltb 1000000 (σ .period)) h in
+        let h10 = neither _ (ltb 65535 (σ .multiply)) h in
+        let h9 = neither _ (ltb 1000000 (σ .period)) (h10 .0) in
         let h8 = neither _ (ltb 1000000 (σ .window)) (h9 .0) in
         let h7 = neither _ (eqb (σ .period) 0) (h8 .0) in
         let h6 = neither _ (eqb (σ .window) 0) (h7 .0) in
@@ -83,6 +85,7 @@ in-range s e = go (settingsOf s) (neither (badSettingsLength (length s)) (outOfR
           lasts = at-least-1 (σ .period) (h7 .1);
           narrow = ltb-false 1000000 (σ .window) (h8 .1);
           short = ltb-false 1000000 (σ .period) (h9 .1);
+          multiply-limit = ltb-false 65535 (σ .multiply) (h10 .1);
         }
 
 pub fits : (σ : Settings) → Positive σ → shortWindow σ ≡ false → Fits σ

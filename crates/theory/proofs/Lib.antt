@@ -4,6 +4,7 @@ pub mod Demand3
 pub mod Watching
 pub mod Widened
 pub mod Mixing
+pub mod Multiplying
 pub mod Bench
 -- times and runs
 pub mod Times

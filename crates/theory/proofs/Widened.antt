@@ -3,53 +3,48 @@ use Prim.Native.Nat.{ℕ, zero, suc, _+_, _*_, _/_, _%_, _^_, _≤_, _<_}
 use native.Mathlib.Omega.{arith}
 use mathlib.Core.Path.{_≡_, refl, ap, sym, _∙_}
 use mathlib.Core.{Logic._↔_, Logic.inl, Logic.inr, Logic.⊎-elim}
-use mathlib.Core.Bool.{Bool, true, false, not, _||_}
+use mathlib.Core.Bool.{Bool, true, false, not}
 use mathlib.Core.List.{List, [], _∷_}
 use lib.{Dec.eqb, Dec.leb, ListN.length, ListN.getD, ListN.take, Seq.take-all, Seq.length-take-le, Seq.getD-take}
 use borrow.Author.Tests.{eqb-true, ne-eqb, not-false, le-ltb, leb-true, leb-false}
-use Rattle.model.specs.{Limits.mostTicks, Limits.narrowLength, Limits.wideLength, Placement.Positive}
+use Rattle.model.specs.{Limits.mostTicks, Limits.mostMultiply, Limits.narrowLength, Limits.wideLength, Placement.Positive}
 use Rattle.model.specs.declared.Settings.{Settings}
-use Rattle.model.specs.Records.{Bytes, wordAt}
-use Rattle.model.specs.Settings.{narrowSettings, wideSettings, settingsOf, outOfRange, badZero, badSettingsLength, badSettings, wideBytes}
+use Rattle.model.specs.Records.{Bytes}
+use Rattle.model.specs.Settings.{narrowSettings, wideSettings, settingsOf, outOfRange, badSettingsLength, badSettings, wideBytes}
 use Rattle.laws.proofs.{Bytes.word-back, Shapes.neither, Shapes.and-false}
 use Rattle.theory.specs.Widened.{Formed, Good, FitsNarrow, FitsWide, EqualNumbers, Alike, Widened}
 use Rattle.theory.proofs.{Accepted.in-range, SameCalls.same-calls}
 
 -- EITHER FORM
 
-is-narrow : (s : List ℕ) → length s ≡ narrowLength → settingsOf s ≡ narrowSettings s
+pub is-narrow : (s : List ℕ) → length s ≡ narrowLength → settingsOf s ≡ narrowSettings s
 unfolding settingsOf
 is-narrow s twelve = rw twelve
 
-is-wide : (s : List ℕ) → length s ≡ wideLength → settingsOf s ≡ wideSettings s
+pub is-wide : (s : List ℕ) → length s ≡ wideLength → settingsOf s ≡ wideSettings s
 unfolding settingsOf
 is-wide s long = rw long
-
-or-false : (o : Bool) → (o || false) ≡ o
-or-false true = refl
-or-false false = refl
 
 -- of settings that are formed well, the numbers decide
 by-numbers : (s : List ℕ) → Formed s → badSettings s ≡ outOfRange (settingsOf s)
 unfolding badSettings
-by-numbers s (inl twelve) = rw twelve (or-false (outOfRange (settingsOf s)))
-by-numbers s (inr f) = rw (f .0, f .1) (or-false (outOfRange (settingsOf s)))
+by-numbers s (inl twelve) = rw twelve
+by-numbers s (inr long) = rw long
 
-formed : (s : List ℕ) → badSettingsLength (length s) ≡ false → badZero s ≡ false → Formed s
-formed s a z = ⊎-elim (λ e. inl (eqb-true (length s) narrowLength (not-false _ e)))
-    (λ e. let long = eqb-true (length s) wideLength (not-false _ e) in inr (long, eqb-true (wordAt s 20) 0 (not-false _ (rw long at z))))
+formed : (s : List ℕ) → badSettingsLength (length s) ≡ false → Formed s
+formed s a =
+    ⊎-elim (λ e. inl (eqb-true (length s) narrowLength (not-false _ e))) (λ e. inr (eqb-true (length s) wideLength (not-false _ e)))
     (and-false (not (eqb (length s) narrowLength)) (not (eqb (length s) wideLength)) a)
 
 -- WHICH ARE TAKEN
 
 good-numbers : (s : List ℕ) → badSettings s ≡ false → Formed s
 unfolding badSettings
-good-numbers s e =
-    let p = neither (badSettingsLength (length s) || outOfRange (settingsOf s)) (badZero s) e in
-    formed s (neither (badSettingsLength (length s)) (outOfRange (settingsOf s)) (p .0) .0) (p .1)
+good-numbers s e = formed s (neither (badSettingsLength (length s)) (outOfRange (settingsOf s)) e .0)
 
-in-limits : (σ : Settings) → Positive σ → 1 ≤ σ .period → σ .window ≤ mostTicks → σ .period ≤ mostTicks → outOfRange σ ≡ false
-in-limits σ P l w p =
+in-limits : (σ : Settings) → Positive σ → 1 ≤ σ .period → σ .window ≤ mostTicks → σ .period ≤ mostTicks → σ .multiply ≤ mostMultiply
+    → outOfRange σ ≡ false
+in-limits σ P l w p m =
     rw (
       lasts (P .set-lasts),
       lasts (P .read-lasts),
@@ -62,6 +57,7 @@ in-limits σ P l w p =
       lasts l,
       le-ltb mostTicks (σ .window) w,
       le-ltb mostTicks (σ .period) p,
+      le-ltb mostMultiply (σ .multiply) m,
     )
   where
     lasts : {n : ℕ} → 1 ≤ n → eqb n 0 ≡ false
@@ -73,19 +69,28 @@ good s = (there, back)
     there : badSettings s ≡ false → Good s
     there e =
         let I = in-range s e in
-        record { formed = good-numbers s e; positive = I .positive; period-lasts = I .lasts; window-limit = omega (arith, I .narrow); period-limit = I .short }
+        record {
+          formed = good-numbers s e;
+          positive = I .positive;
+          period-lasts = I .lasts;
+          window-limit = omega (arith, I .narrow);
+          period-limit = I .short;
+          multiply-limit = I .multiply-limit;
+        }
 
     back : Good s → badSettings s ≡ false
-    back G = by-numbers s (G .formed) ∙ in-limits (settingsOf s) (G .positive) (G .period-lasts) (G .window-limit) (G .period-limit)
+    back G =
+        by-numbers s (G .formed)
+        ∙ in-limits (settingsOf s) (G .positive) (G .period-lasts) (G .window-limit) (G .period-limit) (G .multiply-limit)
 
 -- THE WIDE FORM
 
 half-back : (n : ℕ) → n % 256 + 256 * (n / 256) ≡ n
 half-back n = omega arith
 
-numbers-back : (σ : Settings) → σ .multiply ≡ σ .set → settingsOf (wideBytes σ) ≡ σ
+numbers-back : (σ : Settings) → settingsOf (wideBytes σ) ≡ σ
 unfolding settingsOf wideBytes
-numbers-back σ one =
+numbers-back σ =
     rw (
       half-back (σ .set),
       half-back (σ .read),
@@ -95,12 +100,12 @@ numbers-back σ one =
       half-back (σ .spacing),
       word-back (σ .window),
       word-back (σ .period),
-      ← one,
+      word-back (σ .multiply),
     )
 
-wide-formed : (σ : Settings) → (length (wideBytes σ) ≡ wideLength) × (wordAt (wideBytes σ) 20 ≡ 0)
+wide-formed : (σ : Settings) → length (wideBytes σ) ≡ wideLength
 unfolding wideBytes
-wide-formed σ = (refl, refl)
+wide-formed σ = refl
 
 -- BYTES
 
@@ -133,7 +138,7 @@ wide-bytes σ F =
     (half-small (σ .spacing) (F .spacing-fits)
     (word-small (σ .window) (F .window-fits)
     (word-small (σ .period) (F .period-fits)
-    (word-small 0 (omega arith) tt)))))))))
+    (word-small (σ .multiply) (F .multiply-fits) tt)))))))))
 
 -- what bytes hold
 fits : (s : List ℕ) → Bytes s → Formed s → FitsWide (settingsOf s)
@@ -146,9 +151,9 @@ fits s b (inl twelve) = rw (is-narrow s twelve) (record {
   spacing-fits = omega (arith, b 5);
   window-fits = omega (arith, b 6, b 7);
   period-fits = omega (arith, b 8, b 9, b 10, b 11);
-  one-time = refl;
+  multiply-fits = omega (arith, b 0);
 })
-fits s b (inr f) = rw (is-wide s (f .0)) (record {
+fits s b (inr long) = rw (is-wide s long) (record {
   set-fits = omega (arith, b 0, b 1);
   read-fits = omega (arith, b 2, b 3);
   write-fits = omega (arith, b 4, b 5);
@@ -157,7 +162,7 @@ fits s b (inr f) = rw (is-wide s (f .0)) (record {
   spacing-fits = omega (arith, b 10, b 11);
   window-fits = omega (arith, b 12, b 13, b 14, b 15);
   period-fits = omega (arith, b 16, b 17, b 18, b 19);
-  one-time = refl;
+  multiply-fits = omega (arith, b 20, b 21, b 22, b 23);
 })
 
 narrow-fits : (s : List ℕ) → Bytes s → length s ≡ 12 → FitsNarrow (settingsOf s)
@@ -169,6 +174,7 @@ narrow-fits s b twelve = rw (is-narrow s twelve) (record {
   save-fits = omega (arith, b 4);
   spacing-fits = omega (arith, b 5);
   window-fits = omega (arith, b 6, b 7);
+  one-time = refl;
 })
 
 -- ALIKE
@@ -178,14 +184,12 @@ equal-settings s t f g e = record { judged = by-numbers s f ∙ ap outOfRange e 
 
 equal-numbers : (s t : List ℕ) → EqualNumbers s t → Alike s t
 equal-numbers s t E =
-    equal-settings s t (inl (E .old)) (inr (E .new, E .zero))
+    equal-settings s t (inl (E .old)) (inr (E .new))
     (rw
-    (is-narrow s (E .old), is-wide t (E .new), E .set, E .read, E .write, E .beat, E .save, E .spacing, E .window, E .period))
+    (is-narrow s (E .old), is-wide t (E .new), ← E .multiply, E .set, E .read, E .write, E .beat, E .save, E .spacing, E .window, E .period))
 
 widens : (s : List ℕ) → length s ≡ narrowLength → Alike s (wideBytes (settingsOf s))
-widens s twelve =
-    let one : settingsOf s .multiply ≡ settingsOf s .set = rw (is-narrow s twelve) in
-    equal-settings s (wideBytes (settingsOf s)) (inl twelve) (inr (wide-formed (settingsOf s))) (sym (numbers-back (settingsOf s) one))
+widens s twelve = equal-settings s (wideBytes (settingsOf s)) (inl twelve) (inr (wide-formed (settingsOf s))) (sym (numbers-back (settingsOf s)))
 
 -- a file of more than 24 bytes is no settings, however much of it is read
 too-long : (s t : List ℕ) → 25 ≤ length s → 25 ≤ length t → narrowSettings s ≡ narrowSettings t → Alike s t
@@ -229,7 +233,7 @@ widened = record {
   good = good;
   fits = fits;
   narrow-fits = narrow-fits;
-  holds = λ σ F. record { bytes = wide-bytes σ F; formed = wide-formed σ; numbers = numbers-back σ (F .one-time) };
+  holds = λ σ F. record { bytes = wide-bytes σ F; formed = wide-formed σ; numbers = numbers-back σ };
   equal-numbers = equal-numbers;
   equal-settings = equal-settings;
   same = same-calls;

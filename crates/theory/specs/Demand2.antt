@@ -33,7 +33,8 @@ pub record RunsInTime (c : Loan) (t : ℕ) : Type 0 where
 
 -- EQUALISING
 
--- the bytes of the tree that 003's rules give, with SKIPs merged
+-- the bytes of the tree that 003's rules give, with SKIPs merged. 003's times are those of the settings: WCET(skip) is 1 and WCET(read), WCET(write) are
+-- READ's and WRITE's ticks. W-204 puts two times in the place of its WCET(x := e), the single assignment time: that of a multiply and SET's.
 abbrev pub equalisedBytes : List ℕ → List ℕ → List ℕ
 equalisedBytes s task = bytes (linearise (merge 0 (F (settingsOf s) (fileTree task))))
 

@@ -4,5 +4,6 @@ pub mod Demand3
 pub mod Watching
 pub mod Widened
 pub mod Mixing
+pub mod Multiplying
 -- for the contracts of laying out
 pub mod Windows

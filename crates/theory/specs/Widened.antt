@@ -1,4 +1,4 @@
--- W-202, over the replies of the calls: each part under the words that it answers. The proof is in proofs/Widened.antt. "Equalising, layout and taking
+-- W-202, with W-204's last number, over the replies of the calls: each part under the words that it answers. The proof is in proofs/Widened.antt. "Equalising, layout and taking
 -- up are shown for the wide numbers" by `Demand2` and `Demand3`, which are over any settings that are taken.
 use Prim.Native.Nat.{ℕ, _^_, _≤_, _<_}
 use mathlib.Core.Path.{_≡_}
@@ -22,19 +22,20 @@ use Rattle.model.specs.Listing.{listStarts, printed}
 
 -- WHICH SETTINGS ARE TAKEN
 
--- "a length other than 12 or 24" is refused, and so are 24 bytes that do not end in a zero
+-- "a length other than 12 or 24" is refused
 abbrev pub Formed : List ℕ → Type 0
-Formed s = (length s ≡ 12) ⊎ ((length s ≡ 24) × (wordAt s 20 ≡ 0))
+Formed s = (length s ≡ 12) ⊎ (length s ≡ 24)
 
--- "All are at least 1; P is at most 1,000,000", "H may then reach 1,000,000"
+-- "All are at least 1; P is at most 1,000,000", "H may then reach 1,000,000"; W-204: "a multiply time of 0 or above 65,535 is 6"
 pub record Good (s : List ℕ) : Type 0 where
   pub formed : Formed s
   pub positive : Positive (settingsOf s)
   pub period-lasts : 1 ≤ settingsOf s .period
   pub window-limit : settingsOf s .window ≤ 1000000
   pub period-limit : settingsOf s .period ≤ 1000000
+  pub multiply-limit : settingsOf s .multiply ≤ 65535
 
--- "our ticks are single bytes"
+-- "our ticks are single bytes"; W-204: "with 12-byte settings it equals SET's"
 pub record FitsNarrow (σ : Settings) : Type 0 where
   pub set-fits : σ .set ≤ 255
   pub read-fits : σ .read ≤ 255
@@ -43,8 +44,9 @@ pub record FitsNarrow (σ : Settings) : Type 0 where
   pub save-fits : σ .save ≤ 255
   pub spacing-fits : σ .spacing ≤ 255
   pub window-fits : σ .window ≤ 65535
+  pub one-time : σ .multiply ≡ σ .set
 
--- numbers of 16 and of 32 bits, and one time for every SET
+-- numbers of 16 and of 32 bits
 pub record FitsWide (σ : Settings) : Type 0 where
   pub set-fits : σ .set ≤ 65535
   pub read-fits : σ .read ≤ 65535
@@ -54,17 +56,17 @@ pub record FitsWide (σ : Settings) : Type 0 where
   pub spacing-fits : σ .spacing ≤ 65535
   pub window-fits : σ .window < 2 ^ 32
   pub period-fits : σ .period < 2 ^ 32
-  pub one-time : σ .multiply ≡ σ .set
+  pub multiply-fits : σ .multiply < 2 ^ 32
 
 -- the wide form holds these numbers
 pub record Holds (σ : Settings) : Type 0 where
   pub bytes : Bytes (wideBytes σ)
-  pub formed : (length (wideBytes σ) ≡ 24) × (wordAt (wideBytes σ) 20 ≡ 0)
+  pub formed : length (wideBytes σ) ≡ 24
   pub numbers : settingsOf (wideBytes σ) ≡ σ
 
 -- EVERY CALL
 
--- "Old and new settings with equal numbers": 12 bytes s and 24 bytes t
+-- "Old and new settings with equal numbers": 12 bytes s and 24 bytes t, whose multiply takes SET's ticks
 pub record EqualNumbers (s t : List ℕ) : Type 0 where
   pub old : length s ≡ 12
   pub new : length t ≡ 24
@@ -76,7 +78,7 @@ pub record EqualNumbers (s t : List ℕ) : Type 0 where
   pub spacing : getD s 5 0 ≡ halfAt t 10
   pub window : halfAt s 6 ≡ wordAt t 12
   pub period : wordAt s 8 ≡ wordAt t 16
-  pub zero : wordAt t 20 ≡ 0
+  pub multiply : getD s 0 0 ≡ wordAt t 20
 
 -- both good or both bad, and each number equal
 pub record Alike (s t : List ℕ) : Type 0 where
@@ -118,7 +120,7 @@ pub record SameCalls (s t : List ℕ) : Type 0 where
 pub record Widened : Type 0 where
   -- "Refusal 6 now means a length other than 12 or 24, or a bad number."
   pub good : (s : List ℕ) → (badSettings s ≡ false) ↔ Good s
-  -- "six 16-bit numbers (SET, READ, WRITE, BEAT, SAVE, K), then H, P and a zero, 32 bits each"
+  -- "six 16-bit numbers (SET, READ, WRITE, BEAT, SAVE, K), then H, P and a zero, 32 bits each"; W-204: "The zero .. becomes the ticks of a multiply"
   pub fits : (s : List ℕ) → Bytes s → Formed s → FitsWide (settingsOf s)
   pub narrow-fits : (s : List ℕ) → Bytes s → length s ≡ 12 → FitsNarrow (settingsOf s)
   pub holds : (σ : Settings) → FitsWide σ → Holds σ

@@ -1,8 +1,10 @@
-// The times of single statements, each up to the period, by how much one is above another, the larger of two, and the settings as a table that can be lent.
+// The times of single statements, each up to the period, by how much one is above another, the larger of two, the longest step, and the settings as a table
+// that can be lent.
 ghost use mathlib.Core.Path.{_≡_};
 ghost use Prim.Native.Nat.{ℕ, _+_, _-_, _%_, _^_, _≤_, max};
 ghost use lib.Dec.{eqb};
 ghost use Rattle.model.specs.Limits.{byVariable};
+ghost use Rattle.model.specs.Times.{longest};
 ghost use Rattle.records.specs.Records.{recordOf};
 ghost use Rattle.timing.specs.Times.{Gives, setTicks, stepTicks, settingsIn, roundTicks, loopTicks};
 use model::Settings;
@@ -44,6 +46,13 @@ pub fn later(x: u32, y: u32) -> u32
         return y;
     }
     x
+}
+
+// The longest of the steps that are no commands.
+pub fn longest_step(rack: Settings) -> u32
+    ensures { λ r. ⌜ r ≡ longest rack ⌝ }
+{
+    later(later(rack.set, rack.multiply), later(rack.read, rack.write))
 }
 
 // Whether a SET of that operation multiplies.

@@ -2,11 +2,11 @@
 use borrow.Author.{Needs.needs}
 use native.Mathlib.Omega.{arith}
 use mathlib.Core.Path.{_≡_, sym, _∙_}
-use mathlib.Core.{Bool.Bool, Bool.true, Bool.false, Bool._||_, List.List}
+use mathlib.Core.{Bool.Bool, Bool.true, Bool.false, List.List}
 use Prim.Native.Nat.{ℕ}
 use lib.{ListN.length}
 use Rattle.model.specs.declared.{Settings.Settings, Refusal.Refusal}
-use Rattle.model.specs.Settings.{settingsOf, outOfRange, badZero, badSettingsLength, badSettings}
+use Rattle.model.specs.Settings.{settingsOf, outOfRange, badSettingsLength, badSettings}
 use Rattle.records.specs.Decoded.{Decodes}
 use Rattle.records.specs.declared.settings.Decoded.the-variants.{Valid, Refused}
 use Rattle.records.proofs.settings.decode.Statement.{statement}
@@ -24,10 +24,10 @@ valid-good : (s : List ℕ) (σ : Settings) → badSettings s ≡ false → σ �
 valid-good s σ good is = record { reply = λ next. rw good; settings = λ τ e. cc }
 
 -- of a length that is taken, the numbers decide
-by-numbers : (s : List ℕ) (σ : Settings) {r z : Bool} → false ≡ badSettingsLength (length s) → σ ≡ settingsOf s → r ≡ outOfRange σ → z ≡ badZero s
-    → badSettings s ≡ (r || z)
+by-numbers : (s : List ℕ) (σ : Settings) {r : Bool} → false ≡ badSettingsLength (length s) → σ ≡ settingsOf s → r ≡ outOfRange σ
+    → badSettings s ≡ r
 unfolding badSettings
-by-numbers s σ good is r z = rw (← good, ← is, ← r, ← z)
+by-numbers s σ good is r = rw (← good, ← is, ← r)
 
 returns : tie.Need-returns
 unfolding badSettings
@@ -39,18 +39,18 @@ numbers-requires c κs = sym (c .before .bad-length .ensures) ∙ c .if1 .left
 returns-2 : tie.Need-returns-2
 returns-2 c =
     refused-bad _
-    (by-numbers _ _ (sym (c .before .before .before .before .if1 .left) ∙ c .before .before .before .before .before .bad-length .ensures)
-    (c .before .before .before .numbers .ensures) (c .before .before .out-of-range .ensures) (c .before .bad-zero .ensures)
+    (by-numbers _ _ (sym (c .before .before .before .if1 .left) ∙ c .before .before .before .before .bad-length .ensures)
+    (c .before .before .numbers .ensures) (c .before .out-of-range .ensures)
     ∙ c .if2 .taken)
 
 returns-3 : tie.Need-returns-3
 returns-3 c =
-    let is = c .before .before .before .numbers .ensures in
+    let is = c .before .before .numbers .ensures in
     valid-good _ _
-    (by-numbers _ _ (sym (c .before .before .before .before .if1 .left) ∙ c .before .before .before .before .before .bad-length .ensures) is
-    (c .before .before .out-of-range .ensures) (c .before .bad-zero .ensures)
+    (by-numbers _ _ (sym (c .before .before .before .if1 .left) ∙ c .before .before .before .before .bad-length .ensures) is
+    (c .before .out-of-range .ensures)
     ∙ c .if2 .left)
     is
 
 pub decode-spec : {M : Type 1} → statement M
-decode-spec = tie.close (tie.spec (search needs) returns numbers-requires (search needs) (search needs) returns-2 returns-3)
+decode-spec = tie.close (tie.spec (search needs) returns numbers-requires (search needs) returns-2 returns-3)
