@@ -42,7 +42,7 @@ image i t = imageBytes (record { index = i; tick = t; variables = replicate 16 0
 -- on a line, at the limit and past it
 pub limits : List Case
 limits =
-    -- "H below B + S + the longest of SET, READ, WRITE": with H 913 the WRITE waits for the second window, and ends at 1,816
+    -- "H below B + S + the longest of SET, READ, WRITE", and for a multiply see Multiply: with H 913 the WRITE waits for the second window, and ends at 1,816
     (prepareReply (slow 145) copies 96 says 0 ∷ 96 ∷ 1829 ∷ []) ∷ (prepareReply (slow 144) copies 96 says 7 ∷ [])
     -- "the file's time, or the total laid out, above P"
     ∷ (timeReply rack Task (waits 100) says 0 ∷ 100 ∷ []) ∷ (timeReply rack Task (waits 101) says 8 ∷ [])

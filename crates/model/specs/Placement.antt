@@ -9,7 +9,7 @@ use Rattle.model.specs.Trees.{Act, set, read, write, check, beat, save, 
 use Rattle.model.specs.Times.{ticks, time, longest}
 use Rattle.model.specs.Runs.{Effect, nothing, beats, saves, isBeat, isSave, Step}
 
--- "All are at least 1", P aside, and what row 7 leaves of the settings
+-- "All are at least 1", P aside
 pub record Positive (σ : Settings) : Type 0 where
   pub set-lasts : 1 ≤ σ .set
   pub read-lasts : 1 ≤ σ .read
@@ -20,6 +20,7 @@ pub record Positive (σ : Settings) : Type 0 where
   pub spaced : 1 ≤ σ .spacing
   pub window-lasts : 1 ≤ σ .window
 
+-- what row 7 leaves of the settings
 pub record Fits (σ : Settings) : Type 0 where
   pub positive : Positive σ
   pub wide : σ .beat + σ .save + longest σ ≤ σ .window

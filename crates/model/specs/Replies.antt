@@ -31,7 +31,7 @@ unless (faulty n x) next = refused n (x ∷ [])
 unfoldable pub reading : List ℕ → Form → List ℕ → Verdict → Verdict
 reading s f file next = turnDown 6 (badSettings s) (unless (fault f file) next)
 
--- "H below B + S + the longest of SET, READ, WRITE, used or not" (row 7)
+-- "H below B + S + the longest of SET, READ, WRITE, used or not" (row 7); W-204 counts a multiply too
 abbrev pub shortWindow : Settings → Bool
 shortWindow σ = ltb (σ .window) (σ .beat + σ .save + longest σ)
 

@@ -1,4 +1,4 @@
--- The proofs of specs/. Demand2, Demand3, Watching, Widened and Mixing say where each part is proved; the others stand in the order in which they build on each other.
+-- The proofs of specs/. Demand2, Demand3, Watching, Widened, Mixing and Multiplying say where each part is proved; the others stand in the order in which they build on each other.
 pub mod Demand2
 pub mod Demand3
 pub mod Watching
@@ -11,6 +11,7 @@ pub mod Times
 pub mod Sequences
 pub mod Within
 pub mod Lasts
+pub mod Follows
 pub mod Views
 pub mod Traces
 pub mod Agreement

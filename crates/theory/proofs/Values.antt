@@ -104,7 +104,7 @@ each-merge P (branch q a d b) n p =
 each-merge P (while q m a b) n p = each-waiting P n (while q m (merge 0 a) (merge 0 b)) (each-merge P a 0 (p .0), each-merge P b 0 (p .1))
 each-merge P (times q m a b) n p = each-waiting P n (times q m (merge 0 a) (merge 0 b)) (each-merge P a 0 (p .0), each-merge P b 0 (p .1))
 
-each-map : (P Q : Act → Type 0) → ((p : Act) → P p → Q p) → (b : Block) → Each P b → Each Q b
+pub each-map : (P Q : Act → Type 0) → ((p : Act) → P p → Q p) → (b : Block) → Each P b → Each Q b
 each-map P Q f nil p = tt
 each-map P Q f (skip n b) p = each-map P Q f b p
 each-map P Q f (act r b) p = (f r (p .0), each-map P Q f b (p .1))

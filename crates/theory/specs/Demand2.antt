@@ -33,8 +33,8 @@ pub record RunsInTime (c : Loan) (t : ℕ) : Type 0 where
 
 -- EQUALISING
 
--- the bytes of the tree that 003's rules give, with SKIPs merged. 003's times are those of the settings: WCET(skip) is 1 and WCET(read), WCET(write) are
--- READ's and WRITE's ticks. W-204 puts two times in the place of its WCET(x := e), the single assignment time: that of a multiply and SET's.
+-- the bytes of the tree that 003's rules give, with SKIPs merged. WCET(skip) and a test's time are 1, as in 003; WCET(read) and WCET(write) are READ's and
+-- WRITE's ticks; in the place of WCET(x := e), its single assignment time, W-204 has the ticks of a multiply where e is a product, and SET's elsewhere.
 abbrev pub equalisedBytes : List ℕ → List ℕ → List ℕ
 equalisedBytes s task = bytes (linearise (merge 0 (F (settingsOf s) (fileTree task))))
 

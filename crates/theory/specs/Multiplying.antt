@@ -14,6 +14,8 @@ use Rattle.model.specs.Settings.{settingsOf, badSettings}
 use Rattle.model.specs.Trees.{Act, set, read, write, check, beat, save, Block}
 use Rattle.model.specs.Times.{ticks, time}
 use Rattle.model.specs.Runs.{run}
+use Rattle.model.specs.Stopping.{Image, takeUp}
+use Rattle.model.specs.Listing.{startTicks}
 use Rattle.model.specs.Equalising.{equalise}
 use Rattle.model.specs.Layout.{layout, total}
 use Rattle.model.specs.Refusals.{opFits, sound, fault}
@@ -25,7 +27,7 @@ use Rattle.model.specs.Placement.{Each}
 abbrev pub Multiplies : ℕ → Type 0
 Multiplies o = o % byVariable ≡ 3
 
--- an act that is no multiply
+-- an act that is no multiply, and one that is no other SET
 abbrev pub NoMultiply : Act → Type 0
 NoMultiply (set o t l x) = Multiplies o → ⊥
 NoMultiply (read a p) = Unit {0}
@@ -34,12 +36,20 @@ NoMultiply (check q) = Unit {0}
 NoMultiply (beat x) = Unit {0}
 NoMultiply (save m) = Unit {0}
 
--- the same settings with a multiply of m ticks
-abbrev pub withMultiply : ℕ → Settings → Settings
-withMultiply m σ = record {
-  set = σ .set;
-  read = σ .read;
-  write = σ .write;
+abbrev pub OnlyMultiply : Act → Type 0
+OnlyMultiply (set o t l x) = Multiplies o
+OnlyMultiply (read a p) = Unit {0}
+OnlyMultiply (write a p) = Unit {0}
+OnlyMultiply (check q) = Unit {0}
+OnlyMultiply (beat x) = Unit {0}
+OnlyMultiply (save m) = Unit {0}
+
+-- settings with these ticks of SET, READ, WRITE and a multiply; B, S, K, H and P stay
+abbrev pub retimed : ℕ → ℕ → ℕ → ℕ → Settings → Settings
+retimed a r w m σ = record {
+  set = a;
+  read = r;
+  write = w;
   beat = σ .beat;
   save = σ .save;
   multiply = m;
@@ -48,31 +58,43 @@ withMultiply m σ = record {
   period = σ .period;
 }
 
--- a block takes as long, and is equalised, laid out and run alike
+-- a block takes as long, is equalised, laid out, run and taken up alike, and its records start at the same ticks
 pub record SameBlock (σ τ : Settings) (b : Block) : Type 0 where
   pub times : time τ b ≡ time σ b
   pub equalised : equalise τ b ≡ equalise σ b
   pub laid : layout τ b ≡ layout σ b
   pub totals : total τ b ≡ total σ b
   pub steps : (ins : List ℕ) (i : ℕ) (v : List ℕ) → run τ ins b i v ≡ run σ ins b i v
+  pub taken-up : (ins : List ℕ) (i : Image) → takeUp τ ins b i ≡ takeUp σ ins b i
+  pub starts : (t : ℕ) → startTicks τ b t ≡ startTicks σ b t
+
+-- H below B + S + the ticks of SET, of a multiply, of READ or of WRITE
+abbrev pub SevenCause : Settings → Type 0
+SevenCause σ =
+    let c = σ .beat + σ .save in
+    (σ .window < c + σ .set) ⊎ ((σ .window < c + σ .multiply) ⊎ ((σ .window < c + σ .read) ⊎ (σ .window < c + σ .write)))
 
 pub record Multiplying : Type 0 where
   -- "The zero in the second settings record becomes the ticks of a multiply .. with 12-byte settings it equals SET's."
   pub wide : (s : List ℕ) → length s ≡ 24 → settingsOf s .multiply ≡ wordAt s 20
   pub narrow : (s : List ℕ) → length s ≡ 12 → settingsOf s .multiply ≡ settingsOf s .set
-  -- "at least 1", "a multiply time of 0 or above 65,535 is 6": in every call that is handed settings and a file, before all else
+  -- "at least 1", "a multiply time of 0 or above 65,535 is 6": in `reading`, which every call that is handed settings and a file tries first. That 1 to
+  -- 65,535 are taken is in `Widened.good`.
   pub bad : (s : List ℕ) → length s ≡ 24 → (wordAt s 20 ≡ 0) ⊎ (65535 < wordAt s 20) → (f : Form) (file : List ℕ) (next : Verdict)
       → reading s f file next ≡ refused 6 []
   -- "A SET's time now depends on its operation": of the operations that a SET may have, 3 and 19 multiply
-  pub operations : (o x : ℕ) → opFits 3 o x ≡ true → Multiplies o ↔ (o ≡ 3) ⊎ (o ≡ 19)
+  pub operations : (o x : ℕ) → opFits 3 o x ≡ true → (Multiplies o) ↔ ((o ≡ 3) ⊎ (o ≡ 19))
   pub multiplies : (σ : Settings) (o t l x : ℕ) → Multiplies o → ticks σ (set o t l x) ≡ σ .multiply
   pub others : (σ : Settings) (o t l x : ℕ) → (Multiplies o → ⊥) → ticks σ (set o t l x) ≡ σ .set
-  -- "times, equalising, layout and the runs all follow": by a multiply and by nothing else. Where a block has none, its number does not matter.
-  pub unused : (σ : Settings) (m : ℕ) (b : Block) → Each NoMultiply b → SameBlock σ (withMultiply m σ) b
-  -- "refusal 7's longest step counts it too", used or not
-  pub short : (s file : List ℕ) (room : ℕ) → badSettings s ≡ false → fault Equalised file ≡ sound
-      → settingsOf s .window < settingsOf s .beat + settingsOf s .save + settingsOf s .multiply → layOutReply s file room ≡ refused 7 []
+  -- "so times, equalising, layout and the runs all follow": a block goes by the ticks of its own acts, whatever the settings have for others
+  pub follow : (σ : Settings) (a r w m : ℕ) (b : Block) → Each (λ p. ticks (retimed a r w m σ) p ≡ ticks σ p) b → SameBlock σ (retimed a r w m σ) b
+  -- so where no SET of it multiplies, the ticks of a multiply change nothing of it, and where each one does, those of SET
+  pub unused : (σ : Settings) (m : ℕ) (b : Block) → Each NoMultiply b → SameBlock σ (retimed (σ .set) (σ .read) (σ .write) m σ) b
+  pub only : (σ : Settings) (n : ℕ) (b : Block) → Each OnlyMultiply b → SameBlock σ (retimed n (σ .read) (σ .write) (σ .multiply) σ) b
+  -- "refusal 7's longest step counts it too": row 7's causes are these four, whatever the file holds
+  pub seven : (s file : List ℕ) (room : ℕ) → badSettings s ≡ false → fault Equalised file ≡ sound
+      → (layOutReply s file room ≡ refused 7 []) ↔ SevenCause (settingsOf s)
   -- "The comparison with 003's rules is made with this time in place of the single assignment time": `Equalises.writes` of Demand2 compares with 003's
-  -- rules, `time` and `F`, by `ticks`. For 003's constant WCET(x := e) it has the ticks of a multiply where e is a product, and SET's elsewhere; where
-  -- the two are one number, every assignment has it, as in 003.
+  -- F, whose times are `time`. 003 has one constant, WCET(x := e). In its place stand the ticks of a multiply where e is a product, and SET's elsewhere.
+  -- Where these are one number, every assignment has it, as in 003.
   pub single : (σ : Settings) → σ .multiply ≡ σ .set → (o t l x : ℕ) → ticks σ (set o t l x) ≡ σ .set

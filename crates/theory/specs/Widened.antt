@@ -1,5 +1,5 @@
--- W-202, with W-204's last number, over the replies of the calls: each part under the words that it answers. The proof is in proofs/Widened.antt. "Equalising, layout and taking
--- up are shown for the wide numbers" by `Demand2` and `Demand3`, which are over any settings that are taken.
+-- W-202, with W-204's last number, over the replies of the calls: each part under the words that it answers. The proof is in proofs/Widened.antt.
+-- "Equalising, layout and taking up are shown for the wide numbers" by `Demand2` and `Demand3`, which are over any settings that are taken.
 use Prim.Native.Nat.{ℕ, _^_, _≤_, _<_}
 use mathlib.Core.Path.{_≡_}
 use mathlib.Core.Logic.{_↔_, _⊎_}

@@ -25,7 +25,7 @@ upTo p t = turnDown 8 (ltb p t) (finished (t ∷ []))
 pub record Gives (p t : ℕ) (r : Time) : Type 0 where
   pub reply : answered r ≡ upTo p t
 
--- a record that opens and closes no block
+-- a SET of an operation, and a record that opens and closes no block
 abbrev pub setTicks : Settings → ℕ → ℕ
 setTicks σ o = cond (eqb (o % byVariable) 3) (σ .multiply) (σ .set)
 
@@ -39,7 +39,7 @@ stepTicks σ r =
     (cond (eqb (r .kind) SAVE) (σ .save)
     1)))))
 
--- the settings in a table of 16 numbers
+-- the settings in a table of 16 numbers: ticks at the number of their kind, and those of a multiply at 0, which is no kind
 unfoldable pub settingsIn : List ℕ → Settings
 settingsIn t = record {
   set = getD t 2 0;
