@@ -6,23 +6,24 @@ use mathlib.Core.List.{List}
 use lib.{Dec.eqb, Dec.ltb, Dec.leb}
 use Rattle.model.specs.declared.Settings.{Settings}
 use Rattle.model.specs.Trees.{Test, Act, check, beat, save, Block, nil, skip, act, branch, while, times, _⧺_, size}
-use Rattle.model.specs.{Times.ticks, Times.time}
-use Rattle.model.specs.{Equalising.F, Equalising.pad, Equalising.merge, Equalising.equalise, Placement.Each}
+use Rattle.model.specs.{Times.ticks, Times.time, Equalising.F, Equalising.pad, Equalising.merge, Equalising.equalise, Placement.Each}
 use Rattle.model.specs.Layout.{copies, unroll, commands, left, before, idle, idles, fill, filled, lay, opened, body, layout, total, lastValue}
 use Rattle.model.specs.Runs.{Effect, Run, _⊳_, effect, single, choose, spin, rounds, run, lastTest, variablesAfter}
-use Rattle.theory.specs.Multiplying.{retimed, SameBlock}
 use Rattle.model.specs.{Stopping.Image, Stopping.rest, Stopping.takeUp, Listing.startTicks}
+use Rattle.theory.specs.Multiplying.{retimed, SameBlock}
 
 -- a block and the last BEAT after it
 abbrev lastBeat : Settings → Block → Block
 lastBeat σ c = c ⧺ act (beat (lastValue σ (time σ c))) nil
 
-module _ (σ : Settings) (tset tread twrite tmultiply : ℕ) where
+module _ (σ : Settings) (set read write multiply : ℕ) where
   abbrev τ : Settings
-  τ = retimed tset tread twrite tmultiply σ
+  τ = retimed set read write multiply σ
 
   abbrev Same : Act → Type 0
   Same p = ticks τ p ≡ ticks σ p
+
+  -- BLOCKS WHOSE ACTS TAKE THE SAME TICKS
 
   each-cond : (o : Bool) (a b : Block) → Each Same a → Each Same b → Each Same (cond o a b)
   each-cond true a b x y = x

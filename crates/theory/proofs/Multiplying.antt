@@ -11,10 +11,9 @@ use Rattle.model.specs.declared.Settings.{Settings}
 use Rattle.model.specs.declared.{Form.Form, Form.the-variants.Equalised}
 use Rattle.model.specs.Trees.{Act, set, read, write, check, beat, save, Block, size, fileTree}
 use Rattle.model.specs.{Records.wordAt, Settings.settingsOf, Settings.badSettings, Times.ticks, Times.time, Times.longest}
-use Rattle.model.specs.{Placement.Each}
-use Rattle.model.specs.{Layout.layout, Layout.total, Runs.single}
-use Rattle.model.specs.{Refusals.opFits, Refusals.variable, Refusals.sound, Refusals.fault, Answers.Verdict, Answers.finished, Answers.refused, Replies.layOutReply, Replies.reading}
-use Rattle.model.specs.Replies.{turnDown, shortWindow, above, noRoom, layOutRows}
+use Rattle.model.specs.{Layout.layout, Layout.total, Placement.Each, Refusals.opFits, Refusals.variable, Refusals.sound, Refusals.fault}
+use Rattle.model.specs.{Answers.Verdict, Answers.finished, Answers.refused}
+use Rattle.model.specs.Replies.{turnDown, reading, shortWindow, above, noRoom, layOutRows, layOutReply}
 use Rattle.laws.proofs.Shapes.{and-left}
 use Rattle.theory.specs.Multiplying.{Multiplies, NoMultiply, OnlyMultiply, retimed, SameBlock, SevenCause, Multiplying}
 use Rattle.theory.proofs.{Accepted.in-range, Accepted.reads, Values.each-map, Follows.follow, Widened.is-narrow, Widened.is-wide}
@@ -45,7 +44,7 @@ only σ n b x = follow σ n (σ .read) (σ .write) (σ .multiply) b (each-map On
 
 -- AT ONCE
 
-operations : (o x : ℕ) → opFits 3 o x ≡ true → Multiplies o ↔ (o ≡ 3) ⊎ (o ≡ 19)
+operations : (o x : ℕ) → opFits 3 o x ≡ true → (Multiplies o) ↔ ((o ≡ 3) ⊎ (o ≡ 19))
 operations o x h = (λ e. there (leb 16 o) refl e, λ e. ⊎-elim (λ (y : o ≡ 3). rw y) (λ (y : o ≡ 19). rw y) e)
   where
     there : (b : Bool) → leb 16 o ≡ b → o % 16 ≡ 3 → (o ≡ 3) ⊎ (o ≡ 19)
