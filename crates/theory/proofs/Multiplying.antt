@@ -15,7 +15,7 @@ use Rattle.model.specs.{Layout.layout, Layout.total, Placement.Each, Refusals.o
 use Rattle.model.specs.{Answers.Verdict, Answers.finished, Answers.refused}
 use Rattle.model.specs.Replies.{turnDown, reading, shortWindow, above, noRoom, layOutRows, layOutReply}
 use Rattle.laws.proofs.Shapes.{and-left}
-use Rattle.theory.specs.Multiplying.{Multiplies, NoMultiply, OnlyMultiply, retimed, SameBlock, SevenCause, Multiplying}
+use Rattle.theory.specs.Multiplying.{Multiplies, BadMultiply, NoMultiply, OnlyMultiply, retimed, SameBlock, SevenCause, Multiplying}
 use Rattle.theory.proofs.{Accepted.in-range, Accepted.reads, Values.each-map, Follows.follow, Widened.is-narrow, Widened.is-wide}
 
 -- BLOCKS
@@ -51,7 +51,7 @@ operations o x h = (λ e. there (leb 16 o) refl e, λ e. ⊎-elim (λ (y : o ≡
     there true y e = inr (let l = leb-true 16 o y in let k = leb-true o 19 (and-left (leb o 19) (variable x) (rw y at h)) in omega arith)
     there false y e = inl (let l = leb-false 16 o y in omega arith)
 
-bad : (s : List ℕ) → length s ≡ 24 → (wordAt s 20 ≡ 0) ⊎ (65535 < wordAt s 20) → badSettings s ≡ true
+bad : (s : List ℕ) → length s ≡ 24 → BadMultiply (wordAt s 20) → badSettings s ≡ true
 bad s long h = go (badSettings s) refl
   where
     go : (o : Bool) → badSettings s ≡ o → badSettings s ≡ true

@@ -27,6 +27,10 @@ use Rattle.model.specs.Placement.{Each}
 abbrev pub Multiplies : ℕ → Type 0
 Multiplies o = o % byVariable ≡ 3
 
+-- "a multiply time of 0 or above 65,535"
+abbrev pub BadMultiply : ℕ → Type 0
+BadMultiply n = (n ≡ 0) ⊎ (65535 < n)
+
 -- an act that is no multiply, and one that is no other SET
 abbrev pub NoMultiply : Act → Type 0
 NoMultiply (set o t l x) = Multiplies o → ⊥
@@ -80,8 +84,7 @@ pub record Multiplying : Type 0 where
   pub narrow : (s : List ℕ) → length s ≡ 12 → settingsOf s .multiply ≡ settingsOf s .set
   -- "at least 1", "a multiply time of 0 or above 65,535 is 6": in `reading`, which every call that is handed settings and a file tries first. That 1 to
   -- 65,535 are taken is in `Widened.good`.
-  pub bad : (s : List ℕ) → length s ≡ 24 → (wordAt s 20 ≡ 0) ⊎ (65535 < wordAt s 20) → (f : Form) (file : List ℕ) (next : Verdict)
-      → reading s f file next ≡ refused 6 []
+  pub bad : (s : List ℕ) → length s ≡ 24 → BadMultiply (wordAt s 20) → (f : Form) (file : List ℕ) (next : Verdict) → reading s f file next ≡ refused 6 []
   -- "A SET's time now depends on its operation": of the operations that a SET may have, 3 and 19 multiply
   pub operations : (o x : ℕ) → opFits 3 o x ≡ true → (Multiplies o) ↔ ((o ≡ 3) ⊎ (o ≡ 19))
   pub multiplies : (σ : Settings) (o t l x : ℕ) → Multiplies o → ticks σ (set o t l x) ≡ σ .multiply
