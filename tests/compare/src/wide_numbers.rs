@@ -31,6 +31,7 @@ const QUICK: Settings = Settings {
     spacing: 1,
     window: 4,
     period: MOST_PERIOD,
+    multiply: None,
     wide: true,
 };
 
@@ -44,6 +45,36 @@ const CROWDED: Settings = Settings {
 struct Wide<'a> {
     comparer: &'a mut Comparer,
     random: Random,
+}
+
+/// The ticks of SET, READ, WRITE, BEAT and SAVE, in two records.
+fn of_ticks([set, read, write, beat, save]: [u16; 5]) -> Settings {
+    Settings {
+        set,
+        read,
+        write,
+        beat,
+        save,
+        ..QUICK
+    }
+}
+
+/// A step of each operation, a READ and a WRITE, with their ticks. The numbers
+/// of multiplying stand in other places of each.
+fn steps(numbers: &Settings) -> Vec<(Record, u32)> {
+    let (sets, multiply) = (numbers.set.into(), numbers.multiply_ticks());
+    vec![
+        (set(COPY, 3, 0, 3), sets),
+        (set(ADD, 3, 3, 19), sets),
+        (set(SUBTRACT, 3, 3, 19), sets),
+        (set(MULTIPLY, 2, 1, 0), multiply),
+        (set(COPY + VARIABLE, 3, 0, 3), sets),
+        (set(ADD + VARIABLE, 3, 3, 3), sets),
+        (set(SUBTRACT + VARIABLE, 3, 3, 3), sets),
+        (set(MULTIPLY + VARIABLE, 2, 1, 0), multiply),
+        (read(3, 3), numbers.read.into()),
+        (write(3, 3), numbers.write.into()),
+    ]
 }
 
 fn form_of(kind: Kind, of_others: u8) -> u8 {
@@ -70,48 +101,42 @@ impl Wide<'_> {
 
     /// Each step takes the ticks in its own place, in either form.
     fn places(&mut self) {
-        let narrow = Settings {
-            set: 2,
-            read: 3,
-            write: 5,
-            beat: 7,
-            save: 11,
-            wide: false,
-            ..QUICK
-        };
-        let wide = Settings {
-            set: 258,
-            read: 515,
-            write: 772,
-            beat: 1029,
-            save: 1286,
-            ..QUICK
-        };
-        let slow = Settings {
-            set: 65_535,
-            read: 65_280,
-            write: 256,
-            beat: 255,
-            save: 32_768,
-            ..QUICK
-        };
-        let narrow_in_two = Settings {
-            wide: true,
-            ..narrow
-        };
-        for numbers in [narrow, narrow_in_two, wide, slow] {
-            let steps = [set(ADD, 0, 0, 1), read(0, 0), write(0, 0), beat(1), save()];
-            for step in steps {
-                self.lasts(&numbers.bytes(), step, numbers.ticks(&step));
+        let narrow = of_ticks([2, 3, 5, 7, 11]);
+        let wide = of_ticks([258, 515, 772, 1029, 1286]);
+        let slow = of_ticks([65_535, 65_280, 256, 255, 32_768]);
+        let all = [
+            Settings {
+                wide: false,
+                ..narrow
+            },
+            narrow,
+            narrow.with_multiply(13),
+            wide.with_multiply(1543),
+            slow,
+            slow.with_multiply(1),
+            narrow.with_multiply(65_535),
+        ];
+        for numbers in all {
+            for (step, ticks) in steps(&numbers) {
+                self.lasts(&numbers.bytes(), &step, ticks);
+                self.lasts_prepared(&numbers, &step, ticks);
+            }
+            for command in [(beat(3), numbers.beat), (save(), numbers.save)] {
+                self.lasts(&numbers.bytes(), &command.0, command.1.into());
+            }
+            // Relations have the numbers of operations too.
+            for relation in [MULTIPLY, MULTIPLY + VARIABLE] {
+                let sides = bytes(&[test(IF, relation, 3, 3), otherwise(), end()]);
+                self.lasts(&numbers.bytes(), &sides, 1);
             }
         }
     }
 
-    /// One step, in every call that counts its ticks.
-    fn lasts(&mut self, settings: &[u8], step: Record, ticks: u32) {
+    /// A file of one step, in every call that counts its ticks.
+    fn lasts(&mut self, settings: &[u8], step: &[u8], ticks: u32) {
         let overran = false;
         let ended = |tick| Answer::Ended { tick, overran };
-        let file = (LAID, &step[..]);
+        let file = (LAID, step);
         self.expect(Kind::Time, settings, file, |_| {}, Answer::Time(ticks));
         for kind in [Kind::Run, Kind::Restart] {
             self.expect(kind, settings, file, |_| {}, ended(ticks));
@@ -122,10 +147,39 @@ impl Wide<'_> {
         self.expect(kind, settings, file, |call| call.stop = tick, cut);
         let past = Answer::refused(12);
         self.expect(kind, settings, file, |call| call.stop = ticks, past);
-        let saved = bytes(&[save(), step]);
+        let saved = [&save(), step].concat();
         let after = |call: &mut Call| call.lent.image = image(1, 7, &[0; 16]);
         let file = (LAID, &saved[..]);
         self.expect(Kind::Resume, settings, file, after, ended(7 + ticks));
+    }
+
+    /// The same of a task, equalised and laid out too: the window is the
+    /// shortest, and SKIPs fill it where the step is not the longest.
+    fn lasts_prepared(&mut self, numbers: &Settings, step: &Record, ticks: u32) {
+        let settings = numbers.bytes();
+        let room = |call: &mut Call| call.lent.out = vec![9; 12];
+        for form in [TASK, EQUALISED] {
+            let time = Answer::Time(ticks);
+            self.expect(Kind::Time, &settings, (form, step), |_| {}, time);
+        }
+        let (bytes, time) = (12, ticks);
+        let equal = Answer::Written { bytes, time };
+        self.expect(Kind::Equalise, &settings, (TASK, step), room, equal);
+        let (beat_ticks, save_ticks) = (u32::from(numbers.beat), u32::from(numbers.save));
+        let longest = [numbers.set, numbers.read, numbers.write].map(u32::from);
+        let longest = longest.into_iter().chain([numbers.multiply_ticks()]).max();
+        let rest = longest.map_or(0, |longest| longest - ticks);
+        let window = beat_ticks + save_ticks + ticks + rest;
+        let left = MOST_PERIOD - window - beat_ticks;
+        let filled = if rest > 0 {
+            vec![skip(rest)]
+        } else {
+            Vec::new()
+        };
+        let last = vec![beat(left.div_ceil(window))];
+        let laid = [vec![beat(1), save(), *step], filled, last].concat();
+        let numbers = numbers.with_window(window);
+        self.laid(&numbers, step, &laid.concat(), window + beat_ticks);
     }
 
     /// SAVEs stand at the multiples of K x H, whatever the low byte of K.
