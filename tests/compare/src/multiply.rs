@@ -37,7 +37,7 @@ pub fn part(comparer: &mut Comparer, seed: u64) {
     multiply.every_stop();
 }
 
-const PRODUCT: [u8; 2] = [MULTIPLY, MULTIPLY + VARIABLE];
+const PRODUCTS: [u8; 2] = [MULTIPLY, MULTIPLY + VARIABLE];
 const OTHERS: [u8; 6] = [
     COPY,
     ADD,
@@ -75,7 +75,7 @@ impl Multiply<'_> {
     fn waits(&mut self) {
         let opening = [beat(1), save(), skip(20), read(0, 0)];
         let task = |step| [skip(20), read(0, 0), step, write(1, 0)];
-        for operation in PRODUCT {
+        for operation in PRODUCTS {
             let step = of(operation);
             let rest = [skip(4), beat(1), step, write(1, 0), skip(14), beat(23)];
             self.prepared(&task(step), &[&opening[..], &rest].concat(), 83);
@@ -98,7 +98,7 @@ impl Multiply<'_> {
     /// sides go from tick 14 to 34.
     fn sides(&mut self) {
         let choice = test(IF, EQUAL, 0, 0);
-        for (product, other) in PRODUCT.into_iter().flat_map(|p| OTHERS.map(|o| (p, o))) {
+        for (product, other) in PRODUCTS.into_iter().flat_map(|p| OTHERS.map(|o| (p, o))) {
             let (product, other) = (of(product), of(other));
             let first = [choice, product, otherwise(), other, end()];
             let equal_first = [choice, product, otherwise(), other, skip(17), end()];
@@ -112,7 +112,7 @@ impl Multiply<'_> {
             }
         }
         // Sides of one length need no SKIP.
-        let [product, square] = PRODUCT.map(of);
+        let [product, square] = PRODUCTS.map(of);
         let task = [choice, product, otherwise(), square, end()];
         self.writes(Kind::Equalise, &task, &task, 21);
     }
@@ -121,11 +121,9 @@ impl Multiply<'_> {
     /// the first round is from tick 13 to 34. The second tests at 34, and its
     /// multiply waits from 35 to 40; it ends at 63.
     fn rounds(&mut self) {
-        for (operation, ticks) in PRODUCT
-            .map(|o| (o, 20))
-            .into_iter()
-            .chain(OTHERS.map(|o| (o, 3)))
-        {
+        let products = PRODUCTS.map(|operation| (operation, 20));
+        let others = OTHERS.map(|operation| (operation, 3));
+        for (operation, ticks) in products.into_iter().chain(others) {
             let step = of(operation);
             let task = [repeat(WHILE, ABOVE, 0, 0, 2), step, end()];
             let choice = test(IF, ABOVE, 0, 0);

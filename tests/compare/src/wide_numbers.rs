@@ -117,29 +117,35 @@ impl Wide<'_> {
             narrow.with_multiply(65_535),
         ];
         for numbers in all {
+            let settings = numbers.bytes();
             for (step, ticks) in steps(&numbers) {
-                self.lasts(&numbers.bytes(), &step, ticks);
+                for form in [TASK, EQUALISED] {
+                    self.lasts(&settings, (form, &step), ticks);
+                }
+                self.lasts_laid(&settings, &step, ticks);
                 self.lasts_prepared(&numbers, &step, ticks);
             }
-            for command in [(beat(3), numbers.beat), (save(), numbers.save)] {
-                self.lasts(&numbers.bytes(), &command.0, command.1.into());
+            for (command, ticks) in [(beat(3), numbers.beat), (save(), numbers.save)] {
+                self.lasts_laid(&settings, &command, ticks.into());
             }
             // Relations have the numbers of operations too.
             for relation in [MULTIPLY, MULTIPLY + VARIABLE] {
                 let sides = bytes(&[test(IF, relation, 3, 3), otherwise(), end()]);
-                self.lasts(&numbers.bytes(), &sides, 1);
+                self.lasts_laid(&settings, &sides, 1);
             }
         }
     }
 
     /// A file of one step, in every call that counts its ticks.
-    fn lasts(&mut self, settings: &[u8], step: &[u8], ticks: u32) {
+    fn lasts(&mut self, settings: &[u8], file: (u8, &[u8]), ticks: u32) {
         let overran = false;
-        let ended = |tick| Answer::Ended { tick, overran };
-        let file = (LAID, step);
+        let ended = Answer::Ended {
+            tick: ticks,
+            overran,
+        };
         self.expect(Kind::Time, settings, file, |_| {}, Answer::Time(ticks));
         for kind in [Kind::Run, Kind::Restart] {
-            self.expect(kind, settings, file, |_| {}, ended(ticks));
+            self.expect(kind, settings, file, |_| {}, ended.clone());
         }
         let (tick, saved) = (ticks - 1, false);
         let cut = Answer::Stopped { tick, saved };
@@ -147,39 +153,36 @@ impl Wide<'_> {
         self.expect(kind, settings, file, |call| call.stop = tick, cut);
         let past = Answer::refused(12);
         self.expect(kind, settings, file, |call| call.stop = ticks, past);
-        let saved = [&save(), step].concat();
-        let after = |call: &mut Call| call.lent.image = image(1, 7, &[0; 16]);
-        let file = (LAID, &saved[..]);
-        self.expect(Kind::Resume, settings, file, after, ended(7 + ticks));
     }
 
-    /// The same of a task, equalised and laid out too: the window is the
-    /// shortest, and SKIPs fill it where the step is not the longest.
+    /// The same of a laid file, which is taken up before the step too.
+    fn lasts_laid(&mut self, settings: &[u8], step: &[u8], ticks: u32) {
+        self.lasts(settings, (LAID, step), ticks);
+        let (tick, overran) = (7 + ticks, false);
+        let saved = [&save(), step].concat();
+        let after = |call: &mut Call| call.lent.image = image(1, 7, &[0; 16]);
+        let ended = Answer::Ended { tick, overran };
+        self.expect(Kind::Resume, settings, (LAID, &saved), after, ended);
+    }
+
+    /// A task of one step, equalised, and laid out in the shortest window: SKIPs
+    /// fill it where the step is not the longest.
     fn lasts_prepared(&mut self, numbers: &Settings, step: &Record, ticks: u32) {
         let settings = numbers.bytes();
         let room = |call: &mut Call| call.lent.out = vec![9; 12];
-        for form in [TASK, EQUALISED] {
-            let time = Answer::Time(ticks);
-            self.expect(Kind::Time, &settings, (form, step), |_| {}, time);
-        }
         let (bytes, time) = (12, ticks);
         let equal = Answer::Written { bytes, time };
         self.expect(Kind::Equalise, &settings, (TASK, step), room, equal);
-        let (beat_ticks, save_ticks) = (u32::from(numbers.beat), u32::from(numbers.save));
-        let longest = [numbers.set, numbers.read, numbers.write].map(u32::from);
-        let longest = longest.into_iter().chain([numbers.multiply_ticks()]).max();
-        let rest = longest.map_or(0, |longest| longest - ticks);
-        let window = beat_ticks + save_ticks + ticks + rest;
-        let left = MOST_PERIOD - window - beat_ticks;
-        let filled = if rest > 0 {
-            vec![skip(rest)]
-        } else {
-            Vec::new()
-        };
-        let last = vec![beat(left.div_ceil(window))];
-        let laid = [vec![beat(1), save(), *step], filled, last].concat();
+        let (window, beat_ticks) = (numbers.least_window(), u32::from(numbers.beat));
+        let rest = window - beat_ticks - u32::from(numbers.save) - ticks;
+        let total = window + beat_ticks;
+        let last = beat((MOST_PERIOD - total).div_ceil(window));
+        let mut laid = vec![beat(1), save(), *step, skip(rest), last];
+        if rest == 0 {
+            laid.remove(3);
+        }
         let numbers = numbers.with_window(window);
-        self.laid(&numbers, step, &laid.concat(), window + beat_ticks);
+        self.laid(&numbers, step, &laid.concat(), total);
     }
 
     /// SAVEs stand at the multiples of K x H, whatever the low byte of K.
