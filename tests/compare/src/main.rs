@@ -79,7 +79,7 @@ const PARTS: [(&str, Part); 9] = [
     ("order", |comparer, seed| order::part(comparer, seed, 7000)),
     ("watcher", |comparer, seed| {
         watcher::part(comparer, seed, 400);
-        steady::part(comparer, seed, 570);
+        steady::part(comparer, seed, 525);
     }),
     ("wide", |comparer, seed| {
         limits_of_settings::part(comparer, seed);
