@@ -27,8 +27,8 @@ static const uint8_t task[] = {
 // SET, READ, WRITE and BEAT take 3 ticks and SAVE 10; every 4th window of 20 has a SAVE; the period is 200.
 static const uint8_t settings[RACK_SETTINGS] = {3, 3, 3, 3, 10, 4, 20, 0, 200, 0, 0, 0};
 
-// The same numbers in the wide form.
-static const uint8_t wide[RACK_WIDE_SETTINGS] = {3, 0, 3, 0, 3, 0, 3, 0, 10, 0, 4, 0, 20, 0, 0, 0, 200, 0, 0, 0, 0, 0, 0, 0};
+// The same numbers in the wide form, whose last is the ticks of a SET that multiplies.
+static const uint8_t wide[RACK_WIDE_SETTINGS] = {3, 0, 3, 0, 3, 0, 3, 0, 10, 0, 4, 0, 20, 0, 0, 0, 200, 0, 0, 0, 3, 0, 0, 0};
 
 struct run {
     struct rack_state state;

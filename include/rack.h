@@ -7,9 +7,10 @@
 // Threads: there is no global data, and a call keeps nothing and uses no heap. Calls may be made from any threads at once, each with
 // buffers of its own.
 // Stack: measured on files nested as deep as may be, a call needs up to 18,224 bytes, and rack_prepare 27,536.
-// Settings: RACK_SETTINGS bytes or, where a number is wider, RACK_WIDE_SETTINGS; any other length is refused 6. Equal numbers give every call
-// the same answer and the same bytes in either form. Heartbeats, totals and taking up are as promised where a task is prepared, run and taken
-// up under settings of the same numbers. Those of other numbers are not refused: the file is then run as its records stand.
+// Settings: RACK_SETTINGS bytes or, where a number is wider or a multiply has its own ticks, RACK_WIDE_SETTINGS; any other length is refused
+// 6. Equal numbers give every call the same answer and the same bytes in either form. Heartbeats, totals and taking up are as promised where
+// a task is prepared, run and taken up under settings of the same numbers. Those of other numbers are not refused: the file is then run as
+// its records stand.
 //
 // A call answers one number.
 // Finished: bit 63 is 0. Bits 0 to 23 hold the first value, bits 24 to 55 the second, and bits 56 to 62 the flags: RACK_OVERRAN and
@@ -26,7 +27,7 @@ extern "C" {
 #endif
 
 // Raised with every change of a call, a number or a format.
-#define RACK_VERSION 3
+#define RACK_VERSION 4
 
 // The form of a file. Any other number is taken as laid.
 enum { RACK_TASK = 0, RACK_EQUALISED = 1, RACK_LAID = 2 };
@@ -55,8 +56,9 @@ enum {
 };
 
 // The bytes of settings, which have the ticks of SET, READ, WRITE, BEAT and SAVE, the spacing K, the window H and the period P. In
-// RACK_SETTINGS they are six numbers of one byte, one of two bytes and one of four; in RACK_WIDE_SETTINGS six of two bytes and two of four,
-// and then a zero of four. Each is at least 1, and H and P are at most 1,000,000.
+// RACK_SETTINGS they are six numbers of one byte, one of two bytes and one of four; in RACK_WIDE_SETTINGS six of two bytes and two of four.
+// The last four bytes of RACK_WIDE_SETTINGS are the ticks of a SET that multiplies, by a value or by a variable; RACK_SETTINGS have no such
+// number, and a multiply takes SET's ticks there. Each number is at least 1; H and P are at most 1,000,000, and a multiply at most 65,535.
 enum { RACK_SETTINGS = 12, RACK_WIDE_SETTINGS = 24 };
 
 // Lengths that a call asks for, in elements.

@@ -30,10 +30,10 @@ pub fn usual() -> Vec<u8> {
     settings(3, 3, 10, 4, 20)
 }
 
-/// The same numbers in two records.
+/// The same numbers in two records, the last of which is a multiply's.
 pub fn usual_wide() -> Vec<u8> {
     let small = [3u16, 3, 3, 3, 10, 4].map(u16::to_le_bytes);
-    let large = [20, PERIOD, 0].map(u32::to_le_bytes);
+    let large = [20, PERIOD, 3].map(u32::to_le_bytes);
     [small.concat(), large.concat()].concat()
 }
 

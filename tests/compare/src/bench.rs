@@ -17,6 +17,7 @@ pub const BENCH: Settings = Settings {
     spacing: 4,
     window: 20,
     period: 100,
+    multiply: None,
     wide: false,
 };
 

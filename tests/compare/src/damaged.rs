@@ -105,7 +105,7 @@ pub fn wrong_settings(random: &mut Random, settings: &Settings) -> Vec<u8> {
     let mut bytes = settings.bytes();
     let width = bytes.len() / 12;
     let limits = [0, 65_536, 1_000_000, 1_000_001, 1 << 24, 1 << 31, u32::MAX];
-    match random.below(7) {
+    match random.below(8) {
         0 => bytes.truncate(random.index(bytes.len())),
         1 => {
             let lengths = [13, 16, 23, 24, 25, 36, 12 + 256, 12 + 65_536, 24 + 65_536];
@@ -115,12 +115,21 @@ pub fn wrong_settings(random: &mut Random, settings: &Settings) -> Vec<u8> {
         3 => bytes[6 * width..8 * width].fill(0),
         4 => bytes = settings.with_period(random.pick(&limits)).bytes(),
         5 => bytes = settings.with_window(random.pick(&limits)).bytes(),
+        6 => bytes = settings.with_multiply(wrong_multiply(random)).bytes(),
         _ => {
             let last = bytes.len() - 1 - random.index(4);
             bytes[last] = random.pick(&[1, 128, 255]);
         }
     }
     bytes
+}
+
+/// Ticks of a multiply that are out of range, most of them in it again if only
+/// two of their bytes were looked at.
+pub fn wrong_multiply(random: &mut Random) -> u32 {
+    let good = random.between(1, MOST_MULTIPLY);
+    let high = random.pick(&[1 << 16, 1 << 17, 1 << 24, 1 << 31, 0xffff_0000]);
+    random.pick(&[0, 65_536, good + high, good + high, u32::MAX])
 }
 
 /// Makes one of the six small numbers 0.

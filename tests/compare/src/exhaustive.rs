@@ -9,7 +9,8 @@ use crate::random::Random;
 use crate::records::*;
 
 /// A window with 2 ticks left after BEAT and SAVE, so that waiting and
-/// splitting show in short tasks; in two records.
+/// splitting show in short tasks; in two records. A multiply is shorter than
+/// any other SET.
 const SMALL: Settings = Settings {
     set: 2,
     read: 1,
@@ -19,7 +20,16 @@ const SMALL: Settings = Settings {
     spacing: 2,
     window: 4,
     period: 60,
+    multiply: Some(1),
     wide: true,
+};
+
+/// A multiply is the longest step, and takes both of those ticks.
+const SLOW_MULTIPLY: Settings = Settings {
+    set: 1,
+    write: 1,
+    multiply: Some(2),
+    ..SMALL
 };
 
 pub fn part(comparer: &mut Comparer, seed: u64) {
@@ -28,6 +38,8 @@ pub fn part(comparer: &mut Comparer, seed: u64) {
     for task in words(&task_alphabet(), 3) {
         short_task(comparer, &mut random, &settings, &task);
     }
+    // After BEAT and SAVE a window has room for a multiply of 4, and 3 ticks.
+    let settings = BENCH.with_multiply(4).bytes();
     for file in words(&equalised_alphabet(), 3) {
         time(comparer, &mut random, &settings, EQUALISED, &file);
         transform(comparer, &mut random, Kind::LayOut, &settings, &file);
@@ -45,8 +57,14 @@ pub fn part(comparer: &mut Comparer, seed: u64) {
     for form in [TASK, EQUALISED, LAID] {
         fields(comparer, &mut random, &settings, form);
     }
-    for task in well_formed(6) {
-        whole_chain(comparer, &mut random, &task);
+    let (more, product) = (set(ADD, 0, 0, 1), set(MULTIPLY, 0, 0, 3));
+    for task in well_formed(6, &[skip(1), more, write(0, 1)]) {
+        whole_chain(comparer, &mut random, &SMALL, &task);
+    }
+    for task in well_formed(5, &[skip(1), more, product]) {
+        for settings in [SMALL, SLOW_MULTIPLY] {
+            whole_chain(comparer, &mut random, &settings, &task);
+        }
     }
 }
 
@@ -98,7 +116,7 @@ fn common() -> Vec<Record> {
         skip(1),
         skip(3),
         set(COPY, 1, 0, 9),
-        set(ADD + VARIABLE, 1, 1, 0),
+        set(MULTIPLY + VARIABLE, 1, 1, 0),
         read(0, 0),
         write(1, 0),
         test(IF, EQUAL, 0, 0),
@@ -140,17 +158,15 @@ fn words(alphabet: &[Record], longest: usize) -> Vec<Vec<u8>> {
     all
 }
 
-/// All well-formed tasks of up to `longest` records over fewer records.
-fn well_formed(longest: usize) -> Vec<Vec<u8>> {
-    let alphabet = [
-        skip(1),
-        set(ADD, 0, 0, 1),
-        write(0, 1),
+/// All well-formed tasks of up to `longest` records: these steps in blocks.
+fn well_formed(longest: usize, steps: &[Record]) -> Vec<Vec<u8>> {
+    let blocks = [
         test(IF, EQUAL, 0, 0),
         otherwise(),
         end(),
         repeat(WHILE, BELOW, 0, 2, 2),
     ];
+    let alphabet = [steps, &blocks].concat();
     let mut found = Vec::new();
     grow(&alphabet, longest, &mut Vec::new(), &[], &mut found);
     found
@@ -248,9 +264,9 @@ fn run_and_stop(
     }
 }
 
-fn whole_chain(comparer: &mut Comparer, random: &mut Random, task: &[u8]) {
+fn whole_chain(comparer: &mut Comparer, random: &mut Random, numbers: &Settings, task: &[u8]) {
     let set = zeros();
-    let Some(prepared) = prepare(comparer, random, &SMALL, task) else {
+    let Some(prepared) = prepare(comparer, random, numbers, task) else {
         return;
     };
     let Some(whole) = prepared.run_all(comparer, random, &set) else {

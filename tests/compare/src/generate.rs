@@ -21,15 +21,20 @@ pub fn settings(random: &mut Random) -> Settings {
     match random.below(8) {
         0 => large(random),
         1 | 2 => slow(random),
+        3 => few_ticks(random, true),
         _ => small(random),
     }
 }
 
 /// Numbers that one record holds.
 pub fn small(random: &mut Random) -> Settings {
+    few_ticks(random, false)
+}
+
+fn few_ticks(random: &mut Random, own_multiply: bool) -> Settings {
     let numbers = Settings {
         spacing: random.pick(&[1, 1, 2, 2, 3, 3, 7, 255]),
-        ..of_ticks(random, |random| match random.below(40) {
+        ..of_ticks(random, own_multiply, |random| match random.below(40) {
             0 => 255,
             1 => random.between(1, 255),
             _ => random.between(1, 6),
@@ -49,7 +54,7 @@ pub fn small(random: &mut Random) -> Settings {
 fn slow(random: &mut Random) -> Settings {
     let numbers = Settings {
         spacing: random.pick(&[1, 1, 2, 3, 255, 256, 257, 65_535]),
-        ..of_ticks(random, |random| match random.below(4) {
+        ..of_ticks(random, true, |random| match random.below(4) {
             0 => random.pick(&[255, 256, 257, 512, 900]),
             1 => random.between(200, 1200),
             _ => random.between(1, 6),
@@ -68,7 +73,7 @@ fn slow(random: &mut Random) -> Settings {
 fn large(random: &mut Random) -> Settings {
     let numbers = Settings {
         spacing: random.pick(&[1, 1, 2, 3, 256, 16_385, 32_769, 65_535]),
-        ..of_ticks(random, |random| match random.below(8) {
+        ..of_ticks(random, true, |random| match random.below(8) {
             0 => 65_535,
             1 | 2 => random.between(1, 65_535),
             3 => random.between(250, 10_000),
@@ -88,10 +93,10 @@ fn large(random: &mut Random) -> Settings {
 /// Settings of such ticks, with a period that suits them, at times in two
 /// records where one would do. The spacing and the window are still to be
 /// chosen.
-fn of_ticks(random: &mut Random, ticks: fn(&mut Random) -> u32) -> Settings {
+fn of_ticks(random: &mut Random, own_multiply: bool, any: fn(&mut Random) -> u32) -> Settings {
     let wide = random.chance(1, 3);
-    let mut ticks = || ticks(random) as u16;
-    let numbers = Settings {
+    let mut ticks = || any(random) as u16;
+    let mut numbers = Settings {
         set: ticks(),
         read: ticks(),
         write: ticks(),
@@ -100,10 +105,26 @@ fn of_ticks(random: &mut Random, ticks: fn(&mut Random) -> u32) -> Settings {
         spacing: 1,
         window: 1,
         period: 1,
+        multiply: None,
         wide,
     };
+    if own_multiply {
+        let any = any(random);
+        numbers.multiply = Some(multiply_ticks(random, &numbers, any));
+    }
     let longest = with_room(&numbers).period;
     numbers.with_period(random.between(1, longest))
+}
+
+/// As many as SET's, the fewest, more than any other step's, or any.
+fn multiply_ticks(random: &mut Random, numbers: &Settings, any: u32) -> u32 {
+    let longest = numbers.set.max(numbers.read).max(numbers.write);
+    match random.below(6) {
+        0 => numbers.set.into(),
+        1 => 1,
+        2 | 3 => MOST_MULTIPLY.min(u32::from(longest) + random.between(1, 20)),
+        _ => any,
+    }
 }
 
 /// The same settings, with a period that holds most files of `file`.
@@ -114,8 +135,8 @@ pub fn with_room(settings: &Settings) -> Settings {
 
 /// By how much files are longer than those of steps of a few ticks.
 fn slowness(settings: &Settings) -> u64 {
-    let steps = [settings.set, settings.read, settings.write];
-    let sum: u64 = steps.into_iter().map(u64::from).sum();
+    let steps = [settings.set, settings.read, settings.write].map(u64::from);
+    let sum = steps.into_iter().sum::<u64>() + u64::from(settings.multiply_ticks());
     (sum / 20).max(1)
 }
 

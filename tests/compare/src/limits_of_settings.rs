@@ -2,10 +2,12 @@
 //! and past them, in both forms and for every call that is handed settings,
 //! each with the answer that the paper gives.
 
+use crate::bench::BENCH;
 use crate::call::{Answer, Call, Kind};
 use crate::comparer::Comparer;
 use crate::random::Random;
 use crate::records::*;
+use crate::wide::RIVER;
 
 pub fn part(comparer: &mut Comparer, seed: u64) {
     let random = Random::new(seed);
@@ -17,6 +19,8 @@ pub fn part(comparer: &mut Comparer, seed: u64) {
     row.windows();
     row.periods();
     row.last_number();
+    row.old_settings();
+    row.longest_step();
 }
 
 /// The smallest numbers under which a file is laid out.
@@ -29,6 +33,7 @@ const LEAST: Settings = Settings {
     spacing: 1,
     window: 3,
     period: 100,
+    multiply: None,
     wide: false,
 };
 
@@ -43,6 +48,7 @@ fn in_range(numbers: &Settings) -> bool {
     SMALL_NUMBERS.iter().all(|place| *place(&mut numbers) > 0)
         && (1..=MOST_WINDOW).contains(&window)
         && (1..=MOST_PERIOD).contains(&period)
+        && (1..=MOST_MULTIPLY).contains(&numbers.multiply_ticks())
 }
 
 /// What a call answers on a file without records, by the numbers alone.
@@ -142,6 +148,7 @@ impl Row<'_> {
             spacing: 1,
             window: 2000,
             period: 50_000,
+            multiply: None,
             wide: true,
         };
         let one = Settings {
@@ -153,6 +160,7 @@ impl Row<'_> {
             spacing: 4,
             window: 20,
             period: 65_636,
+            multiply: None,
             wide: false,
         };
         let settings = two.bytes();
@@ -171,11 +179,14 @@ impl Row<'_> {
         for number in 0..=5 {
             self.numbers(&LEAST.with_window(number));
             self.numbers(&LEAST.with_period(number));
+            self.numbers(&LEAST.with_multiply(number));
         }
     }
 
     /// Each number about the edge of a byte and at its largest, in windows that
-    /// are long, just long enough and just too short; then all of them.
+    /// are long, just long enough and just too short; then all of them. A
+    /// multiply takes SET's ticks, many while SET takes 1, or 1 while SET takes
+    /// many.
     fn ticks_and_spacings(&mut self) {
         let long = LEAST.with_period(MOST_PERIOD);
         let mut all = Vec::new();
@@ -187,7 +198,9 @@ impl Row<'_> {
                 *place(&mut every) = number;
                 all.push(single);
             }
-            all.push(every);
+            let set = number;
+            let quick = Settings { set, ..long }.with_multiply(1);
+            all.extend([every, long.with_multiply(number.into()), quick]);
         }
         for numbers in all {
             let least = numbers.least_window();
@@ -198,7 +211,8 @@ impl Row<'_> {
     }
 
     /// Windows about the edges of two bytes and of the range, far ones whose low
-    /// bytes would be good, and periods about each.
+    /// bytes would be good, and periods about each. The longest multiply needs a
+    /// window of 65,537.
     fn windows(&mut self) {
         const ABOUT: [u32; 8] = [
             4, 65_535, 65_536, 65_539, 500_000, 999_998, 999_999, 1_000_000,
@@ -222,8 +236,9 @@ impl Row<'_> {
                 window + 2,
                 MOST_PERIOD,
             ] {
-                let numbers = LEAST.with_window(window);
-                self.numbers(&numbers.with_period(period));
+                let numbers = LEAST.with_window(window).with_period(period);
+                self.numbers(&numbers);
+                self.numbers(&numbers.with_multiply(MOST_MULTIPLY));
             }
         }
         for window in PAST {
@@ -248,13 +263,81 @@ impl Row<'_> {
         }
     }
 
-    /// The zero, with a bit in each of its bytes.
+    /// The ticks of a multiply: at the limits, and numbers past them that would
+    /// be good if fewer of their bytes were looked at.
     fn last_number(&mut self) {
-        for place in 20..WIDE_SETTINGS {
-            for byte in [1, 100, 128, 255] {
-                let mut settings = LEAST.two_records();
-                settings[place] = byte;
-                self.refused(&settings);
+        const TAKEN: [u32; 8] = [1, 2, 255, 256, 257, 65_280, 65_534, 65_535];
+        const PAST: [u32; 9] = [
+            0,
+            65_536,
+            65_537,
+            1 + (1 << 17),
+            1 + (1 << 24),
+            1 << 31,
+            1 + (1 << 31),
+            65_535 + (1 << 24),
+            u32::MAX,
+        ];
+        let long = LEAST.with_window(70_000).with_period(MOST_PERIOD);
+        for ticks in TAKEN {
+            self.taken(&long.with_multiply(ticks).two_records(), &long);
+        }
+        for ticks in PAST {
+            for numbers in [LEAST, long] {
+                self.refused(&numbers.with_multiply(ticks).two_records());
+            }
+        }
+    }
+
+    /// Two records that end in a zero, as they all did before a multiply had
+    /// ticks of its own.
+    fn old_settings(&mut self) {
+        for numbers in [LEAST, BENCH, RIVER] {
+            self.refused(&numbers.with_multiply(0).two_records());
+        }
+    }
+
+    /// A window must hold BEAT and SAVE, 7 ticks here, and the longest step of 9,
+    /// whether the file has such a step or not: a multiply, or any other SET
+    /// where a multiply is shorter.
+    fn longest_step(&mut self) {
+        let numbers = Settings {
+            set: 3,
+            read: 2,
+            write: 4,
+            beat: 2,
+            save: 5,
+            ..LEAST
+        };
+        let slow = numbers.with_multiply(9);
+        let quick = Settings { set: 9, ..numbers }.with_multiply(1);
+        let (sum, product) = (set(ADD, 0, 0, 2), set(MULTIPLY, 0, 0, 2));
+        let square = set(MULTIPLY + VARIABLE, 0, 0, 0);
+        for (numbers, long, short) in [
+            (slow, vec![product, square], sum),
+            (quick, vec![sum], product),
+        ] {
+            self.in_windows(&numbers, &[], 48);
+            // A shorter step is followed by SKIPs, the longest by none.
+            self.in_windows(&numbers, &[short], 60);
+            for step in long {
+                self.in_windows(&numbers, &[step], 48);
+            }
+        }
+    }
+
+    /// A file of at most one step, in a window of 15 and in one of 16.
+    fn in_windows(&mut self, numbers: &Settings, file: &[Record], bytes_written: usize) {
+        let laid = Answer::Written {
+            bytes: bytes_written,
+            time: 18,
+        };
+        for (window, expected) in [(15, Answer::refused(7)), (16, laid)] {
+            let (settings, file) = (numbers.with_window(window).bytes(), bytes(file));
+            for kind in [Kind::LayOut, Kind::Prepare] {
+                let call = Call::new(kind, &settings, TASK, &file, &mut self.random);
+                let call = call.with_out(60, &mut self.random);
+                self.comparer.expect(&call, expected.clone());
             }
         }
     }

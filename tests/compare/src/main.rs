@@ -17,6 +17,7 @@ mod limits;
 mod limits_of_files;
 mod limits_of_settings;
 mod listing;
+mod multiply;
 mod order;
 mod paper;
 mod preparing;
@@ -78,11 +79,12 @@ const PARTS: [(&str, Part); 9] = [
     ("order", |comparer, seed| order::part(comparer, seed, 7000)),
     ("watcher", |comparer, seed| {
         watcher::part(comparer, seed, 400);
-        steady::part(comparer, seed, 450);
+        steady::part(comparer, seed, 525);
     }),
     ("wide", |comparer, seed| {
         limits_of_settings::part(comparer, seed);
         wide_numbers::part(comparer, seed);
+        multiply::part(comparer, seed);
         wide::part(comparer, seed, 10_000);
     }),
 ];

@@ -4,7 +4,7 @@
 use crate::buffers::wrong_lengths;
 use crate::call::{Answer, Call, Kind};
 use crate::comparer::Comparer;
-use crate::damaged::{damage, wrong_settings, zero};
+use crate::damaged::{damage, wrong_multiply, wrong_settings, zero};
 use crate::generate::{self, set_of_values};
 use crate::random::Random;
 use crate::records::*;
@@ -105,7 +105,9 @@ fn break_settings(random: &mut Random, settings: &mut Vec<u8>) {
         1 => settings.truncate(settings.len() - 1),
         2 => settings.push(0),
         3 => zero(settings, random.index(6)),
-        4 if settings.len() == WIDE_SETTINGS => settings[20 + random.index(4)] = 1,
+        4 if settings.len() == WIDE_SETTINGS => {
+            settings[20..].copy_from_slice(&wrong_multiply(random).to_le_bytes());
+        }
         _ => {
             let at = period_place(settings);
             settings[at..at + 4].copy_from_slice(&1_000_001u32.to_le_bytes());
@@ -117,7 +119,14 @@ fn break_settings(random: &mut Random, settings: &mut Vec<u8>) {
 /// them and perhaps a wrong length.
 fn faulty_file(random: &mut Random, form: u8, parts: u64, fault: &mut Fault) -> Vec<u8> {
     let mut file = vec![if form == LAID { save() } else { skip(2) }];
-    let steps = [skip(5), read(1, 1), set(ADD, 1, 1, 1), write(1, 2)];
+    let steps = [
+        skip(5),
+        read(1, 1),
+        set(ADD, 1, 1, 1),
+        set(MULTIPLY, 1, 1, 3),
+        set(MULTIPLY + VARIABLE, 1, 1, 2),
+        write(1, 2),
+    ];
     let length = 2 + random.index(12);
     file.extend((0..length).map(|_| random.pick(&steps)));
     let mut found: Fault = None;

@@ -5,6 +5,7 @@ use crate::bench::{factorial, lettered, BENCH};
 use crate::comparer::Comparer;
 use crate::damaged::{damage, wrong_settings};
 use crate::generate;
+use crate::multiply::{BOARDS_LISTING, BOARDS_SETTINGS, BOARDS_TASK};
 use crate::random::Random;
 use crate::records::*;
 use crate::wide::{RIVER_LISTING, RIVER_SETTINGS, RIVER_TASK};
@@ -95,8 +96,9 @@ fn edges(comparer: &mut Comparer, runs: &mut Runs) {
     }
 }
 
-/// The lettered tasks under both forms of their settings, and the river room's
-/// under its own, one byte short of them, and with bytes after them.
+/// The lettered tasks under both forms of their settings, the boards' under its
+/// own, and the river room's under its own, one byte short of them, and with
+/// bytes after them.
 fn two_records(comparer: &mut Comparer, runs: &mut Runs) {
     for (settings, task) in lettered() {
         let one = runs.compare(comparer, Some(&settings.bytes()), &task);
@@ -104,6 +106,10 @@ fn two_records(comparer: &mut Comparer, runs: &mut Runs) {
         if one != two {
             comparer.fault(&format!("listed otherwise in two records: {task:02x?}"));
         }
+    }
+    let printed = runs.compare(comparer, Some(BOARDS_SETTINGS), BOARDS_TASK);
+    if printed != BOARDS_LISTING {
+        comparer.fault(&format!("the boards' listing: {printed}"));
     }
     let longer = RIVER_SETTINGS.repeat(9);
     for length in [24, 23, 25, 26, 31, 32, 33, 36, 48, 216] {
@@ -146,7 +152,7 @@ fn every_kind(comparer: &mut Comparer, runs: &mut Runs) {
 fn every_refusal(comparer: &mut Comparer, runs: &mut Runs) {
     let long = BENCH.with_period(MOST_PERIOD);
     let rounds = [repeat(WHILE, EQUAL, 0, 0, 65_535), skip(1), end()];
-    let cases: [(u8, Settings, Vec<u8>); 11] = [
+    let cases: [(u8, Settings, Vec<u8>); 14] = [
         (1, BENCH, vec![1; 13]),
         (1, BENCH, bytes(&[skip(1); 257])),
         (2, BENCH, bytes(&[beat(1)])),
@@ -154,7 +160,10 @@ fn every_refusal(comparer: &mut Comparer, runs: &mut Runs) {
         (4, BENCH, bytes(&[end()])),
         (5, BENCH, bytes(&[test(IF, EQUAL, 0, 0); 9])),
         (6, BENCH.with_window(0), vec![]),
+        (6, BENCH.with_multiply(0), vec![]),
+        (6, BENCH.with_multiply(65_536), vec![]),
         (7, BENCH.with_window(15), vec![]),
+        (7, BENCH.with_multiply(8), vec![]),
         (8, BENCH, bytes(&[skip(101)])),
         (8, BENCH.with_window(15), bytes(&[skip(101)])),
         (9, long, bytes(&rounds)),

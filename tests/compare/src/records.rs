@@ -40,6 +40,7 @@ pub const MOST_TASK_RECORDS: usize = 256;
 pub const MOST_BYTES: usize = 12 * MOST_RECORDS;
 pub const MOST_PERIOD: u32 = 1_000_000;
 pub const MOST_WINDOW: u32 = 1_000_000;
+pub const MOST_MULTIPLY: u32 = 65_535;
 
 /// The bytes of settings in two records.
 pub const WIDE_SETTINGS: usize = 24;
@@ -144,6 +145,9 @@ pub struct Settings {
     pub spacing: u16,
     pub window: u32,
     pub period: u32,
+    /// The ticks of a multiply; none where they are SET's. Only two records
+    /// hold others, and numbers past the range too.
+    pub multiply: Option<u32>,
     /// In two records, also where the numbers fit into one.
     pub wide: bool,
 }
@@ -179,8 +183,17 @@ impl Settings {
         [set, read, write, beat, save, spacing]
     }
 
-    /// The narrow form, where every number fits.
+    /// The ticks of a SET with operation 3 or 19.
+    pub fn multiply_ticks(&self) -> u32 {
+        self.multiply.unwrap_or(self.set.into())
+    }
+
+    /// The narrow form, where every number fits and a multiply takes SET's
+    /// ticks.
     pub fn one_record(&self) -> Option<Record> {
+        if self.multiply_ticks() != u32::from(self.set) {
+            return None;
+        }
         let mut bytes = [0; 12];
         for (byte, number) in bytes.iter_mut().zip(self.small()) {
             *byte = number.try_into().ok()?;
@@ -194,7 +207,7 @@ impl Settings {
     /// The wide form.
     pub fn two_records(&self) -> Vec<u8> {
         let small = self.small().into_iter().flat_map(u16::to_le_bytes);
-        let large = [self.window, self.period, 0]
+        let large = [self.window, self.period, self.multiply_ticks()]
             .into_iter()
             .flat_map(u32::to_le_bytes);
         small.chain(large).collect()
@@ -208,10 +221,16 @@ impl Settings {
         Settings { window, ..*self }
     }
 
+    pub fn with_multiply(&self, ticks: u32) -> Settings {
+        let multiply = Some(ticks);
+        Settings { multiply, ..*self }
+    }
+
     /// The smallest window that laying out takes.
     pub fn least_window(&self) -> u32 {
-        let longest = self.set.max(self.read).max(self.write);
-        u32::from(self.beat) + u32::from(self.save) + u32::from(longest)
+        let longest = u32::from(self.set.max(self.read).max(self.write));
+        let longest = longest.max(self.multiply_ticks());
+        u32::from(self.beat) + u32::from(self.save) + longest
     }
 
     /// K x H, which may be above 2^32.
@@ -224,6 +243,7 @@ impl Settings {
     pub fn ticks(&self, record: &Record) -> u32 {
         match record[0] {
             SKIP => number(record, 8),
+            SET if [MULTIPLY, MULTIPLY + VARIABLE].contains(&record[1]) => self.multiply_ticks(),
             SET => self.set.into(),
             READ => self.read.into(),
             WRITE => self.write.into(),

@@ -192,16 +192,19 @@ impl Control {
     /// One of the numbers is another in two records: only the comparison of
     /// both forms can tell.
     fn forms(&mut self, settings: &Settings) {
+        let multiply = settings.multiply_ticks();
         let more = |place: &fn(&mut Settings) -> &mut u16| {
-            let mut other = *settings;
+            let mut other = settings.with_multiply(multiply);
             *place(&mut other) += 1;
             other
         };
         let window = settings.with_window(settings.window + 1);
         // A period longer by a window, since less may not show.
         let period = settings.with_period(settings.period + settings.window);
+        let multiply = settings.with_multiply(multiply + 1);
+        let large = [window, period, multiply];
         let told = |other: &Settings| told_apart(settings, other, &factorial());
-        for other in SMALL_NUMBERS.iter().map(more).chain([window, period]) {
+        for other in SMALL_NUMBERS.iter().map(more).chain(large) {
             self.tried += 1;
             self.missed += u64::from(told(settings) || !told(&other));
         }

@@ -52,7 +52,8 @@ fn full(random: &mut Random, settings: &Settings) -> Vec<Record> {
     let length = random.pick(&[255, 256, 256, 257]);
     while task.len() < length {
         let port = random.between(0, 7) as u8;
-        task.push(random.pick(&[skip(1), skip(2), read(0, port), write(1, port)]));
+        let product = set(MULTIPLY, 2, 2, 3);
+        task.push(random.pick(&[skip(1), skip(2), read(0, port), write(1, port), product]));
     }
     task
 }
@@ -190,6 +191,7 @@ const QUICK: Settings = Settings {
     spacing: 1,
     window: 65_535,
     period: MOST_PERIOD,
+    multiply: None,
     wide: false,
 };
 

@@ -11,7 +11,8 @@ use crate::generate::{self, set_of_values};
 use crate::random::Random;
 use crate::records::*;
 
-const RIVER: Settings = Settings {
+/// The river boards also multiply slowly, but the task multiplies nothing.
+pub const RIVER: Settings = Settings {
     set: 3,
     read: 3,
     write: 900,
@@ -20,6 +21,7 @@ const RIVER: Settings = Settings {
     spacing: 2,
     window: 1000,
     period: 10_000,
+    multiply: Some(20),
     wide: true,
 };
 

@@ -31,6 +31,7 @@ const QUICK: Settings = Settings {
     spacing: 1,
     window: 4,
     period: MOST_PERIOD,
+    multiply: None,
     wide: true,
 };
 
@@ -44,6 +45,36 @@ const CROWDED: Settings = Settings {
 struct Wide<'a> {
     comparer: &'a mut Comparer,
     random: Random,
+}
+
+/// The ticks of SET, READ, WRITE, BEAT and SAVE, in two records.
+fn of_ticks([set, read, write, beat, save]: [u16; 5]) -> Settings {
+    Settings {
+        set,
+        read,
+        write,
+        beat,
+        save,
+        ..QUICK
+    }
+}
+
+/// A step of each operation, a READ and a WRITE, with their ticks. The numbers
+/// of multiplying stand in other places of each.
+fn steps(numbers: &Settings) -> Vec<(Record, u32)> {
+    let (sets, multiply) = (numbers.set.into(), numbers.multiply_ticks());
+    vec![
+        (set(COPY, 3, 0, 3), sets),
+        (set(ADD, 3, 3, 19), sets),
+        (set(SUBTRACT, 3, 3, 19), sets),
+        (set(MULTIPLY, 2, 1, 0), multiply),
+        (set(COPY + VARIABLE, 3, 0, 3), sets),
+        (set(ADD + VARIABLE, 3, 3, 3), sets),
+        (set(SUBTRACT + VARIABLE, 3, 3, 3), sets),
+        (set(MULTIPLY + VARIABLE, 2, 1, 0), multiply),
+        (read(3, 3), numbers.read.into()),
+        (write(3, 3), numbers.write.into()),
+    ]
 }
 
 fn form_of(kind: Kind, of_others: u8) -> u8 {
@@ -70,51 +101,51 @@ impl Wide<'_> {
 
     /// Each step takes the ticks in its own place, in either form.
     fn places(&mut self) {
-        let narrow = Settings {
-            set: 2,
-            read: 3,
-            write: 5,
-            beat: 7,
-            save: 11,
-            wide: false,
-            ..QUICK
-        };
-        let wide = Settings {
-            set: 258,
-            read: 515,
-            write: 772,
-            beat: 1029,
-            save: 1286,
-            ..QUICK
-        };
-        let slow = Settings {
-            set: 65_535,
-            read: 65_280,
-            write: 256,
-            beat: 255,
-            save: 32_768,
-            ..QUICK
-        };
-        let narrow_in_two = Settings {
-            wide: true,
-            ..narrow
-        };
-        for numbers in [narrow, narrow_in_two, wide, slow] {
-            let steps = [set(ADD, 0, 0, 1), read(0, 0), write(0, 0), beat(1), save()];
-            for step in steps {
-                self.lasts(&numbers.bytes(), step, numbers.ticks(&step));
+        let narrow = of_ticks([2, 3, 5, 7, 11]);
+        let wide = of_ticks([258, 515, 772, 1029, 1286]);
+        let slow = of_ticks([65_535, 65_280, 256, 255, 32_768]);
+        let all = [
+            Settings {
+                wide: false,
+                ..narrow
+            },
+            narrow,
+            narrow.with_multiply(13),
+            wide.with_multiply(1543),
+            slow,
+            slow.with_multiply(1),
+            narrow.with_multiply(65_535),
+        ];
+        for numbers in all {
+            let settings = numbers.bytes();
+            for (step, ticks) in steps(&numbers) {
+                for form in [TASK, EQUALISED] {
+                    self.lasts(&settings, (form, &step), ticks);
+                }
+                self.lasts_laid(&settings, &step, ticks);
+                self.lasts_prepared(&numbers, &step, ticks);
+            }
+            for (command, ticks) in [(beat(3), numbers.beat), (save(), numbers.save)] {
+                self.lasts_laid(&settings, &command, ticks.into());
+            }
+            // Relations have the numbers of operations too.
+            for relation in [MULTIPLY, MULTIPLY + VARIABLE] {
+                let sides = bytes(&[test(IF, relation, 3, 3), otherwise(), end()]);
+                self.lasts_laid(&settings, &sides, 1);
             }
         }
     }
 
-    /// One step, in every call that counts its ticks.
-    fn lasts(&mut self, settings: &[u8], step: Record, ticks: u32) {
+    /// A file of one step, in every call that counts its ticks.
+    fn lasts(&mut self, settings: &[u8], file: (u8, &[u8]), ticks: u32) {
         let overran = false;
-        let ended = |tick| Answer::Ended { tick, overran };
-        let file = (LAID, &step[..]);
+        let ended = Answer::Ended {
+            tick: ticks,
+            overran,
+        };
         self.expect(Kind::Time, settings, file, |_| {}, Answer::Time(ticks));
         for kind in [Kind::Run, Kind::Restart] {
-            self.expect(kind, settings, file, |_| {}, ended(ticks));
+            self.expect(kind, settings, file, |_| {}, ended.clone());
         }
         let (tick, saved) = (ticks - 1, false);
         let cut = Answer::Stopped { tick, saved };
@@ -122,10 +153,36 @@ impl Wide<'_> {
         self.expect(kind, settings, file, |call| call.stop = tick, cut);
         let past = Answer::refused(12);
         self.expect(kind, settings, file, |call| call.stop = ticks, past);
-        let saved = bytes(&[save(), step]);
+    }
+
+    /// The same of a laid file, which is taken up before the step too.
+    fn lasts_laid(&mut self, settings: &[u8], step: &[u8], ticks: u32) {
+        self.lasts(settings, (LAID, step), ticks);
+        let (tick, overran) = (7 + ticks, false);
+        let saved = [&save(), step].concat();
         let after = |call: &mut Call| call.lent.image = image(1, 7, &[0; 16]);
-        let file = (LAID, &saved[..]);
-        self.expect(Kind::Resume, settings, file, after, ended(7 + ticks));
+        let ended = Answer::Ended { tick, overran };
+        self.expect(Kind::Resume, settings, (LAID, &saved), after, ended);
+    }
+
+    /// A task of one step, equalised, and laid out in the shortest window: SKIPs
+    /// fill it where the step is not the longest.
+    fn lasts_prepared(&mut self, numbers: &Settings, step: &Record, ticks: u32) {
+        let settings = numbers.bytes();
+        let room = |call: &mut Call| call.lent.out = vec![9; 12];
+        let (bytes, time) = (12, ticks);
+        let equal = Answer::Written { bytes, time };
+        self.expect(Kind::Equalise, &settings, (TASK, step), room, equal);
+        let (window, beat_ticks) = (numbers.least_window(), u32::from(numbers.beat));
+        let rest = window - beat_ticks - u32::from(numbers.save) - ticks;
+        let total = window + beat_ticks;
+        let last = beat((MOST_PERIOD - total).div_ceil(window));
+        let mut laid = vec![beat(1), save(), *step, skip(rest), last];
+        if rest == 0 {
+            laid.remove(3);
+        }
+        let numbers = numbers.with_window(window);
+        self.laid(&numbers, step, &laid.concat(), total);
     }
 
     /// SAVEs stand at the multiples of K x H, whatever the low byte of K.

@@ -13,6 +13,8 @@ const MOST_PORT: u8 = 7;
 /// Added to byte 1 when the right value numbers a variable.
 const BY_VARIABLE: u8 = 16;
 
+const MULTIPLY: u8 = 3;
+
 #[derive(Clone, Copy, PartialEq, Eq, Debug)]
 #[repr(u8)]
 pub(crate) enum Kind {
@@ -124,7 +126,7 @@ impl Record {
         let copies = self.operation() == 0;
         let left_good =
             if copies { self.three == 0 } else { u32::from(self.three) <= MOST_VARIABLE };
-        self.operation() <= 3
+        self.operation() <= MULTIPLY
             && u32::from(self.two) <= MOST_VARIABLE
             && left_good
             && self.right_good()
@@ -152,6 +154,11 @@ impl Record {
     /// The operation or relation, without the mark for a variable.
     fn operation(&self) -> u8 {
         self.one & !BY_VARIABLE
+    }
+
+    /// Whether a SET multiplies, by a value or by a variable.
+    pub(crate) fn multiplies(&self) -> bool {
+        self.operation() == MULTIPLY
     }
 
     /// The right value of a SET or a test.

@@ -5,9 +5,12 @@ use crate::Refused;
 
 const MOST_WINDOW: u32 = 1_000_000;
 const MOST_PERIOD: u32 = 1_000_000;
+const MOST_MULTIPLY: u32 = 65_535;
 
 pub(crate) struct Settings {
+    /// A SET of any operation but multiply.
     set: u32,
+    multiply: u32,
     read: u32,
     write: u32,
     pub beat: u32,
@@ -24,7 +27,7 @@ struct Numbers {
     small: [u32; 6],
     window: u32,
     period: u32,
-    zero: u32,
+    multiply: u32,
 }
 
 impl Numbers {
@@ -34,7 +37,7 @@ impl Numbers {
             small: [set, read, write, beat, save, k].map(u32::from),
             window: u16::from_le_bytes([low, high]).into(),
             period: u32::from_le_bytes(period),
-            zero: 0,
+            multiply: set.into(),
         }
     }
 
@@ -44,14 +47,14 @@ impl Numbers {
             *number = u16::from_le_bytes(*bytes).into();
         }
         let large = |at: usize| u32::from_le_bytes(second.as_chunks().0[at]);
-        Numbers { small, window: large(0), period: large(1), zero: large(2) }
+        Numbers { small, window: large(0), period: large(1), multiply: large(2) }
     }
 
     fn good(&self) -> bool {
         self.small.iter().all(|&number| number != 0)
             && (1..=MOST_WINDOW).contains(&self.window)
             && (1..=MOST_PERIOD).contains(&self.period)
-            && self.zero == 0
+            && (1..=MOST_MULTIPLY).contains(&self.multiply)
     }
 }
 
@@ -65,9 +68,10 @@ impl Settings {
         if !numbers.good() {
             return Err(Refused::plain(6));
         }
-        let Numbers { small: [set, read, write, beat, save, k], window, period, .. } = numbers;
+        let Numbers { small: [set, read, write, beat, save, k], window, period, multiply } =
+            numbers;
         let spacing = u64::from(k) * u64::from(window);
-        Ok(Settings { set, read, write, beat, save, spacing, window, period })
+        Ok(Settings { set, multiply, read, write, beat, save, spacing, window, period })
     }
 
     /// The ticks of a record as a step; a test's for the kinds that hold one.
@@ -75,6 +79,7 @@ impl Settings {
     pub(crate) fn ticks(&self, record: &Record) -> u32 {
         match record.kind {
             Kind::Skip => record.count,
+            Kind::Set if record.multiplies() => self.multiply,
             Kind::Set => self.set,
             Kind::Read => self.read,
             Kind::Write => self.write,
@@ -87,7 +92,7 @@ impl Settings {
 
     /// A window must hold both commands and the longest step, or a step could wait for ever.
     pub(crate) fn window_fits(&self) -> bool {
-        let longest = self.set.max(self.read).max(self.write);
+        let longest = self.set.max(self.multiply).max(self.read).max(self.write);
         self.window >= self.beat + self.save + longest
     }
 }

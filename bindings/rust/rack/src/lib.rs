@@ -35,9 +35,10 @@
 //! # Ok::<(), rack::Refusal>(())
 //! ```
 //!
-//! Settings are [`SETTINGS`] bytes or, for slow steps and long windows,
-//! [`WIDE_SETTINGS`]. Heartbeats, totals and taking up are as promised where a
-//! task is prepared, run and taken up under settings of the same numbers.
+//! Settings are [`SETTINGS`] bytes or, for slow steps, long windows or a multiply
+//! with its own ticks, [`WIDE_SETTINGS`]. Heartbeats, totals and taking up are as
+//! promised where a task is prepared, run and taken up under settings of the same
+//! numbers.
 //!
 //! A spare controller watches others by a table: [`beat`] has an example.
 
@@ -52,19 +53,23 @@ use library::{Runs, Writes};
 
 /// The bytes of settings in the narrow form: the ticks of SET, READ, WRITE, BEAT
 /// and SAVE and the spacing K in a byte each, the window H in 2 bytes and the
-/// period P in 4, lowest first. Each is at least 1, and P at most 1,000,000.
+/// period P in 4, lowest first. Each is at least 1, and P at most 1,000,000. A
+/// SET that multiplies takes SET's ticks.
 pub const SETTINGS: usize = 12;
 /// The bytes of settings in the wide form: the same six numbers in 2 bytes each,
-/// then H, P and a zero in 4 bytes each. H may reach 1,000,000 too.
+/// then H, P and the ticks of a SET that multiplies in 4 bytes each. H may reach
+/// 1,000,000 too, and the last number 65,535; it is at least 1.
 ///
 /// Every call takes either form, and under equal numbers it answers and writes
-/// the same. The wide one is for steps of more than 255 ticks:
+/// the same. The wide one is for steps of more than 255 ticks, and for a multiply
+/// that takes other ticks than SET:
 ///
 /// ```
 /// // SET, READ and BEAT take 3 ticks, WRITE 900 and SAVE 10; every 2nd window
-/// // of 1,000 ticks has a SAVE; the period is 10,000.
+/// // of 1,000 ticks has a SAVE; the period is 10,000; a SET that multiplies
+/// // takes 20.
 /// let small = [3u16, 3, 900, 3, 10, 2].map(u16::to_le_bytes);
-/// let large = [1_000u32, 10_000, 0].map(u32::to_le_bytes);
+/// let large = [1_000u32, 10_000, 20].map(u32::to_le_bytes);
 /// let settings = [small.concat(), large.concat()].concat();
 /// assert_eq!(settings.len(), rack::WIDE_SETTINGS);
 ///
@@ -77,6 +82,11 @@ pub const SETTINGS: usize = 12;
 /// let laid = rack::prepare(&settings, &task, &mut out)?;
 /// // The second WRITE waits for the window that begins at tick 1,000.
 /// assert_eq!((laid.bytes, laid.time), (108, 2_003));
+///
+/// let add = [2, 1, 0, 0, 5, 0, 0, 0, 0, 0, 0, 0]; // variable 0 + 5
+/// let multiply = [2, 3, 0, 0, 5, 0, 0, 0, 0, 0, 0, 0]; // variable 0 * 5
+/// assert_eq!(rack::time_file(&settings, rack::Form::Task, &add)?, 3);
+/// assert_eq!(rack::time_file(&settings, rack::Form::Task, &multiply)?, 20);
 /// # Ok::<(), rack::Refusal>(())
 /// ```
 pub const WIDE_SETTINGS: usize = 24;

@@ -2,6 +2,7 @@
 
 mod bench;
 mod laying;
+mod multiply;
 mod naive;
 mod preparing;
 mod random;
@@ -75,7 +76,7 @@ pub(crate) fn settings(ticks: [u8; 5], k: u8, h: u16, p: u32) -> Raw {
     bytes
 }
 
-/// Settings in two records.
+/// Settings in two records, under which a multiply takes SET's ticks.
 pub(crate) fn wide(ticks: [u16; 5], k: u16, h: u32, p: u32) -> [u8; 24] {
     let mut bytes = [0; 24];
     let small = ticks.into_iter().chain([k]);
@@ -84,7 +85,13 @@ pub(crate) fn wide(ticks: [u16; 5], k: u16, h: u32, p: u32) -> [u8; 24] {
     }
     bytes[12..16].copy_from_slice(&h.to_le_bytes());
     bytes[16..20].copy_from_slice(&p.to_le_bytes());
-    bytes
+    multiplying(bytes, ticks[0].into())
+}
+
+/// The same settings with another last number, the ticks of a multiply.
+pub(crate) fn multiplying(mut settings: [u8; 24], multiply: u32) -> [u8; 24] {
+    settings[20..].copy_from_slice(&multiply.to_le_bytes());
+    settings
 }
 
 /// The same settings with another period.

@@ -61,9 +61,10 @@ pub(crate) fn tree(file: &[Raw], at: &mut usize) -> Vec<Node> {
 }
 
 fn ticks(settings: &[u8], head: &Raw) -> u32 {
-    let Numbers { set, read, write, beat, save, .. } = numbers(settings);
+    let Numbers { set, multiply, read, write, beat, save, .. } = numbers(settings);
     match head[0] {
         SKIP => count(head),
+        SET if [3, 19].contains(&head[1]) => multiply,
         SET => set,
         READ => read,
         WRITE => write,
@@ -138,6 +139,7 @@ pub(crate) fn equal(settings: &[u8], nodes: &[Node]) -> Vec<Node> {
 
 pub(crate) struct Numbers {
     set: u32,
+    multiply: u32,
     read: u32,
     write: u32,
     beat: u32,
@@ -147,7 +149,8 @@ pub(crate) struct Numbers {
     pub p: u32,
 }
 
-/// Settings of either form: in two records every number but P is twice as wide.
+/// Settings of either form: in two records every number but P is twice as wide,
+/// and the ticks of a multiply stand after P.
 pub(crate) fn numbers(settings: &[u8]) -> Numbers {
     let width = settings.len() / 12;
     let number = |at: usize, bytes: usize| {
@@ -157,6 +160,7 @@ pub(crate) fn numbers(settings: &[u8]) -> Numbers {
     let small = |place: usize| number(width * place, width);
     Numbers {
         set: small(0),
+        multiply: if width == 2 { number(20, 4) } else { small(0) },
         read: small(1),
         write: small(2),
         beat: small(3),

@@ -56,8 +56,8 @@ impl Chance {
             .collect()
     }
 
-    /// In two records, where one step may be slower than a byte can say, or in
-    /// one.
+    /// In two records, where one step may be slower than a byte can say and a
+    /// multiply has ticks of its own, or in one.
     fn settings(&mut self) -> Vec<u8> {
         let (two_records, slow) = (self.below(2) == 0, self.below(2) == 0);
         let mut ticks = [0; 5];
@@ -67,10 +67,11 @@ impl Chance {
             slower[self.below(5) as usize] = 250 + u16::from(self.small(20));
         }
         let [set, read, write, beat, save] = slower;
-        let h = beat + save + set.max(read).max(write) + self.below(12) as u16;
+        let multiply = if two_records { 1 + self.below(20) as u16 } else { set };
+        let h = beat + save + set.max(multiply).max(read).max(write) + self.below(12) as u16;
         let k = 1 + self.small(4);
         match two_records {
-            true => wide(slower, k.into(), h.into(), 2_000).to_vec(),
+            true => multiplying(wide(slower, k.into(), h.into(), 2_000), multiply.into()).to_vec(),
             false => settings(ticks, k, h, 2_000).to_vec(),
         }
     }

@@ -66,10 +66,11 @@ fn numbers_at_the_limits() {
         low[2 * place + 1] = 1;
         assert_eq!(taken(&low), Ok(0));
     }
-    for place in 20..24 {
-        let mut odd = least;
-        odd[place] = 1;
-        assert_eq!(taken(&odd), Err(Refused::plain(6)));
+    for multiply in [0, 65_536, 65_537, 1 + (1 << 24), 1 << 31, u32::MAX] {
+        assert_eq!(taken(&multiplying(least, multiply)), Err(Refused::plain(6)));
+    }
+    for multiply in [1, 255, 256, 65_535] {
+        assert_eq!(taken(&multiplying(least, multiply)), Ok(0));
     }
 }
 
