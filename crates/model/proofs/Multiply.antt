@@ -52,6 +52,8 @@ multiplied =
     -- laying out: the second multiply does not fit the 7 ticks left of the first window
     ∷ (layOutReply (board 40 20) (file (sets 3 ∷ sets 19 ∷ [])) 120 says 0 ∷ 96 ∷ 83 ∷ [])
     ∷ (layOutReply (board 40 20) (file (sets 3 ∷ sets 18 ∷ [])) 120 says 0 ∷ 72 ∷ 43 ∷ [])
+    -- one that fills its window does not wait
+    ∷ (layOutReply (board 33 20) (sets 3) 60 says 0 ∷ 48 ∷ 36 ∷ []) ∷ (layOutReply (board 33 20) (sets 19) 60 says 0 ∷ 48 ∷ 36 ∷ [])
     -- "refusal 7's longest step counts it too", used or not; and a multiply of 1, where SET is longer
     ∷ (layOutReply (board 33 20) [] 48 says 0 ∷ 48 ∷ 36 ∷ []) ∷ (layOutReply (board 32 20) [] 48 says 7 ∷ [])
     ∷ (layOutReply (board 32 20) (sets 3) 72 says 7 ∷ [])

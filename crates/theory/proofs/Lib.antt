@@ -12,6 +12,7 @@ pub mod Sequences
 pub mod Within
 pub mod Lasts
 pub mod Follows
+pub mod StepTicks
 pub mod Views
 pub mod Traces
 pub mod Agreement

@@ -1,22 +1,23 @@
 -- W-204: blocks of which no SET, or each one, multiplies; refusals 6 and 7; and what follows from the definitions at once.
-use Prim.Native.Nat.{ℕ, _+_, _*_, _%_, _<_}
+use Prim.Native.Nat.{ℕ, _+_, _*_, _%_, _^_, _<_}
 use native.Mathlib.Omega.{arith}
 use mathlib.Core.Path.{_≡_, refl, sym, _∙_}
 use mathlib.Core.{Logic._↔_, Logic._⊎_, Logic.inl, Logic.inr, Logic.⊎-elim}
 use mathlib.Core.Bool.{Bool, true, false, cond, _||_}
 use mathlib.Core.List.{List, [], _∷_}
-use lib.{Dec.eqb, Dec.ltb, Dec.leb, ListN.length}
+use lib.{Dec.eqb, Dec.ltb, Dec.leb, ListN.length, ListN.getD}
 use borrow.Author.Tests.{ne-eqb, leb-true, leb-false, ltb-true, ltb-false, lt-ltb}
 use Rattle.model.specs.declared.Settings.{Settings}
 use Rattle.model.specs.declared.{Form.Form, Form.the-variants.Equalised}
 use Rattle.model.specs.Trees.{Act, set, read, write, check, beat, save, Block, size, fileTree}
 use Rattle.model.specs.{Records.wordAt, Settings.settingsOf, Settings.badSettings, Times.ticks, Times.time, Times.longest}
+use Rattle.model.specs.Runs.{assigns, rightValue, result, effect}
 use Rattle.model.specs.{Layout.layout, Layout.total, Placement.Each, Refusals.opFits, Refusals.variable, Refusals.sound, Refusals.fault}
 use Rattle.model.specs.{Answers.Verdict, Answers.finished, Answers.refused}
 use Rattle.model.specs.Replies.{turnDown, reading, shortWindow, above, noRoom, layOutRows, layOutReply}
 use Rattle.laws.proofs.Shapes.{and-left}
 use Rattle.theory.specs.Multiplying.{Multiplies, BadMultiply, NoMultiply, OnlyMultiply, retimed, SameBlock, SevenCause, Multiplying}
-use Rattle.theory.proofs.{Accepted.in-range, Accepted.reads, Values.each-map, Follows.follow, Widened.is-narrow, Widened.is-wide}
+use Rattle.theory.proofs.{Accepted.in-range, Accepted.reads, Values.each-map, Within.run-within, Follows.follow, StepTicks.step-lasts, Widened.is-narrow, Widened.is-wide}
 
 -- BLOCKS
 
@@ -120,6 +121,10 @@ refused-6 : (s : List ℕ) → badSettings s ≡ true → (f : Form) (file : Lis
 unfolding reading
 refused-6 s e f file next = rw e
 
+product : (ins v : List ℕ) (o t l x : ℕ) → Multiplies o → effect ins (set o t l x) v ≡ assigns t (getD v l 0 * rightValue o x v % 2 ^ 32)
+unfolding effect result
+product ins v o t l x e = rw e
+
 one-time : (σ : Settings) → σ .multiply ≡ σ .set → (o t l x : ℕ) → ticks σ (set o t l x) ≡ σ .set
 one-time σ e o t l x = either (eqb (o % 16) 3)
   where
@@ -135,6 +140,9 @@ multiplying = record {
   operations = operations;
   multiplies = λ σ o t l x e. rw e;
   others = λ σ o t l x h. rw (ne-eqb (o % 16) 3 h);
+  product = product;
+  lasts = step-lasts;
+  within = λ σ ins v b i. run-within σ ins b i .in-all v;
   follow = follow;
   unused = unused;
   only = only;

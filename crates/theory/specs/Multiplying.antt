@@ -1,19 +1,19 @@
 -- W-204, "Multiply has its own time": each part under the words that it answers. The proof is in proofs/Multiplying.antt.
-use Prim.Native.Nat.{ℕ, _+_, _%_, _<_}
+use Prim.Native.Nat.{ℕ, _+_, _*_, _%_, _^_, _≤_, _<_}
 use mathlib.Core.Path.{_≡_}
 use mathlib.Core.Logic.{_↔_, _⊎_}
 use mathlib.Core.Bool.{true, false}
-use mathlib.Core.List.{List, []}
-use lib.ListN.{length}
+use mathlib.Core.List.{List, [], _∷_, _++_}
+use lib.ListN.{length, getD}
 use Rattle.model.specs.declared.Settings.{Settings}
 use Rattle.model.specs.declared.Form.{Form}
 use Rattle.model.specs.declared.Form.the-variants.{Equalised}
 use Rattle.model.specs.Limits.{byVariable}
 use Rattle.model.specs.Records.{wordAt}
 use Rattle.model.specs.Settings.{settingsOf, badSettings}
-use Rattle.model.specs.Trees.{Act, set, read, write, check, beat, save, Block}
+use Rattle.model.specs.Trees.{Act, set, read, write, check, beat, save, Block, nil, skip, act, branch, while, times, size}
 use Rattle.model.specs.Times.{ticks, time}
-use Rattle.model.specs.Runs.{run}
+use Rattle.model.specs.Runs.{assigns, Step, duration, rightValue, effect, run}
 use Rattle.model.specs.Stopping.{Image, takeUp}
 use Rattle.model.specs.Listing.{startTicks}
 use Rattle.model.specs.Equalising.{equalise}
@@ -47,6 +47,20 @@ OnlyMultiply (write a p) = Unit {0}
 OnlyMultiply (check q) = Unit {0}
 OnlyMultiply (beat x) = Unit {0}
 OnlyMultiply (save m) = Unit {0}
+
+-- a step at record i that lasts d ticks
+abbrev pub Stands : Step → ℕ → ℕ → Type 0
+Stands e i d = (e .index ≡ i) × (e .lasts ≡ d)
+
+-- a step of a block whose first record has the index i: it stands at one of its records and lasts what that record says, an IF's or a loop's test 1
+abbrev pub StepOf : Settings → Block → ℕ → Step → Type 0
+StepOf σ nil i e = ⊥
+StepOf σ (skip n b) i e = Stands e i n ⊎ StepOf σ b (i + 1) e
+StepOf σ (act p b) i e = Stands e i (ticks σ p) ⊎ StepOf σ b (i + 1) e
+StepOf σ (branch q a d b) i e =
+    Stands e i 1 ⊎ (StepOf σ a (i + 1) e ⊎ (StepOf σ d (i + 2 + size a) e ⊎ StepOf σ b (i + 3 + size a + size d) e))
+StepOf σ (while q n a b) i e = Stands e i 1 ⊎ (StepOf σ a (i + 1) e ⊎ StepOf σ b (i + 2 + size a) e)
+StepOf σ (times q n a b) i e = Stands e i 1 ⊎ (StepOf σ a (i + 1) e ⊎ StepOf σ b (i + 2 + size a) e)
 
 -- settings with these ticks of SET, READ, WRITE and a multiply; B, S, K, H and P stay
 abbrev pub retimed : ℕ → ℕ → ℕ → ℕ → Settings → Settings
@@ -82,14 +96,21 @@ pub record Multiplying : Type 0 where
   -- "The zero in the second settings record becomes the ticks of a multiply .. with 12-byte settings it equals SET's."
   pub wide : (s : List ℕ) → length s ≡ 24 → settingsOf s .multiply ≡ wordAt s 20
   pub narrow : (s : List ℕ) → length s ≡ 12 → settingsOf s .multiply ≡ settingsOf s .set
-  -- "at least 1", "a multiply time of 0 or above 65,535 is 6": in `reading`, which every call that is handed settings and a file tries first. That 1 to
+  -- "at least 1", "a multiply time of 0 or above 65,535 is 6": in `reading`, which by Replies every call that is handed settings and a file tries first. That 1 to
   -- 65,535 are taken is in `Widened.good`.
   pub bad : (s : List ℕ) → length s ≡ 24 → BadMultiply (wordAt s 20) → (f : Form) (file : List ℕ) (next : Verdict) → reading s f file next ≡ refused 6 []
   -- "A SET's time now depends on its operation": of the operations that a SET may have, 3 and 19 multiply
   pub operations : (o x : ℕ) → opFits 3 o x ≡ true → (Multiplies o) ↔ ((o ≡ 3) ⊎ (o ≡ 19))
   pub multiplies : (σ : Settings) (o t l x : ℕ) → Multiplies o → ticks σ (set o t l x) ≡ σ .multiply
   pub others : (σ : Settings) (o t l x : ℕ) → (Multiplies o → ⊥) → ticks σ (set o t l x) ≡ σ .set
-  -- "so times, equalising, layout and the runs all follow": a block goes by the ticks of its own acts, whatever the settings have for others
+  -- "3 multiply": the SETs that take this time are those that multiply
+  pub product : (ins v : List ℕ) (o t l x : ℕ) → Multiplies o → effect ins (set o t l x) v ≡ assigns t (getD v l 0 * rightValue o x v % 2 ^ 32)
+  -- "so times, equalising, layout and the runs all follow": a step of a run, in any form of file, takes the ticks of its record; no run is longer than the
+  -- stated time, and by Demand2 the runs of equalised and laid files that do not overrun last just that
+  pub lasts : (σ : Settings) (ins v : List ℕ) (b : Block) (i : ℕ) (pre : List Step) (e : Step) (post : List Step) → run σ ins b i v ≡ pre ++ e ∷ post
+      → StepOf σ b i e
+  pub within : (σ : Settings) (ins v : List ℕ) (b : Block) (i : ℕ) → duration (run σ ins b i v) ≤ time σ b
+  -- and a block depends on nothing but the ticks of its own acts and B, S, K, H and P
   pub follow : (σ : Settings) (a r w m : ℕ) (b : Block) → Each (λ p. ticks (retimed a r w m σ) p ≡ ticks σ p) b → SameBlock σ (retimed a r w m σ) b
   -- so where no SET of it multiplies, the ticks of a multiply change nothing of it, and where each one does, those of SET
   pub unused : (σ : Settings) (m : ℕ) (b : Block) → Each NoMultiply b → SameBlock σ (retimed (σ .set) (σ .read) (σ .write) m σ) b
