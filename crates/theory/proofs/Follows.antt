@@ -1,16 +1,17 @@
 -- A block goes by the ticks of its own acts, by B, S, K, H and P, and by no other number of the settings.
-use Prim.Native.Nat.{ℕ, zero, suc, _+_, _*_, _-_, _%_, max}
+use Prim.Native.Nat.{ℕ, zero, suc, _+_, _-_, _%_, max}
 use mathlib.Core.Path.{_≡_, refl, ap, _∙_}
-use mathlib.Core.Bool.{Bool, true, false, cond}
-use mathlib.Core.List.{List}
-use lib.{Dec.eqb, Dec.ltb, Dec.leb}
+use mathlib.Core.{Bool.cond, List.List}
+use lib.{Dec.eqb, Dec.leb}
 use Rattle.model.specs.declared.Settings.{Settings}
-use Rattle.model.specs.Trees.{Test, Act, check, beat, save, Block, nil, skip, act, branch, while, times, _⧺_, size}
+use Rattle.model.specs.Trees.{Test, Act, beat, save, Block, nil, skip, act, branch, while, times, _⧺_, size}
 use Rattle.model.specs.{Times.ticks, Times.time, Equalising.F, Equalising.pad, Equalising.merge, Equalising.equalise, Placement.Each}
-use Rattle.model.specs.Layout.{copies, unroll, commands, left, before, idle, idles, fill, filled, lay, opened, body, layout, total, lastValue}
+use Rattle.model.specs.Layout.{unroll, commands, left, before, idle, idles, fill, filled, lay, opened, body, layout, total, lastValue}
 use Rattle.model.specs.Runs.{Effect, Run, _⊳_, effect, single, choose, spin, rounds, run, lastTest, variablesAfter}
 use Rattle.model.specs.{Stopping.Image, Stopping.rest, Stopping.takeUp, Listing.startTicks}
 use Rattle.theory.specs.Multiplying.{retimed, SameBlock}
+use Rattle.theory.proofs.Each.{each-cond, each-⧺, each-unroll}
+use Rattle.theory.proofs.Weaving.{Woven, woven-commands, woven-before, woven-idle, woven-idles, woven-fill, woven-each}
 
 -- a block and the last BEAT after it
 abbrev lastBeat : Settings → Block → Block
@@ -22,33 +23,6 @@ module _ (σ : Settings) (set read write multiply : ℕ) where
 
   abbrev Same : Act → Type 0
   Same p = ticks τ p ≡ ticks σ p
-
-  -- BLOCKS WHOSE ACTS TAKE THE SAME TICKS
-
-  each-cond : (o : Bool) (a b : Block) → Each Same a → Each Same b → Each Same (cond o a b)
-  each-cond true a b x y = x
-  each-cond false a b x y = y
-
-  each-⧺ : (a b : Block) → Each Same a → Each Same b → Each Same (a ⧺ b)
-  each-⧺ nil b x y = y
-  each-⧺ (skip n a) b x y = each-⧺ a b x y
-  each-⧺ (act p a) b x y = (x .0, each-⧺ a b (x .1) y)
-  each-⧺ (branch q c d a) b x y = (x .0, x .1, each-⧺ a b (x .2) y)
-  each-⧺ (while q n c a) b x y = (x .0, each-⧺ a b (x .1) y)
-  each-⧺ (times q n c a) b x y = (x .0, each-⧺ a b (x .1) y)
-
-  each-copies : (n : ℕ) (b : Block) → Each Same b → Each Same (copies n b)
-  each-copies zero b x = tt
-  each-copies (suc n) b x = each-⧺ b (copies n b) x (each-copies n b x)
-
-  each-unroll : (b : Block) → Each Same b → Each Same (unroll b)
-  each-unroll nil x = tt
-  each-unroll (skip n b) x = each-unroll b x
-  each-unroll (act p b) x = (x .0, each-unroll b (x .1))
-  each-unroll (branch q a d b) x = (each-unroll a (x .0), each-unroll d (x .1), each-unroll b (x .2))
-  each-unroll (while q n a b) x = (each-unroll a (x .0), each-unroll b (x .1))
-  each-unroll (times q n a b) x =
-      each-⧺ (copies n (unroll a)) (act (check q) (unroll b)) (each-copies n (unroll a) (each-unroll a (x .0))) (refl, each-unroll b (x .1))
 
   same-time : (b : Block) → Each Same b → time τ b ≡ time σ b
   same-time nil x = refl
@@ -65,8 +39,8 @@ module _ (σ : Settings) (set read write multiply : ℕ) where
   each-F (skip n b) x = each-F b x
   each-F (act p b) x = (x .0, each-F b (x .1))
   each-F (branch q a d b) x = (
-    each-⧺ (F σ a) (pad (time σ (F σ d) - time σ (F σ a))) (each-F a (x .0)) tt,
-    each-⧺ (F σ d) (pad (time σ (F σ a) - time σ (F σ d))) (each-F d (x .1)) tt,
+    each-⧺ Same (F σ a) (pad (time σ (F σ d) - time σ (F σ a))) (each-F a (x .0)) tt,
+    each-⧺ Same (F σ d) (pad (time σ (F σ a) - time σ (F σ d))) (each-F d (x .1)) tt,
     each-F b (x .2),
   )
   each-F (while q n a b) x = ((each-F a (x .0), tt, tt), each-F b (x .1))
@@ -87,53 +61,34 @@ module _ (σ : Settings) (set read write multiply : ℕ) where
 
   -- LAYING OUT
 
-  each-commands : (t : ℕ) → Each Same (commands σ t)
-  each-commands t =
-      each-cond (eqb (t % σ .window) 0) _ nil (refl, each-cond (eqb (t % (σ .spacing * σ .window)) 0) (act (save 0) nil) nil (refl, tt) tt) tt
-
-  each-before : (t d : ℕ) → Each Same (before σ t d)
-  unfolding before
-  each-before t d =
-      let u = t + time σ (commands σ t) in
-      each-⧺ (commands σ t) _ (each-commands t)
-      (each-cond (ltb (left σ u) d) (skip (left σ u) (commands σ (u + left σ u))) nil (each-commands (u + left σ u)) tt)
+  -- what laying out adds to a block
+  each-added : {c : Block} → Woven nil c → Each Same c
+  each-added w = woven-each Same refl refl w tt
 
   same-before : (t d : ℕ) → before τ t d ≡ before σ t d
   unfolding before
-  same-before t d = rw (same-time (commands σ t) (each-commands t))
-
-  each-idle : (t : ℕ) → Each Same (idle σ t)
-  each-idle t = each-⧺ (before σ t 1) (skip 1 nil) (each-before t 1) tt
-
-  each-idles : (n t : ℕ) → Each Same (idles σ n t)
-  each-idles zero t = tt
-  each-idles (suc n) t = each-⧺ (idle σ t) _ (each-idle t) (each-idles n (t + time σ (idle σ t)))
+  same-before t d = rw (same-time (commands σ t) (each-added (woven-commands σ t)))
 
   same-idles : (n t : ℕ) → idles τ n t ≡ idles σ n t
   same-idles zero t = refl
-  same-idles (suc n) t = rw (same-before t 1, same-time (idle σ t) (each-idle t), same-idles n (t + time σ (idle σ t)))
-
-  each-fill : (n t e : ℕ) → Each Same (fill σ n t e)
-  each-fill zero t e = tt
-  each-fill (suc n) t e =
-      each-cond (ltb t e) _ nil (each-⧺ (idle σ t) (fill σ n (t + time σ (idle σ t)) e) (each-idle t) (each-fill n (t + time σ (idle σ t)) e)) tt
+  same-idles (suc n) t = rw (same-before t 1, same-time (idle σ t) (each-added (woven-idle σ t)), same-idles n (t + time σ (idle σ t)))
 
   same-fill : (n t e : ℕ) → fill τ n t e ≡ fill σ n t e
   same-fill zero t e = refl
-  same-fill (suc n) t e = rw (same-before t 1, same-time (idle σ t) (each-idle t), same-fill n (t + time σ (idle σ t)) e)
+  same-fill (suc n) t e = rw (same-before t 1, same-time (idle σ t) (each-added (woven-idle σ t)), same-fill n (t + time σ (idle σ t)) e)
 
   each-filled : (t : ℕ) (a : Block) (e : ℕ) → Each Same a → Each Same (filled σ t a e)
-  each-filled t a e x = each-⧺ a _ x (each-fill (e - (t + time σ a)) (t + time σ a) e)
+  each-filled t a e x = each-⧺ Same a _ x (each-added (woven-fill σ (e - (t + time σ a)) (t + time σ a) e))
 
   each-lay : (b : Block) (t : ℕ) → Each Same b → Each Same (lay σ b t)
   each-lay nil t x = tt
-  each-lay (skip n b) t x = each-⧺ (idles σ n t) _ (each-idles n t) (each-lay b (t + time σ (idles σ n t)) x)
+  each-lay (skip n b) t x = each-⧺ Same (idles σ n t) _ (each-added (woven-idles σ n t)) (each-lay b (t + time σ (idles σ n t)) x)
   each-lay (act p b) t x =
-      each-⧺ (before σ t (ticks σ p)) _ (each-before t (ticks σ p)) (x .0, each-lay b (t + time σ (before σ t (ticks σ p)) + ticks σ p) (x .1))
+      each-⧺ Same (before σ t (ticks σ p)) _ (each-added (woven-before σ t (ticks σ p))) (x .0, each-lay b (t + time σ (before σ t (ticks σ p)) + ticks σ p) (x .1))
   each-lay (branch q a d b) t x =
       let u = t + time σ (before σ t 1) in
       let e = u + 1 + max (time σ (lay σ a (u + 1))) (time σ (lay σ d (u + 1))) in
-      each-⧺ (before σ t 1) (branch q (filled σ (u + 1) (lay σ a (u + 1)) e) (filled σ (u + 1) (lay σ d (u + 1)) e) (lay σ b e)) (each-before t 1) (
+      each-⧺ Same (before σ t 1) (branch q (filled σ (u + 1) (lay σ a (u + 1)) e) (filled σ (u + 1) (lay σ d (u + 1)) e) (lay σ b e)) (each-added (woven-before σ t 1)) (
         each-filled (u + 1) (lay σ a (u + 1)) e (each-lay a (u + 1) (x .0)),
         each-filled (u + 1) (lay σ d (u + 1)) e (each-lay d (u + 1) (x .1)),
         each-lay b e (x .2),
@@ -143,12 +98,12 @@ module _ (σ : Settings) (set read write multiply : ℕ) where
 
   same-lay : (b : Block) (t : ℕ) → Each Same b → lay τ b t ≡ lay σ b t
   same-lay nil t x = refl
-  same-lay (skip n b) t x = rw (same-idles n t, same-time (idles σ n t) (each-idles n t), same-lay b (t + time σ (idles σ n t)) x)
+  same-lay (skip n b) t x = rw (same-idles n t, same-time (idles σ n t) (each-added (woven-idles σ n t)), same-lay b (t + time σ (idles σ n t)) x)
   same-lay (act p b) t x =
       rw (
         x .0,
         same-before t (ticks σ p),
-        same-time (before σ t (ticks σ p)) (each-before t (ticks σ p)),
+        same-time (before σ t (ticks σ p)) (each-added (woven-before σ t (ticks σ p))),
         same-lay b (t + time σ (before σ t (ticks σ p)) + ticks σ p) (x .1),
       )
   same-lay (branch q a d b) t x =
@@ -156,7 +111,7 @@ module _ (σ : Settings) (set read write multiply : ℕ) where
       let e = u + 1 + max (time σ (lay σ a (u + 1))) (time σ (lay σ d (u + 1))) in
       rw (
         same-before t 1,
-        same-time (before σ t 1) (each-before t 1),
+        same-time (before σ t 1) (each-added (woven-before σ t 1)),
         same-lay a (u + 1) (x .0),
         same-lay d (u + 1) (x .1),
         same-time (lay σ a (u + 1)) (each-lay a (u + 1) (x .0)),
@@ -171,8 +126,8 @@ module _ (σ : Settings) (set read write multiply : ℕ) where
   each-body : (b : Block) → Each Same b → Each Same (body σ b)
   each-body b x =
       let t = time σ (opened σ b) in
-      each-⧺ (opened σ b) (cond (eqb (t % σ .window) 0) nil (skip (left σ t) nil)) (refl, (refl, each-lay b (σ .beat + σ .save) x))
-      (each-cond (eqb (t % σ .window) 0) nil (skip (left σ t) nil) tt tt)
+      each-⧺ Same (opened σ b) (cond (eqb (t % σ .window) 0) nil (skip (left σ t) nil)) (refl, (refl, each-lay b (σ .beat + σ .save) x))
+      (each-cond Same (eqb (t % σ .window) 0) nil (skip (left σ t) nil) tt tt)
 
   same-body : (b : Block) → Each Same b → body τ b ≡ body σ b
   same-body b x =
@@ -186,13 +141,13 @@ module _ (σ : Settings) (set read write multiply : ℕ) where
   same-layout : (b : Block) → Each Same b → layout τ b ≡ layout σ b
   unfolding layout
   same-layout b x =
-      let y = each-unroll b x in
+      let y = each-unroll Same (λ q. refl) b x in
       ap (λ c. merge 0 (lastBeat τ c)) (same-body (unroll b) y) ∙ ap (merge 0) (same-last (body σ (unroll b)) (each-body (unroll b) y))
 
   same-total : (b : Block) → Each Same b → total τ b ≡ total σ b
   unfolding total
   same-total b x =
-      let y = each-unroll b x in
+      let y = each-unroll Same (λ q. refl) b x in
       ap (λ c. time τ c + σ .beat) (same-body (unroll b) y) ∙ ap (λ n. n + σ .beat) (same-time (body σ (unroll b)) (each-body (unroll b) y))
 
   -- RUNS
@@ -237,9 +192,9 @@ module _ (σ : Settings) (set read write multiply : ℕ) where
   each-rest (branch q a d b) (suc j) x =
       let k = j - (1 + size a) in
       let l = j - (2 + size a + size d) in
-      each-cond (leb j (size a)) (rest a j ⧺ b) (cond (leb j (1 + size a + size d)) (rest d k ⧺ b) (rest b l))
-      (each-⧺ (rest a j) b (each-rest a j (x .0)) (x .2))
-      (each-cond (leb j (1 + size a + size d)) (rest d k ⧺ b) (rest b l) (each-⧺ (rest d k) b (each-rest d k (x .1)) (x .2)) (each-rest b l (x .2)))
+      each-cond Same (leb j (size a)) (rest a j ⧺ b) (cond (leb j (1 + size a + size d)) (rest d k ⧺ b) (rest b l))
+      (each-⧺ Same (rest a j) b (each-rest a j (x .0)) (x .2))
+      (each-cond Same (leb j (1 + size a + size d)) (rest d k ⧺ b) (rest b l) (each-⧺ Same (rest d k) b (each-rest d k (x .1)) (x .2)) (each-rest b l (x .2)))
   each-rest (while q n a b) j x = x
   each-rest (times q n a b) j x = x
 

@@ -7,11 +7,11 @@ pub mod Mixing
 pub mod Multiplying
 pub mod Bench
 -- times and runs
+pub mod Each
 pub mod Times
 pub mod Sequences
 pub mod Within
 pub mod Lasts
-pub mod Follows
 pub mod StepTicks
 pub mod Views
 pub mod Traces
@@ -20,6 +20,7 @@ pub mod Agreement
 pub mod Forms
 pub mod Unrolling
 pub mod Weaving
+pub mod Follows
 -- ticks and windows
 pub mod Clock
 pub mod Windows

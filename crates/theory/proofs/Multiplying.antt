@@ -17,7 +17,8 @@ use Rattle.model.specs.{Answers.Verdict, Answers.finished, Answers.refused}
 use Rattle.model.specs.Replies.{turnDown, reading, shortWindow, above, noRoom, layOutRows, layOutReply}
 use Rattle.laws.proofs.Shapes.{and-left}
 use Rattle.theory.specs.Multiplying.{Multiplies, BadMultiply, NoMultiply, OnlyMultiply, retimed, SameBlock, SevenCause, Multiplying}
-use Rattle.theory.proofs.{Accepted.in-range, Accepted.reads, Values.each-map, Within.run-within, Follows.follow, StepTicks.step-lasts, Widened.is-narrow, Widened.is-wide}
+use Rattle.theory.proofs.{Accepted.in-range, Accepted.reads, Each.each-map, Within.run-within}
+use Rattle.theory.proofs.{Follows.follow, StepTicks.step-lasts, Widened.is-narrow, Widened.is-wide}
 
 -- BLOCKS
 

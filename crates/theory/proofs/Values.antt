@@ -11,7 +11,7 @@ use Rattle.model.specs.Runs.{Effect, nothing, assigns, outputs, beats, saves, o
 use Rattle.model.specs.Runs.{onVariables, overran, holds, effect, Run, _⊳_, run}
 use Rattle.model.specs.{Layout.body, Layout.lastValue, Layout.closed, Timeline.picks, Timeline.beatAt, Timeline.beatList}
 use Rattle.model.specs.Placement.{Each, command, CommandFree, LoopFree}
-use Rattle.theory.proofs.{Times.time-merge, Sequences.run-⧺, Within.run-within, Weaving.woven-body, Weaving.woven-each}
+use Rattle.theory.proofs.{Each.each-merge, Each.each-map, Times.time-merge, Sequences.run-⧺, Within.run-within, Weaving.woven-body, Weaving.woven-each}
 use Rattle.theory.proofs.Every.{Every, every-nil, every-single, every-choose}
 
 -- VALUES BY START
@@ -90,27 +90,6 @@ one-run σ ins (while q n a b) i g u p h v = absurd u
 one-run σ ins (times q n a b) i g u p h v = absurd u
 
 -- MERGING
-
-each-waiting : (P : Act → Type 0) (n : ℕ) (b : Block) → Each P b → Each P (waiting n b)
-each-waiting P zero b p = p
-each-waiting P (suc n) b p = p
-
-each-merge : (P : Act → Type 0) (b : Block) (n : ℕ) → Each P b → Each P (merge n b)
-each-merge P nil n p = each-waiting P n nil tt
-each-merge P (skip m b) n p = each-merge P b (n + m) p
-each-merge P (act r b) n p = each-waiting P n (act r (merge 0 b)) (p .0, each-merge P b 0 (p .1))
-each-merge P (branch q a d b) n p =
-    each-waiting P n (branch q (merge 0 a) (merge 0 d) (merge 0 b)) (each-merge P a 0 (p .0), each-merge P d 0 (p .1), each-merge P b 0 (p .2))
-each-merge P (while q m a b) n p = each-waiting P n (while q m (merge 0 a) (merge 0 b)) (each-merge P a 0 (p .0), each-merge P b 0 (p .1))
-each-merge P (times q m a b) n p = each-waiting P n (times q m (merge 0 a) (merge 0 b)) (each-merge P a 0 (p .0), each-merge P b 0 (p .1))
-
-pub each-map : (P Q : Act → Type 0) → ((p : Act) → P p → Q p) → (b : Block) → Each P b → Each Q b
-each-map P Q f nil p = tt
-each-map P Q f (skip n b) p = each-map P Q f b p
-each-map P Q f (act r b) p = (f r (p .0), each-map P Q f b (p .1))
-each-map P Q f (branch q a d b) p = (each-map P Q f a (p .0), each-map P Q f d (p .1), each-map P Q f b (p .2))
-each-map P Q f (while q m a b) p = (each-map P Q f a (p .0), each-map P Q f b (p .1))
-each-map P Q f (times q m a b) p = (each-map P Q f a (p .0), each-map P Q f b (p .1))
 
 waiting-⧺ : (n : ℕ) (b c : Block) → waiting n (b ⧺ c) ≡ waiting n b ⧺ c
 waiting-⧺ zero b c = refl

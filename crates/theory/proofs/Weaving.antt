@@ -36,26 +36,26 @@ behind {a} {a′} {e} p q = subst (λ (x : Block). Woven x (a′ ⧺ e)) (⧺-ni
 -- WHAT LAYING OUT ADDS
 
 module _ (σ : Settings) where
-  woven-commands : (t : ℕ) → Woven nil (commands σ t)
+  pub woven-commands : (t : ℕ) → Woven nil (commands σ t)
   woven-commands t =
       either (Woven nil) (eqb (t % σ .window) 0) _ nil
       (beats (either (Woven nil) (eqb (t % (σ .spacing * σ .window)) 0) (act (save 0) nil) nil (saves done) done)) done
 
-  woven-before : (t d : ℕ) → Woven nil (before σ t d)
+  pub woven-before : (t d : ℕ) → Woven nil (before σ t d)
   unfolding before
   woven-before t d =
       let u = t + time σ (commands σ t) in
       woven-⧺ (woven-commands t)
       (either (Woven nil) (ltb (left σ u) d) (skip (left σ u) (commands σ (u + left σ u))) nil (waits (left σ u) (woven-commands (u + left σ u))) done)
 
-  woven-idle : (t : ℕ) → Woven nil (idle σ t)
+  pub woven-idle : (t : ℕ) → Woven nil (idle σ t)
   woven-idle t = woven-⧺ (woven-before t 1) (waits 1 done)
 
-  woven-idles : (n t : ℕ) → Woven nil (idles σ n t)
+  pub woven-idles : (n t : ℕ) → Woven nil (idles σ n t)
   woven-idles zero t = done
   woven-idles (suc n) t = woven-⧺ (woven-idle t) (woven-idles n (t + time σ (idle σ t)))
 
-  woven-fill : (n t e : ℕ) → Woven nil (fill σ n t e)
+  pub woven-fill : (n t e : ℕ) → Woven nil (fill σ n t e)
   woven-fill zero t e = done
   woven-fill (suc n) t e = either (Woven nil) (ltb t e) _ nil (woven-⧺ (woven-idle t) (woven-fill n (t + time σ (idle σ t)) e)) done
 

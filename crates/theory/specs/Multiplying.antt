@@ -96,8 +96,8 @@ pub record Multiplying : Type 0 where
   -- "The zero in the second settings record becomes the ticks of a multiply .. with 12-byte settings it equals SET's."
   pub wide : (s : List ℕ) → length s ≡ 24 → settingsOf s .multiply ≡ wordAt s 20
   pub narrow : (s : List ℕ) → length s ≡ 12 → settingsOf s .multiply ≡ settingsOf s .set
-  -- "at least 1", "a multiply time of 0 or above 65,535 is 6": in `reading`, which by Replies every call that is handed settings and a file tries first. That 1 to
-  -- 65,535 are taken is in `Widened.good`.
+  -- "at least 1", "a multiply time of 0 or above 65,535 is 6": in `reading`, which by Replies every call that is handed settings and a file tries
+  -- first. That 1 to 65,535 are taken is in `Widened.good`.
   pub bad : (s : List ℕ) → length s ≡ 24 → BadMultiply (wordAt s 20) → (f : Form) (file : List ℕ) (next : Verdict) → reading s f file next ≡ refused 6 []
   -- "A SET's time now depends on its operation": of the operations that a SET may have, 3 and 19 multiply
   pub operations : (o x : ℕ) → opFits 3 o x ≡ true → (Multiplies o) ↔ ((o ≡ 3) ⊎ (o ≡ 19))

@@ -79,6 +79,16 @@ impl Comparer {
         self.hold(sound, &format!("by the paper {expected:?}"), call, &outcome);
     }
 
+    /// Makes the call through both, which must write these bytes and answer how
+    /// many they are, and this time.
+    pub fn expect_written(&mut self, call: &Call, expected: &[u8], time: u32) {
+        let outcome = self.call(call);
+        let bytes = expected.len();
+        let answered = outcome.answer == Answer::Written { bytes, time };
+        let sound = answered && outcome.lent.out.starts_with(expected);
+        self.hold(sound, "written as the paper says", call, &outcome);
+    }
+
     fn found(&mut self, what: &str, call: &Call, first: &Outcome, second: &Outcome) {
         self.differences += 1;
         if self.quiet || self.differences > PRINTED {

@@ -1,7 +1,7 @@
 //! Part 10, continued: a multiply has ticks of its own. The boards of the
 //! examples run the factorial, and small files show where its ticks decide.
 
-use crate::bench::{factorial, stops};
+use crate::bench::{factorial, stops, BENCH};
 use crate::call::{Answer, Call, Kind, Set};
 use crate::chain::prepare;
 use crate::comparer::Comparer;
@@ -10,16 +10,11 @@ use crate::records::*;
 
 /// The bench's numbers in windows of 40, with a slow multiply.
 pub const BOARDS: Settings = Settings {
-    set: 3,
-    read: 3,
-    write: 3,
-    beat: 3,
-    save: 10,
-    spacing: 4,
     window: 40,
     period: 1000,
     multiply: Some(20),
     wide: true,
+    ..BENCH
 };
 
 /// What stands in the examples.
@@ -62,12 +57,7 @@ impl Multiply<'_> {
         let (settings, file, expected) = (BOARDS.bytes(), bytes(file), bytes(expected));
         let call = Call::new(kind, &settings, TASK, &file, &mut self.random);
         let call = call.with_out(expected.len() + 5, &mut self.random);
-        let outcome = self.comparer.call(&call);
-        let bytes = expected.len();
-        let sound = outcome.answer == Answer::Written { bytes, time };
-        let sound = sound && outcome.lent.out.starts_with(&expected);
-        let what = "written as worked out by hand";
-        self.comparer.hold(sound, what, &call, &outcome);
+        self.comparer.expect_written(&call, &expected, time);
     }
 
     /// At tick 36 a window has 4 ticks left. A multiply waits for the next one,

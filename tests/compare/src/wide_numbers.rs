@@ -265,12 +265,7 @@ impl Wide<'_> {
         for kind in [Kind::LayOut, Kind::Prepare] {
             let call = Call::new(kind, &settings, TASK, task, &mut self.random);
             let call = call.with_out(laid.len() + 5, &mut self.random);
-            let outcome = self.comparer.call(&call);
-            let bytes = laid.len();
-            let sound = outcome.answer == Answer::Written { bytes, time: total };
-            let sound = sound && outcome.lent.out.starts_with(laid);
-            self.comparer
-                .hold(sound, "laid out as the paper says", &call, &outcome);
+            self.comparer.expect_written(&call, laid, total);
         }
     }
 
