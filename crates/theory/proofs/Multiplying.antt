@@ -4,19 +4,20 @@ use native.Mathlib.Omega.{arith}
 use mathlib.Core.Path.{_≡_, refl, sym, _∙_}
 use mathlib.Core.{Logic._↔_, Logic._⊎_, Logic.inl, Logic.inr, Logic.⊎-elim}
 use mathlib.Core.Bool.{Bool, true, false, cond, _||_}
-use mathlib.Core.List.{List, [], _∷_}
+use mathlib.Core.List.{List, [], _∷_, _++_}
 use lib.{Dec.eqb, Dec.ltb, Dec.leb, ListN.length, ListN.getD}
 use borrow.Author.Tests.{ne-eqb, leb-true, leb-false, ltb-true, ltb-false, lt-ltb}
 use Rattle.model.specs.declared.Settings.{Settings}
 use Rattle.model.specs.declared.{Form.Form, Form.the-variants.Equalised}
 use Rattle.model.specs.Trees.{Act, set, read, write, check, beat, save, Block, size, fileTree}
 use Rattle.model.specs.{Records.wordAt, Settings.settingsOf, Settings.badSettings, Times.ticks, Times.time, Times.longest}
-use Rattle.model.specs.Runs.{assigns, rightValue, result, effect}
+use Rattle.model.specs.Runs.{assigns, Step, variablesAfter, rightValue, result, effect}
+use Rattle.model.specs.Stopping.{Image, rest, takeUp}
 use Rattle.model.specs.{Layout.layout, Layout.total, Placement.Each, Refusals.opFits, Refusals.variable, Refusals.sound, Refusals.fault}
 use Rattle.model.specs.{Answers.Verdict, Answers.finished, Answers.refused}
 use Rattle.model.specs.Replies.{turnDown, reading, shortWindow, above, noRoom, layOutRows, layOutReply}
 use Rattle.laws.proofs.Shapes.{and-left}
-use Rattle.theory.specs.Multiplying.{Multiplies, BadMultiply, NoMultiply, OnlyMultiply, retimed, SameBlock, SevenCause, Multiplying}
+use Rattle.theory.specs.Multiplying.{Multiplies, BadMultiply, NoMultiply, OnlyMultiply, retimed, SameBlock, SevenCause, StepOf, Multiplying}
 use Rattle.theory.proofs.{Accepted.in-range, Accepted.reads, Each.each-map, Within.run-within}
 use Rattle.theory.proofs.{Follows.follow, StepTicks.step-lasts, Widened.is-narrow, Widened.is-wide}
 
@@ -126,6 +127,11 @@ product : (ins v : List ℕ) (o t l x : ℕ) → Multiplies o → effect ins (se
 unfolding effect result
 product ins v o t l x e = rw e
 
+taken-up-lasts : (σ : Settings) (ins : List ℕ) (b : Block) (m : Image) (pre : List Step) (e : Step) (post : List Step)
+    → takeUp σ ins b m ≡ pre ++ e ∷ post → StepOf σ ins (rest b (m .index)) (m .index) (variablesAfter pre (m .variables)) e
+unfolding takeUp
+taken-up-lasts σ ins b m = step-lasts σ ins (m .variables) (rest b (m .index)) (m .index)
+
 one-time : (σ : Settings) → σ .multiply ≡ σ .set → (o t l x : ℕ) → ticks σ (set o t l x) ≡ σ .set
 one-time σ e o t l x = either (eqb (o % 16) 3)
   where
@@ -143,6 +149,7 @@ multiplying = record {
   others = λ σ o t l x h. rw (ne-eqb (o % 16) 3 h);
   product = product;
   lasts = step-lasts;
+  taken-up-lasts = taken-up-lasts;
   within = λ σ ins v b i. run-within σ ins b i .in-all v;
   follow = follow;
   unused = unused;

@@ -13,8 +13,8 @@ use Rattle.model.specs.Records.{wordAt}
 use Rattle.model.specs.Settings.{settingsOf, badSettings}
 use Rattle.model.specs.Trees.{Act, set, read, write, check, beat, save, Block, nil, skip, act, branch, while, times, size}
 use Rattle.model.specs.Times.{ticks, time}
-use Rattle.model.specs.Runs.{assigns, Step, duration, rightValue, effect, run}
-use Rattle.model.specs.Stopping.{Image, takeUp}
+use Rattle.model.specs.Runs.{Effect, nothing, assigns, Step, duration, variablesAfter, rightValue, lastTest, effect, run}
+use Rattle.model.specs.Stopping.{Image, rest, takeUp}
 use Rattle.model.specs.Listing.{startTicks}
 use Rattle.model.specs.Equalising.{equalise}
 use Rattle.model.specs.Layout.{layout, total}
@@ -48,19 +48,21 @@ OnlyMultiply (check q) = Unit {0}
 OnlyMultiply (beat x) = Unit {0}
 OnlyMultiply (save m) = Unit {0}
 
--- a step at record i that lasts d ticks
-abbrev pub Stands : Step → ℕ → ℕ → Type 0
-Stands e i d = (e .index ≡ i) × (e .lasts ≡ d)
+-- a step at record i that lasts d ticks and does w
+abbrev pub Stands : Step → ℕ → ℕ → Effect → Type 0
+Stands e i d w = (e .index ≡ i) × (e .lasts ≡ d) × (e .does ≡ w)
 
--- a step of a block whose first record has the index i: it stands at one of its records and lasts what that record says, an IF's or a loop's test 1
-abbrev pub StepOf : Settings → Block → ℕ → Step → Type 0
-StepOf σ nil i e = ⊥
-StepOf σ (skip n b) i e = Stands e i n ⊎ StepOf σ b (i + 1) e
-StepOf σ (act p b) i e = Stands e i (ticks σ p) ⊎ StepOf σ b (i + 1) e
-StepOf σ (branch q a d b) i e =
-    Stands e i 1 ⊎ (StepOf σ a (i + 1) e ⊎ (StepOf σ d (i + 2 + size a) e ⊎ StepOf σ b (i + 3 + size a + size d) e))
-StepOf σ (while q n a b) i e = Stands e i 1 ⊎ (StepOf σ a (i + 1) e ⊎ StepOf σ b (i + 2 + size a) e)
-StepOf σ (times q n a b) i e = Stands e i 1 ⊎ (StepOf σ a (i + 1) e ⊎ StepOf σ b (i + 2 + size a) e)
+-- A step of a block whose first record has the index i, with variables v before it: it stands at one of its records, and lasts and does what that record
+-- says. The test of a WHILE is the last one, or goes into a round or past it.
+abbrev pub StepOf : Settings → List ℕ → Block → ℕ → List ℕ → Step → Type 0
+StepOf σ ins nil i v e = ⊥
+StepOf σ ins (skip n b) i v e = Stands e i n nothing ⊎ StepOf σ ins b (i + 1) v e
+StepOf σ ins (act p b) i v e = Stands e i (ticks σ p) (effect ins p v) ⊎ StepOf σ ins b (i + 1) v e
+StepOf σ ins (branch q a d b) i v e =
+    Stands e i 1 nothing ⊎ (StepOf σ ins a (i + 1) v e ⊎ (StepOf σ ins d (i + 2 + size a) v e ⊎ StepOf σ ins b (i + 3 + size a + size d) v e))
+StepOf σ ins (while q n a b) i v e =
+    Stands e i 1 nothing ⊎ (Stands e i 1 (lastTest q v) ⊎ (StepOf σ ins a (i + 1) v e ⊎ StepOf σ ins b (i + 2 + size a) v e))
+StepOf σ ins (times q n a b) i v e = Stands e i 1 (lastTest q v) ⊎ (StepOf σ ins a (i + 1) v e ⊎ StepOf σ ins b (i + 2 + size a) v e)
 
 -- settings with these ticks of SET, READ, WRITE and a multiply; B, S, K, H and P stay
 abbrev pub retimed : ℕ → ℕ → ℕ → ℕ → Settings → Settings
@@ -103,22 +105,24 @@ pub record Multiplying : Type 0 where
   pub operations : (o x : ℕ) → opFits 3 o x ≡ true → (Multiplies o) ↔ ((o ≡ 3) ⊎ (o ≡ 19))
   pub multiplies : (σ : Settings) (o t l x : ℕ) → Multiplies o → ticks σ (set o t l x) ≡ σ .multiply
   pub others : (σ : Settings) (o t l x : ℕ) → (Multiplies o → ⊥) → ticks σ (set o t l x) ≡ σ .set
-  -- "3 multiply": the SETs that take this time are those that multiply
+  -- "3 multiply": a SET that takes this time multiplies
   pub product : (ins v : List ℕ) (o t l x : ℕ) → Multiplies o → effect ins (set o t l x) v ≡ assigns t (getD v l 0 * rightValue o x v % 2 ^ 32)
-  -- "so times, equalising, layout and the runs all follow": a step of a run, in any form of file, takes the ticks of its record; no run is longer than the
-  -- stated time, and by Demand2 the runs of equalised and laid files that do not overrun last just that
+  -- "so times, equalising, layout and the runs all follow": a step of a run, in any form of file, whole or taken up, takes the ticks of the record that
+  -- it does; no run is longer than the stated time, and by Demand2 those of a file that equalising or laying out wrote last just that, overruns aside
   pub lasts : (σ : Settings) (ins v : List ℕ) (b : Block) (i : ℕ) (pre : List Step) (e : Step) (post : List Step) → run σ ins b i v ≡ pre ++ e ∷ post
-      → StepOf σ b i e
+      → StepOf σ ins b i (variablesAfter pre v) e
+  pub taken-up-lasts : (σ : Settings) (ins : List ℕ) (b : Block) (m : Image) (pre : List Step) (e : Step) (post : List Step)
+      → takeUp σ ins b m ≡ pre ++ e ∷ post → StepOf σ ins (rest b (m .index)) (m .index) (variablesAfter pre (m .variables)) e
   pub within : (σ : Settings) (ins v : List ℕ) (b : Block) (i : ℕ) → duration (run σ ins b i v) ≤ time σ b
   -- and a block depends on nothing but the ticks of its own acts and B, S, K, H and P
   pub follow : (σ : Settings) (a r w m : ℕ) (b : Block) → Each (λ p. ticks (retimed a r w m σ) p ≡ ticks σ p) b → SameBlock σ (retimed a r w m σ) b
   -- so where no SET of it multiplies, the ticks of a multiply change nothing of it, and where each one does, those of SET
   pub unused : (σ : Settings) (m : ℕ) (b : Block) → Each NoMultiply b → SameBlock σ (retimed (σ .set) (σ .read) (σ .write) m σ) b
   pub only : (σ : Settings) (n : ℕ) (b : Block) → Each OnlyMultiply b → SameBlock σ (retimed n (σ .read) (σ .write) (σ .multiply) σ) b
-  -- "refusal 7's longest step counts it too": row 7's causes are these four, whatever the file holds
+  -- "refusal 7's longest step counts it too": row 7's causes are these four, whatever a sound file holds
   pub seven : (s file : List ℕ) (room : ℕ) → badSettings s ≡ false → fault Equalised file ≡ sound
       → (layOutReply s file room ≡ refused 7 []) ↔ SevenCause (settingsOf s)
-  -- "The comparison with 003's rules is made with this time in place of the single assignment time": `Equalises.writes` of Demand2 compares with 003's
-  -- F, whose times are `time`. 003 has one constant, WCET(x := e). In its place stand the ticks of a multiply where e is a product, and SET's elsewhere.
-  -- Where these are one number, every assignment has it, as in 003.
+  -- "The comparison with 003's rules is made with this time in place of the single assignment time": `Equalises.writes` of Demand2 has 003's F, whose
+  -- times are `time`; both are to be read beside 003's rules. 003 has one constant, WCET(x := e). In its place stand the ticks of a multiply where e is
+  -- a product, and SET's elsewhere. Where these are one number, every assignment has it, as in 003.
   pub single : (σ : Settings) → σ .multiply ≡ σ .set → (o t l x : ℕ) → ticks σ (set o t l x) ≡ σ .set
