@@ -1,4 +1,6 @@
 // The sides of every branch made to last equally long. One pass measures the result, and one writes it.
+#![tactic(auto)]
+
 mod measure;
 mod pads;
 mod pieces;

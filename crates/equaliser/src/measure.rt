@@ -15,7 +15,7 @@ use timing::ticks::{Time, branch_time, excess, loop_time, step_ticks, within};
 
 // The time of a statement or a block, the records written by its end, the ticks of SKIP that wait there, and the index of the record after it.
 // A time above the period says that alone. What waits has 64 bits, since it is added before the sum is held against the period.
-#[derive(Drop)]
+#[derive(Clone, Copy)]
 pub struct Extent {
     pub time: Time,
     pub records: usize,
@@ -55,7 +55,7 @@ fn measure_plain(rack: Settings, r: Record, wait: u64, next: usize) -> Extent
 }
 
 // The WHILE at i, with the record r, after waiting ticks of SKIP.
-#[cycle(measure_block_measure_branch_measure_loop_measure_statement)]
+#[cycle(measuring)]
 fn measure_loop(
     file: &[u8],
     i: usize,
@@ -85,7 +85,7 @@ fn measure_loop(
 }
 
 // The IF at i, after waiting ticks of SKIP.
-#[cycle(measure_block_measure_branch_measure_loop_measure_statement)]
+#[cycle(measuring)]
 fn measure_branch(
     file: &[u8],
     i: usize,
@@ -120,7 +120,7 @@ fn measure_branch(
 }
 
 // The statement at i, after waiting ticks of SKIP.
-#[cycle(measure_block_measure_branch_measure_loop_measure_statement)]
+#[cycle(measuring)]
 fn measure_statement(
     file: &[u8],
     i: usize,
@@ -143,7 +143,7 @@ fn measure_statement(
 }
 
 // The block at `from`, up to the record that closes it. The sum is given up once it passes the period.
-#[cycle(measure_block_measure_branch_measure_loop_measure_statement)]
+#[cycle(measuring)]
 pub fn measure_block(
     file: &[u8],
     from: usize,

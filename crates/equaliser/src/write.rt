@@ -14,7 +14,7 @@ use records::skips::put_skip;
 use records::{Record, kind_at, kinds, put_bare, put_record, record_at};
 
 // The index of the record after a statement or a block, the bytes written for it, and the ticks of SKIP that wait after it.
-#[derive(Drop)]
+#[derive(Clone, Copy)]
 pub struct Written {
     pub next: usize,
     pub bytes: usize,
@@ -22,7 +22,7 @@ pub struct Written {
 }
 
 // The loop that the WHILE at i, with the record r, becomes.
-#[cycle(write_block_write_branch_write_inner_write_loop_write_statement)]
+#[cycle(writing)]
 fn write_loop(
     file: &[u8],
     i: usize,
@@ -47,7 +47,7 @@ fn write_loop(
 }
 
 // The IF at i, with the record r.
-#[cycle(write_block_write_branch_write_inner_write_loop_write_statement)]
+#[cycle(writing)]
 fn write_branch(
     file: &[u8],
     i: usize,
@@ -82,7 +82,7 @@ fn write_branch(
 }
 
 // The IF or the loop at i, with the record r.
-#[cycle(write_block_write_branch_write_inner_write_loop_write_statement)]
+#[cycle(writing)]
 fn write_inner(
     file: &[u8],
     i: usize,
@@ -101,7 +101,7 @@ fn write_inner(
 }
 
 // The statement at i, after `waited` ticks of SKIP.
-#[cycle(write_block_write_branch_write_inner_write_loop_write_statement)]
+#[cycle(writing)]
 fn write_statement(
     file: &[u8],
     i: usize,
@@ -140,7 +140,7 @@ fn write_statement(
 }
 
 // The block at `from`, up to the record that closes it, with a SKIP of `pad` ticks at its end.
-#[cycle(write_block_write_branch_write_inner_write_loop_write_statement)]
+#[cycle(writing)]
 pub fn write_block(
     file: &[u8],
     from: usize,

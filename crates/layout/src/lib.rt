@@ -1,4 +1,6 @@
 // The equalised file unrolled, with heartbeats and checkpoints at their ticks. One pass measures the result, and one writes it.
+#![tactic(auto)]
+
 mod lent;
 mod measure;
 mod skips;

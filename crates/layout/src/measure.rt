@@ -22,7 +22,7 @@ use timing::ticks::{settings_in, step_ticks};
 
 // The state after a part of the file, the index of the record after it, and the next place of the table of meetings. Writing answers
 // it; measuring leaves the state and the place on the clock.
-#[derive(Drop)]
+#[derive(Clone, Copy)]
 pub struct Passage {
     pub state: State,
     pub next: usize,
@@ -86,7 +86,7 @@ fn measure_step(t: &[u32; 16], r: Record, from: State) -> State
 }
 
 // The side of an IF at i: an empty one is not walked.
-#[cycle(measure_block_measure_branch_measure_inner_measure_rounds_measure_side)]
+#[cycle(measuring)]
 fn measure_side(
     file: &[u8],
     i: usize,
@@ -106,7 +106,7 @@ fn measure_side(
 }
 
 // The IF at i. Its second side starts at the tick of its first, and its records are counted after those.
-#[cycle(measure_block_measure_branch_measure_inner_measure_rounds_measure_side)]
+#[cycle(measuring)]
 fn measure_branch(
     file: &[u8],
     i: usize,
@@ -144,7 +144,7 @@ fn measure_branch(
 }
 
 // The loop at i, with that count.
-#[cycle(measure_block_measure_branch_measure_inner_measure_rounds_measure_side)]
+#[cycle(measuring)]
 fn measure_rounds(
     file: &[u8],
     i: usize,
@@ -174,7 +174,7 @@ fn measure_rounds(
 }
 
 // The IF or the loop at i.
-#[cycle(measure_block_measure_branch_measure_inner_measure_rounds_measure_side)]
+#[cycle(measuring)]
 fn measure_inner(
     file: &[u8],
     i: usize,
@@ -200,7 +200,7 @@ fn measure_inner(
 }
 
 // The block at `from`, up to the record that closes it.
-#[cycle(measure_block_measure_branch_measure_inner_measure_rounds_measure_side)]
+#[cycle(measuring)]
 fn measure_block(
     file: &[u8],
     from: usize,

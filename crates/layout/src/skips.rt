@@ -16,7 +16,7 @@ use timing::ticks::settings_in;
 
 // Whether a statement, or the body of a loop, has SKIPs alone. Then it takes so many ticks in all rounds, told up to one more than the period,
 // and `next` is the record after the statement, or the END of the body.
-#[derive(Drop)]
+#[derive(Clone, Copy)]
 pub struct Idle {
     pub only: bool,
     pub ticks: u32,

@@ -18,7 +18,7 @@ use records::{Record, kind_at, kinds, record_at};
 use timing::ticks::step_ticks;
 
 // The side of an IF at i, filled up to the tick `end` and closed by a record of that kind.
-#[cycle(write_block_write_branch_write_rounds_write_side_write_statement)]
+#[cycle(writing)]
 fn write_side(
     file: &[u8],
     i: usize,
@@ -45,7 +45,7 @@ fn write_side(
 }
 
 // The IF at i, with the record r: where its sides meet was measured.
-#[cycle(write_block_write_branch_write_rounds_write_side_write_statement)]
+#[cycle(writing)]
 fn write_branch(
     file: &[u8],
     i: usize,
@@ -98,7 +98,7 @@ fn write_branch(
 }
 
 // The loop at i, with the record r.
-#[cycle(write_block_write_branch_write_rounds_write_side_write_statement)]
+#[cycle(writing)]
 fn write_rounds(
     file: &[u8],
     i: usize,
@@ -137,7 +137,7 @@ fn write_rounds(
 }
 
 // The statement at i.
-#[cycle(write_block_write_branch_write_rounds_write_side_write_statement)]
+#[cycle(writing)]
 fn write_statement(
     file: &[u8],
     i: usize,
@@ -170,7 +170,7 @@ fn write_statement(
 }
 
 // The block at `from`, up to the record that closes it.
-#[cycle(write_block_write_branch_write_rounds_write_side_write_statement)]
+#[cycle(writing)]
 pub fn write_block(
     file: &[u8],
     from: usize,

@@ -1,6 +1,8 @@
 // Row 14: whether a task surely writes, found from its last record to its first. On the way a number has a bit for each block that is met
 // from there on, which is 1 for one that surely writes: lowest for the block that stands there, and then for the one after each ELSE or END
 // whose block was opened further left.
+#![tactic(auto)]
+
 ghost use Rattle.std.specs.Prelude.{◌≡◌, true, List, ◌<◌};
 ghost use Rattle.model.specs.declared.Form.TheVariants.{Task};
 ghost use Rattle.model.specs.Records.{Rec, IF};

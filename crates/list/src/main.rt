@@ -1,4 +1,6 @@
 // The list program. The run beside it is case B.
+#![tactic(auto)]
+
 fn main() {
     printing::print_listing();
 }

@@ -1,4 +1,6 @@
 // The listing of a task: its laid file, the tick at which each record starts, and the line of a record.
+#![tactic(auto)]
+
 pub mod lines;
 mod starts;
 

@@ -9,14 +9,14 @@ use records::{kind_at, kinds, record_at};
 use timing::ticks::{later, step_ticks};
 
 // The tick at which the records from `next` on start.
-#[derive(Drop)]
+#[derive(Clone, Copy)]
 pub struct Place {
     pub tick: u32,
     pub next: usize,
 }
 
 // The IF at i: both sides start at the next tick, as ELSE does, and END where the later one ends.
-#[cycle(start_block_start_branch_start_statement)]
+#[cycle(starting)]
 fn start_branch(file: &[u8], i: usize, to: usize, rack: Settings, at: u32, out: &mut [u32]) -> Place
     requires { (Statement file.now i to rack at out.old) × (kind_at file.now i ≡ IF) }
     ensures { StatementStarted file.now i to rack at out.old out.new result }
@@ -37,7 +37,7 @@ fn start_branch(file: &[u8], i: usize, to: usize, rack: Settings, at: u32, out: 
 }
 
 // The statement at i.
-#[cycle(start_block_start_branch_start_statement)]
+#[cycle(starting)]
 fn start_statement(
     file: &[u8],
     i: usize,
@@ -61,7 +61,7 @@ fn start_statement(
 }
 
 // The block at `from`, up to the record that closes it.
-#[cycle(start_block_start_branch_start_statement)]
+#[cycle(starting)]
 pub fn start_block(
     file: &[u8],
     from: usize,

@@ -23,7 +23,7 @@ use Rattle.stepping.specs.Machines.{Held, held, Machine, machine, does, runs}
 use Rattle.stepping.specs.Steps.{going, reached}
 use Rattle.stepping.specs.Buffers.{with_variables, with_outputs, Stored, StoredImage}
 use Rattle.stepping.proofs.ImageLaws.{beyond}
-use Rattle.running.specs.Contracts.{at_end, Chain, along, Started, RecordsRan}
+use Rattle.running.specs.Promises.{at_end, Chain, along, Started, RecordsRan}
 use Rattle.running.proofs.{Files.file_sound, Files.file_size, Doing.held_after, Doing.does_upto, Running.runs_same}
 use Rattle.running.proofs.Positions.{joined, Position, position, rest_shorter}
 use Rattle.running.proofs.Bare.{bare, ahead_joined, runs_bare}

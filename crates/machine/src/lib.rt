@@ -1,4 +1,6 @@
 // Runs of files of all three forms: whole, up to a tick, and taken up.
+#![tactic(auto)]
+
 mod ready;
 
 ghost use Rattle.std.specs.Prelude.{◌≡◌, length, replicate};

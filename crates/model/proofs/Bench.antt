@@ -7,7 +7,7 @@ use Rattle.model.specs.declared.Form.TheVariants.{Task}
 use Rattle.model.specs.Records.{first_records, records, bytes, SKIP, SET, READ, WRITE, IF, ELSE, WHILE, END, BEAT, SAVE}
 use Rattle.model.specs.{Settings.settings_of, Settings.bad_settings, Equalising.equalise}
 use Rattle.model.specs.Trees.{linearise, stack_of, tree_of, file_tree}
-use Rattle.model.specs.Runs.{Effect, nothing, assigns, outputs, beats, saves, overruns, Buffers, is_beat, is_save, starts, holds, result, effect}
+use Rattle.model.specs.Runs.{Effect, nothing, assigns, outputs, beats, saves, overruns, Buffers, is_beat, is_save, starts, holds, result_of, effect}
 use Rattle.model.specs.Layout.{before, last_value, layout, total}
 use Rattle.model.specs.{Stopping.image_bytes, Stopping.image_of, Stopping.take_up, Refusals.fields_fit, Refusals.scan, Refusals.fault}
 use Rattle.model.specs.{Answers.Verdict, Answers.finished, Answers.refused}
@@ -228,7 +228,7 @@ lettered =
 
 pub bench : Holds lettered
 unfolding
-    lettered first_records records bytes settings_of bad_settings linearise stack_of tree_of file_tree holds result effect equalise before
+    lettered first_records records bytes settings_of bad_settings linearise stack_of tree_of file_tree holds result_of effect equalise before
     last_value layout total image_bytes image_of take_up fields_fit scan fault reading time_reply equalised_tree equalise_reply equalise_out
     laid_tree lay_out_reply lay_out_out ready steps_of run_reply run_buffers image_at stop_reply stop_buffers stop_image taken_up taken_buffers
     resume_reply resume_buffers restart_reply restart_buffers prepare_reply printed decimal printed_text

@@ -4,7 +4,7 @@ use mathlib.Core.{Path.refl, List.List, List.[], List.◌∷◌}
 use Rattle.model.specs.declared.Form.{Form}
 use Rattle.model.specs.declared.Form.TheVariants.{Task, Equalised, Laid}
 use Rattle.model.specs.Records.{first_records, records, bytes, SET, IF, ELSE, WHILE, END}
-use Rattle.model.specs.{Settings.settings_of, Settings.bad_settings, Runs.holds, Runs.result, Runs.effect, Equalising.equalise, Chain.lend}
+use Rattle.model.specs.{Settings.settings_of, Settings.bad_settings, Runs.holds, Runs.result_of, Runs.effect, Equalising.equalise, Chain.lend}
 use Rattle.model.specs.Trees.{linearise, stack_of, tree_of, file_tree}
 use Rattle.model.specs.Layout.{before, last_value, layout, total}
 use Rattle.model.specs.{Refusals.fields_fit, Refusals.scan, Refusals.fault}
@@ -64,6 +64,6 @@ multiplied =
 
 pub multiplied_answered : Answered multiplied
 unfolding
-    multiplied first_records records bytes settings_of bad_settings linearise stack_of tree_of file_tree holds result effect equalise before last_value
+    multiplied first_records records bytes settings_of bad_settings linearise stack_of tree_of file_tree holds result_of effect equalise before last_value
     layout total fields_fit scan fault reading time_reply equalised_tree equalise_reply laid_tree lay_out_reply prepare_reply ready steps_of run_reply
 multiplied_answered = refl

@@ -137,8 +137,8 @@ unfoldable pub holds : Test → List ℕ → Bool
 holds q v = compares (q.relation % by_variable) (get_or v q.left 0) (right_value q.relation q.right v)
 
 -- "the operation (0 copy the right value, 1 add, 2 subtract, 3 multiply)", "taken modulo 2^32"
-unfoldable pub result : ℕ → ℕ → ℕ → ℕ
-result o a b =
+unfoldable pub result_of : ℕ → ℕ → ℕ → ℕ
+result_of o a b =
     cond (eqb o 0) b
     (cond (eqb o 1) ((a + b) % 2 ^ 32)
     (cond (eqb o 2) ((a + 2 ^ 32 - b) % 2 ^ 32)
@@ -149,7 +149,7 @@ abbrev pub last_test : Test → List ℕ → Effect
 last_test q v = cond (holds q v) overruns nothing
 
 unfoldable pub effect : List ℕ → Act → List ℕ → Effect
-effect ins (set o t l x) v = assigns t (result (o % by_variable) (get_or v l 0) (right_value o x v))
+effect ins (set o t l x) v = assigns t (result_of (o % by_variable) (get_or v l 0) (right_value o x v))
 effect ins (read a p) v = assigns a (get_or ins p 0)
 effect ins (write a p) v = outputs p (get_or v a 0)
 effect ins (check q) v = last_test q v

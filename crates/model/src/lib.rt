@@ -1,9 +1,11 @@
 // The types that the definitions of specs/ and the public calls share.
+#![tactic(auto)]
+
 pub mod limits;
 pub mod refusals;
 
 // The forms that a file of records can have.
-#[derive(Drop)]
+#[derive(Clone, Copy)]
 pub enum Form {
     Task,
     Equalised,
@@ -12,7 +14,7 @@ pub enum Form {
 
 // The settings: the ticks of SET, READ, WRITE, BEAT, SAVE and of a SET that multiplies,
 // the checkpoint spacing K in windows, the window H and the period P in ticks.
-#[derive(Drop)]
+#[derive(Clone, Copy)]
 pub struct Settings {
     pub set: u32,
     pub read: u32,
@@ -26,7 +28,7 @@ pub struct Settings {
 }
 
 // Why a call is turned down: document 01's numbers 1 to 12 and those that document 02 adds, and the value returned with 1 to 5.
-#[derive(Drop)]
+#[derive(Clone, Copy)]
 pub enum Refusal {
     // 1: the length in bytes.
     BadLength(usize),
@@ -47,49 +49,49 @@ pub enum Refusal {
 }
 
 // A refusal's number, and the value returned with it; 0 where the number is returned alone.
-#[derive(Drop)]
+#[derive(Clone, Copy)]
 pub struct Row {
     pub number: u64,
     pub value: usize,
 }
 
 // time_file
-#[derive(Drop)]
+#[derive(Clone, Copy)]
 pub enum Timed {
     Ticks(u32),
     Refused(Refusal),
 }
 
 // equalise
-#[derive(Drop)]
+#[derive(Clone, Copy)]
 pub enum Equalised {
     Written { bytes: usize, time: u32 },
     Refused(Refusal),
 }
 
 // lay_out
-#[derive(Drop)]
+#[derive(Clone, Copy)]
 pub enum LaidOut {
     Written { bytes: usize, total: u32 },
     Refused(Refusal),
 }
 
 // run, resume and restart
-#[derive(Drop)]
+#[derive(Clone, Copy)]
 pub enum Ran {
     Ended { tick: u32, overran: bool },
     Refused(Refusal),
 }
 
 // run_until: the stop tick, and whether an image was written
-#[derive(Drop)]
+#[derive(Clone, Copy)]
 pub enum Stopped {
     At { tick: u32, saved: bool },
     Refused(Refusal),
 }
 
 // An entry of the watcher's table: the count and 2 more, the window, and whether it waits for its next beat.
-#[derive(Drop)]
+#[derive(Clone, Copy)]
 pub struct Entry {
     pub left: u32,
     pub window: u32,
@@ -97,7 +99,7 @@ pub struct Entry {
 }
 
 // What happens to an entry: a beat of a value, a look, and a reset with a window.
-#[derive(Drop)]
+#[derive(Clone, Copy)]
 pub enum Event {
     Beat(u32),
     Look,
@@ -105,7 +107,7 @@ pub enum Event {
 }
 
 // How an entry is.
-#[derive(Drop)]
+#[derive(Clone, Copy)]
 pub enum Health {
     Waiting,
     Well,
@@ -114,14 +116,14 @@ pub enum Health {
 }
 
 // beat, look, reset and status: how the entry is afterwards, and its count and 2 more
-#[derive(Drop)]
+#[derive(Clone, Copy)]
 pub enum Watched {
     Is { health: Health, left: u32 },
     Refused(Refusal),
 }
 
 // A line of a listing: the start tick and the kind of a record, and four numbers after its name, of which the first `count` are printed.
-#[derive(Drop)]
+#[derive(Clone, Copy)]
 pub struct Line {
     pub tick: u32,
     pub kind: u8,
@@ -133,14 +135,14 @@ pub struct Line {
 }
 
 // line_at
-#[derive(Drop)]
+#[derive(Clone, Copy)]
 pub enum Shown {
     Line(Line),
     Absent,
 }
 
 // rehearse: where the prepared form is stopped
-#[derive(Drop)]
+#[derive(Clone, Copy)]
 pub enum Stop {
     Never,
     At(u32),
@@ -148,7 +150,7 @@ pub enum Stop {
 
 // rehearse: whether the ends are alike, the laid file's bytes and total, and the end tick; of a run that was stopped also the stop tick, whether
 // there was an image, its tick (0 with none) and the ticks run twice.
-#[derive(Drop)]
+#[derive(Clone, Copy)]
 pub enum Rehearsed {
     Whole {
         alike: bool,

@@ -12,7 +12,7 @@ use records::skips::skip_records;
 // One record more than a file can have: where counting stops.
 pub const TOO_MANY: usize = FILE_RECORDS + 1;
 
-#[derive(Drop)]
+#[derive(Clone, Copy)]
 pub struct State {
     pub tick: u32,
     // The ticks left to the next multiple of the window; 0 at one, before its commands.

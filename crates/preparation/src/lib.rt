@@ -1,4 +1,6 @@
 // A task made ready to run: equalised, then laid out.
+#![tactic(auto)]
+
 ghost use Rattle.std.specs.Prelude.{◌≡◌, length};
 ghost use Rattle.model.specs.Answers.{laid_out};
 ghost use Rattle.model.specs.Replies.{prepare_reply, prepare_out};

@@ -1,5 +1,7 @@
 // The list program: it reads the settings in rack.set and a task on standard input, and prints the task's listing, or why it is refused.
 // Where a read or the write fails, standard error says so.
+#![tactic(auto)]
+
 mod files;
 pub mod render;
 

@@ -1,4 +1,6 @@
 // The calls as C makes them. Each answers one number, in which `packing` puts what the paper returns.
+#![tactic(auto)]
+
 ghost use Rattle.std.specs.Prelude.{◌≡◌, length};
 ghost use Rattle.model.specs.Replies.{time_reply, equalise_reply, equalise_out, lay_out_reply, lay_out_out, prepare_reply, prepare_out, loan, buffers_of};
 ghost use Rattle.model.specs.Replies.{run_reply, run_buffers, stop_reply, stop_buffers, stop_image, resume_reply, resume_buffers, restart_reply, restart_buffers};

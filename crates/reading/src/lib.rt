@@ -1,4 +1,6 @@
 // Rows 6 and 1 to 5 of the table: every call reads its settings and its file here first.
+#![tactic(auto)]
+
 pub mod blocks;
 pub mod closings;
 mod fields;
@@ -12,7 +14,7 @@ use records::settings::Decoded;
 use scan::{Scanned, scan_file};
 
 // What a call begins with: the settings, where the file has passed too, or why it is turned down.
-#[derive(Drop)]
+#[derive(Clone, Copy)]
 pub enum Checked {
     Valid(Settings),
     Refused(Refusal),

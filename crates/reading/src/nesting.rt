@@ -6,13 +6,13 @@ ghost use Rattle.reading.specs.Nesting.{blocks, nested};
 use records::kinds;
 
 // The open blocks: how many, and a bit for each, the innermost lowest, which is 1 for an IF that still waits for its ELSE.
-#[derive(Drop)]
+#[derive(Clone, Copy)]
 pub struct Blocks {
     pub depth: usize,
     pub waiting: u32,
 }
 
-#[derive(Drop)]
+#[derive(Clone, Copy)]
 pub enum Nested {
     Misplaced,
     Inside(Blocks),

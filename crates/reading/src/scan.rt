@@ -10,14 +10,14 @@ use model::{Form, Refusal};
 use records::{Record, record_at};
 
 // Whether a file is sound, or why it is refused.
-#[derive(Drop)]
+#[derive(Clone, Copy)]
 pub enum Scanned {
     Sound,
     Refused(Refusal),
 }
 
 // What a record makes of the scan: its refusal, or the open blocks after it.
-#[derive(Drop)]
+#[derive(Clone, Copy)]
 enum Turn {
     Refused(Refusal),
     Goes(Blocks),

@@ -1,4 +1,6 @@
 // Records of 12 bytes, read from a file and written to the front of a lent buffer.
+#![tactic(auto)]
+
 pub mod kinds;
 pub mod settings;
 pub mod skips;
@@ -13,7 +15,7 @@ use model::limits::FILE_RECORDS;
 use words::{put_word, word_at};
 
 // A record's kind, its three other bytes and its two numbers.
-#[derive(Drop)]
+#[derive(Clone, Copy)]
 pub struct Record {
     pub kind: u8,
     pub op: u8,

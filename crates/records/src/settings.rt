@@ -9,7 +9,7 @@ use model::limits::{MOST_MULTIPLY, MOST_TICKS, NARROW_LENGTH, WIDE_LENGTH};
 use model::{Refusal, Settings};
 
 // The settings, or why a call that is handed them is turned down.
-#[derive(Drop)]
+#[derive(Clone, Copy)]
 pub enum Decoded {
     Valid(Settings),
     Refused(Refusal),

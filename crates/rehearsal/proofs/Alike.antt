@@ -9,7 +9,7 @@ use lib.ListN.{length, get_or, drop, drop_of_length-le}
 use borrow.Author.Tests.{eqb-true, eq-eqb, ne_eqb, not-true, not-false}
 use Rattle.model.specs.{Answers.bit, Chain.End, Rehearsal.same_list, Rehearsal.same_end}
 use Rattle.rehearsal.specs.declared.ends.Final.{Final}
-use Rattle.rehearsal.specs.Contracts.{end_in}
+use Rattle.rehearsal.specs.Promises.{end_in}
 
 -- ELEMENT BY ELEMENT
 

@@ -7,7 +7,7 @@ use Rattle.model.specs.declared.{Refusal.Refusal, Ran.Ran, Stop.Stop}
 use Rattle.model.specs.{Runs.Buffers, Rehearsal.whole_of, Rehearsal.stopped_of}
 use Rattle.model.specs.Answers.{Verdict, finished, bit, refusal, ran, and_then}
 use Rattle.model.specs.{Replies.Loan, Replies.run_reply, Replies.run_buffers, Chain.End, Chain.end_of, Chain.run_end}
-use Rattle.rehearsal.specs.Contracts.{second_of}
+use Rattle.rehearsal.specs.Promises.{second_of}
 use Rattle.preparation.proofs.Chaining.{refused_first}
 
 -- the call was lent a copy v of the set u, as c says

@@ -14,7 +14,7 @@ use Rattle.model.specs.Chain.{Set, Chain, equalising, equalised_file, laying_out
 use Rattle.model.specs.Rehearsal.{room, zero_outputs, chain, second, bad_sets, rehearsal, Confirms, Rehearses}
 use Rattle.theory.proofs.{Accepted.lay_out_accepted, Prepared.finish, Preparing.prepares_out, Preparing.prepares_both}
 use Rattle.preparation.proofs.Chaining.{refused_second, first_done, both_done, second_done}
-use Rattle.rehearsal.specs.Contracts.{laid_loan, second_of}
+use Rattle.rehearsal.specs.Promises.{laid_loan, second_of}
 use Rattle.rehearsal.proofs.Theorem.{confirms}
 
 -- both sets have 16 variables

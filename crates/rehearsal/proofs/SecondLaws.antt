@@ -12,7 +12,7 @@ use Rattle.model.specs.Answers.{Verdict, finished, bit, refusal, ran, stopped, a
 use Rattle.model.specs.Replies.{Loan, run_reply, run_buffers, stop_reply, stop_buffers, stop_image, resume_reply, resume_buffers, restart_reply, restart_buffers, buffers_of}
 use Rattle.model.specs.Chain.{Outputs, lend, End, end_of}
 use Rattle.model.specs.Rehearsal.{same_end, whole_of, taken_of, stopped_of}
-use Rattle.rehearsal.specs.Contracts.{laid_loan}
+use Rattle.rehearsal.specs.Promises.{laid_loan}
 use Rattle.preparation.proofs.Chaining.{refused_first}
 
 -- ANY CALL

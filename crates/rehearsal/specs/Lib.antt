@@ -1,2 +1,2 @@
 -- What the parts of a rehearsal answer.
-pub mod Contracts
+pub mod Promises

@@ -1,12 +1,12 @@
 // The ends of two runs, compared.
 ghost use Rattle.std.specs.Prelude.{◌≡◌, length};
 ghost use Rattle.model.specs.Rehearsal.{same_list, same_end};
-ghost use Rattle.rehearsal.specs.Contracts.{end_in, Full};
+ghost use Rattle.rehearsal.specs.Promises.{end_in, Full};
 
 use model::limits::{PORTS, VARIABLES};
 
 // What a run that ended leaves, and whether it overran.
-#[derive(Drop)]
+#[derive(Clone, Copy)]
 pub struct Final {
     pub variables: [u32; VARIABLES],
     pub levels: [u32; PORTS],

@@ -1,5 +1,7 @@
 // A rehearsal of the whole chain of calls: the task as written on one set, its prepared form on another, whole or stopped once and taken
 // up, and whether the two ends are alike. All that is lent is read only.
+#![tactic(auto)]
+
 mod ends;
 mod second;
 
@@ -10,7 +12,7 @@ ghost use Rattle.model.specs.Replies.{run_reply};
 ghost use Rattle.model.specs.Chain.{lend, run_end};
 ghost use Rattle.model.specs.Answers.{rehearsed, and_then};
 ghost use Rattle.model.specs.Rehearsal.{zero_outputs, set_of, bad_sets, Rehearses};
-ghost use Rattle.rehearsal.specs.Contracts.{laid_loan, second_of};
+ghost use Rattle.rehearsal.specs.Promises.{laid_loan, second_of};
 
 use ends::Final;
 use machine::run;

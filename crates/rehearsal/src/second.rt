@@ -7,7 +7,7 @@ ghost use Rattle.model.specs.Replies.{resume_reply, resume_buffers, restart_repl
 ghost use Rattle.model.specs.Chain.{lend};
 ghost use Rattle.model.specs.Answers.{rehearsed};
 ghost use Rattle.model.specs.Rehearsal.{whole_of, taken_of, stopped_of};
-ghost use Rattle.rehearsal.specs.Contracts.{end_in, Full, laid_loan, outputs_in, FullLeft};
+ghost use Rattle.rehearsal.specs.Promises.{end_in, Full, laid_loan, outputs_in, FullLeft};
 
 use crate::ends::{Final, alike};
 use machine::{restart, resume, run, run_until};
@@ -17,7 +17,7 @@ use records::words::{copy, word_at};
 use timing::ticks::excess;
 
 // What a stop left for the run that is taken up.
-#[derive(Drop)]
+#[derive(Clone, Copy)]
 pub struct Left {
     pub levels: [u32; PORTS],
     pub marks: [u8; PORTS],

@@ -10,7 +10,7 @@ use Rattle.model.specs.Runs.{Step, step, Run, run}
 use Rattle.theory.proofs.{Sequences.run-⧺, Unindexed.unindexed}
 use Rattle.theory.proofs.Views.{see, Alike, alike_refl, alike_sym, alike_trans, alike_eq, alike-⊳, alike_move}
 use Rattle.stepping.specs.Machines.{Machine, machine, acted, cut_off, turn, does, runs}
-use Rattle.running.specs.Contracts.{passed, after, ahead}
+use Rattle.running.specs.Promises.{passed, after, ahead}
 use Rattle.running.proofs.Positions.{joined}
 
 -- a machine but for its image, which taking up does not write

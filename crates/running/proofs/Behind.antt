@@ -8,7 +8,7 @@ use borrow.Author.Tests.{eqb-true, eq-eqb, ne_eqb}
 use Rattle.model.specs.Records.{kind_at, IF, ELSE, WHILE, END, TIMES}
 use Rattle.laws.proofs.Shapes.{or_cases}
 use Rattle.reading.specs.Closing.{opens_block, closes_block}
-use Rattle.running.specs.Contracts.{Inner, closing, closed, passed, is_loop}
+use Rattle.running.specs.Promises.{Inner, closing, closed, passed, is_loop}
 
 -- BEHIND A BLOCK
 

@@ -8,7 +8,7 @@ use Rattle.model.specs.Trees.{size, file_tree}
 use Rattle.laws.proofs.Sound.{Sound, sound_file}
 use Rattle.reading.specs.{Closing.Closings, Ranges.SoundFile, Ranges.Fillable}
 use Rattle.reading.proofs.{Scanning.most_records, Walking.whole_file}
-use Rattle.running.specs.Contracts.{extent, Started, Begun}
+use Rattle.running.specs.Promises.{extent, Started, Begun}
 
 module _ {f : Form} {s : List ℕ} (S : SoundFile f s) where
   pub file_sound : Sound f s (file_tree s)

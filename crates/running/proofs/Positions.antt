@@ -13,7 +13,7 @@ use Rattle.laws.proofs.{Trees.⧺-assoc}
 use Rattle.theory.proofs.{Times.time-⧺, Left.rest_0}
 use Rattle.reading.specs.Ranges.{Stands}
 use Rattle.reading.proofs.Standing.{stands_last, stands_one, stands_two}
-use Rattle.running.specs.Contracts.{extent, Pending, Chain}
+use Rattle.running.specs.Promises.{extent, Pending, Chain}
 use Rattle.running.proofs.Sides.{pending_at, stands_past, second_at, side_pending}
 
 -- WHAT IS LEFT AT A RECORD OF AN IF

@@ -16,8 +16,8 @@ use Rattle.reading.proofs.{Filled.size_first, Filled.fills_none, Standing.stands
 use Rattle.stepping.specs.declared.progress.Progress.{Progress}
 use Rattle.stepping.specs.Machines.{Machine, does, runs}
 use Rattle.stepping.specs.Steps.{going, reached, halted, Ran}
-use Rattle.running.specs.Contracts.{extent, passed, is_loop, Pending, at_end, and_behind, first_run, after, ahead, along}
-use Rattle.running.specs.Contracts.{Given, Begun, Statement, RecordsRan, Running, Moved, StepsRan, Past, StatementRan}
+use Rattle.running.specs.Promises.{extent, passed, is_loop, Pending, at_end, and_behind, first_run, after, ahead, along}
+use Rattle.running.specs.Promises.{Given, Begun, Statement, RecordsRan, Running, Moved, StepsRan, Past, StatementRan}
 use Rattle.running.proofs.Doing.{runs_within, runs_on, runs_halted}
 use Rattle.running.proofs.Sides.{pending_within, pending_inside, pending_at, pending_none, every_chain}
 

@@ -12,7 +12,7 @@ use Rattle.reading.specs.Ranges.{Stands, first_size, first_part, second_part, af
 use Rattle.reading.proofs.Walking.{if_at}
 use Rattle.stepping.specs.declared.progress.Progress.{Progress}
 use Rattle.stepping.specs.{Machines.held, Machines.runs, Steps.going, Steps.halted, Steps.Ran}
-use Rattle.running.specs.Contracts.{extent, passed, chosen, first_run, ahead, Begun, Running, Past}
+use Rattle.running.specs.Promises.{extent, passed, chosen, first_run, ahead, Begun, Running, Past}
 use Rattle.running.proofs.Doing.{choose_then, choose_cut, choose_first, choose_second}
 use Rattle.running.proofs.Sides.{pending_at, second_at, side, side_there, side_after, side_passed, side_pending}
 use Rattle.running.proofs.Running.{runs_same, given_at, onward, cut_at, never, past_halted, running_passed, running_start}

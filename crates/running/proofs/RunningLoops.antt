@@ -17,7 +17,7 @@ use Rattle.reading.proofs.Filled.{fills_none}
 use Rattle.reading.proofs.Walking.{open_at, first_in_is, while_at, times_at}
 use Rattle.stepping.specs.declared.progress.Progress.{Progress}
 use Rattle.stepping.specs.{Machines.held, Machines.runs, Steps.going, Steps.halted, Steps.Ran}
-use Rattle.running.specs.Contracts.{closing, at_end, Chain, first_run, Begun, Statement, RecordsRan, StatementRan}
+use Rattle.running.specs.Promises.{closing, at_end, Chain, first_run, Begun, Statement, RecordsRan, StatementRan}
 use Rattle.running.proofs.Doing.{spin_cut, spin_end, spin_round, rounds_nothing}
 use Rattle.running.proofs.Running.{runs_same, given_at, onward, cut_at, never, ran_early, ran_on, ran_halted, ran_from}
 use Rattle.running.proofs.{RunningSteps.block, RunningSteps.told, Sides.closing_is}

@@ -19,7 +19,7 @@ use Rattle.timing.specs.Times.{step_ticks}
 use Rattle.timing.proofs.Firsts.{act_ticks}
 use Rattle.stepping.specs.declared.progress.Progress.{Progress}
 use Rattle.stepping.specs.{Machines.runs, Machines.record_effect, Steps.going, Steps.Ran}
-use Rattle.running.specs.Contracts.{extent, first_run, Reached, Statement, StatementRan}
+use Rattle.running.specs.Promises.{extent, first_run, Reached, Statement, StatementRan}
 use Rattle.running.proofs.Running.{runs_same, ran_from}
 
 -- FIELDS

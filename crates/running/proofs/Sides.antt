@@ -10,7 +10,7 @@ use Rattle.model.specs.Trees.{Test, Block, branch, size}
 use Rattle.reading.specs.Ranges.{Stands}
 use Rattle.reading.proofs.FirstKinds.{kind_is}
 use Rattle.reading.proofs.Standing.{ending, stands_once, stands_last, stands_one, stands_two}
-use Rattle.running.specs.Contracts.{extent, closing, closed, passed, chosen, Pending, at_end, and_behind, Chain}
+use Rattle.running.specs.Promises.{extent, closing, closed, passed, chosen, Pending, at_end, and_behind, Chain}
 
 -- WHAT IS LEFT
 

@@ -1,2 +1,2 @@
 -- What the contracts of running cite beside the model's definitions.
-pub mod Contracts
+pub mod Promises

@@ -9,7 +9,7 @@ ghost use Rattle.records.specs.Records.{record_of};
 ghost use Rattle.timing.specs.Times.{step_ticks, settings_in};
 ghost use Rattle.stepping.specs.Machines.{record_effect};
 ghost use Rattle.stepping.specs.Steps.{Lent, Ran};
-ghost use Rattle.running.specs.Contracts.{is_loop, Begun, Reached, Statement, RecordsRan, StepsRan, OneRan, StatementRan, Inner, closing, closed, chosen};
+ghost use Rattle.running.specs.Promises.{is_loop, Begun, Reached, Statement, RecordsRan, StepsRan, OneRan, StatementRan, Inner, closing, closed, chosen};
 
 use records::{Record, kinds, record_at};
 use stepping::progress::{Progress, cut_off, going, halted, run_last_test, run_step};
@@ -56,7 +56,7 @@ fn side(file: &[u8], i: usize, ends: &[u16], holds: bool) -> usize
 }
 
 // The WHILE at i, with the record r.
-#[cycle(run_loop_run_records_run_times_run_while)]
+#[cycle(running_records)]
 fn run_while(
     file: &[u8],
     i: usize,
@@ -97,7 +97,7 @@ fn run_while(
 }
 
 // The TIMES at i, with the record r.
-#[cycle(run_loop_run_records_run_times_run_while)]
+#[cycle(running_records)]
 fn run_times(
     file: &[u8],
     i: usize,
@@ -135,7 +135,7 @@ fn run_times(
 }
 
 // The loop at i.
-#[cycle(run_loop_run_records_run_times_run_while)]
+#[cycle(running_records)]
 fn run_loop(
     file: &[u8],
     i: usize,
@@ -265,7 +265,7 @@ fn run_steps(
 }
 
 // The records from `from` on, up to `to`: the end of the file, or the END of the loop around them.
-#[cycle(run_loop_run_records_run_times_run_while)]
+#[cycle(running_records)]
 pub fn run_records(
     file: &[u8],
     from: usize,

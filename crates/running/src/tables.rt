@@ -1,6 +1,6 @@
 // A file's records run by a table of their closings, which is made here.
 ghost use Rattle.std.specs.Prelude.{◌<◌, length};
-ghost use Rattle.running.specs.Contracts.{extent, Started, RecordsRan};
+ghost use Rattle.running.specs.Promises.{extent, Started, RecordsRan};
 
 use crate::blocks::run_records;
 use model::Settings;

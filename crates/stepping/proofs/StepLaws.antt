@@ -5,7 +5,7 @@ use lib.{Dec.eqb, Dec.leb, Dec.ltb, ListN.get_or}
 use borrow.Author.Tests.{eqb-false, lt-leb}
 use Rattle.model.specs.Records.{Rec, rec, SET, READ, WRITE, CHECK, BEAT, SAVE}
 use Rattle.model.specs.Refusals.{variable, port, unused, op_fits, set_fits, test_fits, fields_fit}
-use Rattle.model.specs.Runs.{Effect, nothing, assigns, outputs, beats, saves, overruns, is_overrun, compares, holds, result}
+use Rattle.model.specs.Runs.{Effect, nothing, assigns, outputs, beats, saves, overruns, is_overrun, compares, holds, result_of}
 use Rattle.laws.proofs.Shapes.{and_left, and_right, zeros}
 use Rattle.reading.specs.Ranges.{test_of}
 use Rattle.stepping.specs.Machines.{held, affect, set_result, record_effect}
@@ -49,20 +49,20 @@ compares_bit o a b h = go (ltb a b) refl (eqb a b) refl
         rw (x, y, lt-leb a b l, lt-ltb b a l, le-leb b a (omega arith))
         (of_relations (λ k. bit k 2 ≡ answer k false false false true true) refl refl refl refl refl refl o h)
 
-pub result_copy : (o a b : ℕ) → o ≡ 0 → b ≡ result o a b
-unfolding result
+pub result_copy : (o a b : ℕ) → o ≡ 0 → b ≡ result_of o a b
+unfolding result_of
 result_copy o a b e = rw e
 
-pub result_add : (o a b : ℕ) {x : ℕ} → o ≡ 1 → x ≡ (a + b) % 2 ^ 32 → x ≡ result o a b
-unfolding result
+pub result_add : (o a b : ℕ) {x : ℕ} → o ≡ 1 → x ≡ (a + b) % 2 ^ 32 → x ≡ result_of o a b
+unfolding result_of
 result_add o a b e h = rw e h
 
-pub result_sub : (o a b : ℕ) {x : ℕ} → o ≡ 2 → a < 2 ^ 32 → b < 2 ^ 32 → x < 2 ^ 32 → (x + b) % 2 ^ 32 ≡ a → x ≡ result o a b
-unfolding result
+pub result_sub : (o a b : ℕ) {x : ℕ} → o ≡ 2 → a < 2 ^ 32 → b < 2 ^ 32 → x < 2 ^ 32 → (x + b) % 2 ^ 32 ≡ a → x ≡ result_of o a b
+unfolding result_of
 result_sub o a b e ha hb hx h = rw e (omega arith)
 
-pub result_multiply : (o a b : ℕ) {x : ℕ} → (o ≡ 0 → ⊥) → (o ≡ 1 → ⊥) → (o ≡ 2 → ⊥) → x ≡ a * b % 2 ^ 32 → x ≡ result o a b
-unfolding result
+pub result_multiply : (o a b : ℕ) {x : ℕ} → (o ≡ 0 → ⊥) → (o ≡ 1 → ⊥) → (o ≡ 2 → ⊥) → x ≡ a * b % 2 ^ 32 → x ≡ result_of o a b
+unfolding result_of
 result_multiply o a b n0 n1 n2 h = rw (ne_eqb o 0 n0, ne_eqb o 1 n1, ne_eqb o 2 n2) h
 
 -- FIELDS THAT FIT

@@ -3,7 +3,7 @@ use Rattle.std.specs.Prelude.{ℕ, ◌+◌, ◌%◌, Bool, true, cond, ◌||◌,
 use Rattle.model.specs.Limits.{by_variable, port_count, variable_count}
 use Rattle.model.specs.Records.{Rec, SET, READ, WRITE, CHECK, BEAT, SAVE}
 use Rattle.model.specs.Runs.{Effect, nothing, assigns, outputs, beats, saves, is_save, is_overrun, Step, on_variables, on_outputs, level, mark}
-use Rattle.model.specs.Runs.{right_value, result, last_test, Run}
+use Rattle.model.specs.Runs.{right_value, result_of, last_test, Run}
 use Rattle.model.specs.Stopping.{Saved, none, saved}
 use Rattle.reading.specs.Ranges.{test_of}
 
@@ -71,7 +71,7 @@ runs limit f m = does limit (f m.holds.variables) m
 
 -- the result of a SET's operation
 abbrev pub set_result : Rec → List ℕ → ℕ
-set_result r v = result (r.op % by_variable) (slice_index v r.left) (right_value r.op r.value v)
+set_result r v = result_of (r.op % by_variable) (slice_index v r.left) (right_value r.op r.value v)
 
 -- what a record that opens and closes no block does
 abbrev pub record_effect : List ℕ → Rec → List ℕ → Effect

@@ -1,4 +1,6 @@
 // One step of a run: what a run holds, what a record does to it, and the buffers that it is loaded from and stored to.
+#![tactic(auto)]
+
 pub mod buffers;
 pub mod cells;
 pub mod images;

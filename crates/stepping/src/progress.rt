@@ -13,7 +13,7 @@ use records::Record;
 
 // Where a run is: its tick, the next record, whether it was cut at the limit, and whether it overran. A run that was cut or overran has
 // no next record.
-#[derive(Drop)]
+#[derive(Clone, Copy)]
 pub struct Progress {
     pub tick: u32,
     pub next: usize,

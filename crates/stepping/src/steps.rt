@@ -2,7 +2,7 @@
 ghost use Rattle.std.specs.Prelude.{◌≡◌, ◌<◌, ◌≤◌, true, length};
 ghost use Rattle.model.specs.Limits.{by_variable, file_records, variable_count};
 ghost use Rattle.model.specs.Refusals.{test_fits, set_fits, fields_fit};
-ghost use Rattle.model.specs.Runs.{right_value, compares, holds, result};
+ghost use Rattle.model.specs.Runs.{right_value, compares, holds, result_of};
 ghost use Rattle.records.specs.Records.{record_of};
 ghost use Rattle.reading.specs.Ranges.{test_of};
 ghost use Rattle.stepping.specs.Machines.{cell_count, held, set_result};
@@ -17,7 +17,7 @@ use std::num::{wrapping_add_u32, wrapping_sub_u32};
 // The right value of a test or an operation: a number, or a variable's value.
 fn right_value(cells: &[u32], op: u8, value: u32) -> u32
     requires { (length cells.now ≡ cell_count) × (by_variable ≤ op → value < variable_count) }
-    ensures* { λ r. ⌜ r ≡ right_value op value (held cells.now).variables ⌝ }
+    ensures { result ≡ right_value op value (held cells.now).variables }
 {
     if BY_VARIABLE <= op {
         return variable(cells, value as usize);
@@ -27,7 +27,7 @@ fn right_value(cells: &[u32], op: u8, value: u32) -> u32
 
 // How a compares with b: 0 for less, 1 for equal, 2 for more.
 fn order(a: u32, b: u32) -> u32
-    ensures* { λ r. ⌜ (r ≡ ordered a b) × (r ≤ 2) ⌝ }
+    ensures { (result ≡ ordered a b) × (result ≤ 2) }
 {
     if a < b {
         return 0;
@@ -43,7 +43,7 @@ const HOLDING: u32 = 0b110_100_011_001_101_010;
 
 fn compare(relation: u8, a: u32, b: u32) -> bool
     requires { relation < 6 }
-    ensures* { λ r. ⌜ r ≡ compares relation a b ⌝ }
+    ensures { result ≡ compares relation a b }
 {
     let place = 3 * relation as u32 + order(a, b);
     (HOLDING >> place) % 2 == 1
@@ -52,7 +52,7 @@ fn compare(relation: u8, a: u32, b: u32) -> bool
 // Whether the test in a record holds.
 pub fn test_holds(cells: &[u32], r: Record) -> bool
     requires { (length cells.now ≡ cell_count) × (test_fits (record_of r) ≡ true) }
-    ensures* { λ o. ⌜ o ≡ holds (test_of (record_of r)) (held cells.now).variables ⌝ }
+    ensures { result ≡ holds (test_of (record_of r)) (held cells.now).variables }
 {
     let a = variable(cells, r.left as usize);
     let b = right_value(cells, r.op, r.value);
@@ -60,7 +60,7 @@ pub fn test_holds(cells: &[u32], r: Record) -> bool
 }
 
 fn compute(op: u8, a: u32, b: u32) -> u32
-    ensures* { λ r. ⌜ r ≡ result op a b ⌝ }
+    ensures { result ≡ result_of op a b }
 {
     match op {
         0 => b,
@@ -73,7 +73,7 @@ fn compute(op: u8, a: u32, b: u32) -> u32
 // The result of a SET's operation.
 pub fn set_value(cells: &[u32], r: Record) -> u32
     requires { (length cells.now ≡ cell_count) × (set_fits (record_of r) ≡ true) }
-    ensures* { λ x. ⌜ x ≡ set_result (record_of r) (held cells.now).variables ⌝ }
+    ensures { result ≡ set_result (record_of r) (held cells.now).variables }
 {
     let a = variable(cells, r.left as usize);
     let b = right_value(cells, r.op, r.value);
@@ -83,7 +83,7 @@ pub fn set_value(cells: &[u32], r: Record) -> u32
 // What a record of that kind does at the tick where it ends, before the record `next`; whether it overran.
 pub fn act(kind: u8, r: Record, next: usize, tick: u32, inputs: &[u32], cells: &mut [u32]) -> bool
     requires { (Lent inputs.now cells.old) × (fields_fit (record_of r) ≡ true) × (1 ≤ next) × (next ≤ file_records) × (r.kind ≡ kind) }
-    ensures* { λ o. ⌜ Acts inputs.now (record_of r) next tick cells.old cells.new o ⌝ }
+    ensures { Acts inputs.now (record_of r) next tick cells.old cells.new result }
 {
     let target = r.target as usize;
     let left = r.left as usize;

@@ -1,4 +1,6 @@
 // The watcher's table as numbers, three for each entry, as C holds it.
+#![tactic(auto)]
+
 ghost use Rattle.std.specs.Prelude.{◌≡◌, ◌||◌, ◌+◌, ◌<◌, length};
 ghost use Rattle.model.specs.Answers.{watched};
 ghost use Rattle.model.specs.Watching.{bad_event};

@@ -1,4 +1,6 @@
 // Text put into a page, each piece after the one before. A function answers where its piece ends.
+#![tactic(auto)]
+
 ghost use Rattle.std.specs.Prelude.{◌+◌, ◌≤◌, ◌≡◌, length, take};
 ghost use Rattle.model.specs.Listing.{ascii, name, decimal, spaced, line_text};
 ghost use Rattle.text.specs.Pieces.{Put};

@@ -2,7 +2,7 @@
 -- computation stand in `model`, so that edits of the definitions there are tried against them.
 use native.Mathlib.Omega.{arith}
 use mathlib.Core.{Path.◌≡◌, Path.refl, Bool.true}
-use Rattle.model.specs.{Records.first_records, Records.records, Records.bytes, Runs.holds, Runs.result, Runs.effect}
+use Rattle.model.specs.{Records.first_records, Records.records, Records.bytes, Runs.holds, Runs.result_of, Runs.effect}
 use Rattle.model.specs.{Refusals.fields_fit, Refusals.scan, Refusals.fault}
 use Rattle.model.specs.{Settings.settings_of, Settings.bad_settings, Equalising.equalise, Answers.is_finished, Answers.value_at}
 use Rattle.model.specs.Trees.{linearise, stack_of, tree_of, file_tree}
@@ -45,7 +45,7 @@ laid = refl
 
 whole_tick : value_at 0 (run_reply (whole_loan k)) ≡ 143
 unfolding
-    first_records records bytes settings_of bad_settings linearise stack_of tree_of file_tree holds result effect equalise before last_value
+    first_records records bytes settings_of bad_settings linearise stack_of tree_of file_tree holds result_of effect equalise before last_value
     layout total fields_fit scan fault reading equalised_tree equalise_reply equalise_out laid_tree lay_out_reply lay_out_out ready steps_of run_reply
 whole_tick = refl
 

@@ -11,7 +11,7 @@ use Rattle.model.specs.declared.Settings.{Settings}
 use Rattle.model.specs.declared.{Form.Form, Form.TheVariants.Equalised}
 use Rattle.model.specs.Trees.{Act, set, read, write, check, beat, save, Block, size, file_tree}
 use Rattle.model.specs.{Records.word_at, Settings.settings_of, Settings.bad_settings, Times.ticks, Times.time, Times.longest}
-use Rattle.model.specs.Runs.{assigns, Step, variables_after, right_value, result, effect}
+use Rattle.model.specs.Runs.{assigns, Step, variables_after, right_value, result_of, effect}
 use Rattle.model.specs.Stopping.{Image, rest, take_up}
 use Rattle.model.specs.{Layout.layout, Layout.total, Placement.Each, Refusals.op_fits, Refusals.variable, Refusals.sound, Refusals.fault}
 use Rattle.model.specs.{Answers.Verdict, Answers.finished, Answers.refused}
@@ -124,7 +124,7 @@ unfolding reading
 refused_6 s e f file next = rw e
 
 product : (ins v : List ℕ) (o t l x : ℕ) → Multiplies o → effect ins (set o t l x) v ≡ assigns t (get_or v l 0 * right_value o x v % 2 ^ 32)
-unfolding effect result
+unfolding effect result_of
 product ins v o t l x e = rw e
 
 taken_up_lasts : (σ : Settings) (ins : List ℕ) (b : Block) (m : Image) (pre : List Step) (e : Step) (post : List Step)

@@ -10,14 +10,14 @@ use reading::blocks::{closes, opens};
 use records::{kind_at, kinds, record_at};
 
 // The time of a statement or of a sequence of them, and the index of the record after it. A time above the period says nothing of the index.
-#[derive(Drop)]
+#[derive(Clone, Copy)]
 pub struct Step {
     pub time: Time,
     pub next: usize,
 }
 
 // The statement at i. Where the records form no block any answer will do; a sound file never leads there.
-#[cycle(sequence_time_statement_time)]
+#[cycle(timing_blocks)]
 fn statement_time(file: &[u8], i: usize, to: usize, depth: usize, table: &[u32; 16]) -> Step
     requires { (Ranged file.now i to) × (i < to) }
     ensures { StatementTimes file.now i to depth (settings_in table.now) result }
@@ -59,7 +59,7 @@ fn statement_time(file: &[u8], i: usize, to: usize, depth: usize, table: &[u32; 
 }
 
 // The statements from `from` up to the record that closes their block, or to `to`. The sum is given up once it passes the period; the index is then `to`.
-#[cycle(sequence_time_statement_time)]
+#[cycle(timing_blocks)]
 fn sequence_time(file: &[u8], from: usize, to: usize, depth: usize, table: &[u32; 16]) -> Step
     requires { Ranged file.now from to }
     ensures { SequenceTimes file.now from to depth (settings_in table.now) result }

@@ -1,4 +1,6 @@
 // The time of a file: a block's time is worked out from the times of the blocks inside it.
+#![tactic(auto)]
+
 pub mod blocks;
 pub mod ticks;
 

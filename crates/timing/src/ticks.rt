@@ -11,7 +11,7 @@ use model::limits::BY_VARIABLE;
 use records::{Record, kinds};
 
 // A time in ticks, or that it is above the period.
-#[derive(Drop)]
+#[derive(Clone, Copy)]
 pub enum Time {
     Ticks(u32),
     OverPeriod,

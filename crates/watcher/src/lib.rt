@@ -1,4 +1,6 @@
 // The watcher's calls over a lent table. Each replaces one entry by what its event makes of it, and tells how the entry then is.
+#![tactic(auto)]
+
 pub mod checks;
 pub mod entries;
 

@@ -3,7 +3,7 @@ use mathlib.Core.List.{List}
 use borrow.Author.Rules.{rules}
 use Rattle.model.specs.declared.Form.TheVariants.{Task}
 use Rattle.model.specs.{Chain.lend, Rehearsal.zero_outputs}
-use Rattle.rehearsal.specs.Contracts.{laid_loan}
+use Rattle.rehearsal.specs.Promises.{laid_loan}
 use Rattle.rehearsal.proofs.First.{first_refused, first_whole, first_stopped}
 use Rattle.rehearsal.proofs.rehearse_laid.Statement.{statement}
 use Rattle.rehearsal.proofs.rehearse_laid.Tie as tie

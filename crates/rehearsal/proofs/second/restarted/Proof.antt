@@ -1,5 +1,5 @@
 use borrow.Author.Rules.{rules}
-use Rattle.rehearsal.specs.Contracts.{end_in, outputs_in}
+use Rattle.rehearsal.specs.Promises.{end_in, outputs_in}
 use Rattle.rehearsal.proofs.SecondLaws.{restarted_refused, restarted_ended}
 use Rattle.rehearsal.proofs.second.restarted.Statement.{statement}
 use Rattle.rehearsal.proofs.second.restarted.Tie as tie

@@ -1,6 +1,6 @@
 use borrow.Author.Rules.{rules}
 use lib.ListN.{replicate}
-use Rattle.rehearsal.specs.Contracts.{end_in}
+use Rattle.rehearsal.specs.Promises.{end_in}
 use Rattle.rehearsal.proofs.SecondLaws.{stop_refused, stop_saved, stop_unsaved}
 use Rattle.rehearsal.proofs.second.stopped.Statement.{statement}
 use Rattle.rehearsal.proofs.second.stopped.Tie as tie

@@ -1,5 +1,5 @@
 use borrow.Author.Rules.{rules}
-use Rattle.rehearsal.specs.Contracts.{end_in}
+use Rattle.rehearsal.specs.Promises.{end_in}
 use Rattle.rehearsal.proofs.SecondLaws.{whole_refused, whole_ended}
 use Rattle.rehearsal.proofs.second.whole.Statement.{statement}
 use Rattle.rehearsal.proofs.second.whole.Tie as tie

@@ -4,7 +4,7 @@ use mathlib.Core.Path.{ap, sym, ◌∙◌}
 use borrow.Author.Rules.{rules}
 use Rattle.model.specs.Records.{Rec}
 use Rattle.timing.specs.Times.{settings_in}
-use Rattle.running.specs.Contracts.{is_loop, Running}
+use Rattle.running.specs.Promises.{is_loop, Running}
 use Rattle.running.proofs.Running.{running_start, running_inside, running_ran, running_then, steps_going, steps_halted}
 use Rattle.running.proofs.blocks.run_steps.Statement.{statement}
 use Rattle.running.proofs.blocks.run_steps.Tie as tie

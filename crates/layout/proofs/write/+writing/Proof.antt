@@ -21,19 +21,19 @@ use borrow.Fn.Kinds.{In}
 use borrow.Fn.PlainCycle.{Measures, is, falls, and}
 use Rattle.layout.proofs.write.write_block.Reads as write_block
 use Rattle.layout.proofs.write.write_block.Kinds as write-block-kinds
-use Rattle.layout.proofs.write.+write_block_write_branch_write_rounds_write_side_write_statement.Lts-write_block as write-block-lts
+use Rattle.layout.proofs.write.+writing.Lts-write_block as write-block-lts
 use Rattle.layout.proofs.write.write_branch.Reads as write_branch
 use Rattle.layout.proofs.write.write_branch.Kinds as write-branch-kinds
-use Rattle.layout.proofs.write.+write_block_write_branch_write_rounds_write_side_write_statement.Lts-write_branch as write-branch-lts
+use Rattle.layout.proofs.write.+writing.Lts-write_branch as write-branch-lts
 use Rattle.layout.proofs.write.write_rounds.Reads as write_rounds
 use Rattle.layout.proofs.write.write_rounds.Kinds as write-rounds-kinds
-use Rattle.layout.proofs.write.+write_block_write_branch_write_rounds_write_side_write_statement.Lts-write_rounds as write-rounds-lts
+use Rattle.layout.proofs.write.+writing.Lts-write_rounds as write-rounds-lts
 use Rattle.layout.proofs.write.write_side.Reads as write_side
 use Rattle.layout.proofs.write.write_side.Kinds as write-side-kinds
-use Rattle.layout.proofs.write.+write_block_write_branch_write_rounds_write_side_write_statement.Lts-write_side as write-side-lts
+use Rattle.layout.proofs.write.+writing.Lts-write_side as write-side-lts
 use Rattle.layout.proofs.write.write_statement.Reads as write_statement
 use Rattle.layout.proofs.write.write_statement.Kinds as write-statement-kinds
-use Rattle.layout.proofs.write.+write_block_write_branch_write_rounds_write_side_write_statement.Lts-write_statement as write-statement-lts
+use Rattle.layout.proofs.write.+writing.Lts-write_statement as write-statement-lts
 use Rattle.layout.proofs.skips.check_of.Reads as check-of-reads
 use Rattle.layout.proofs.skips.idle_at.Reads as idle-at-reads
 use Rattle.layout.proofs.skips.write_idle.Reads as write-idle-reads
@@ -45,8 +45,8 @@ use Rattle.reading.proofs.blocks.closes.Reads as closes-reads
 use Rattle.records.proofs.kind_at.Reads as kind-at-reads
 use Rattle.records.proofs.record_at.Reads as record-at-reads
 use Rattle.timing.proofs.ticks.step_ticks.Reads as step-ticks-reads
-use Rattle.layout.proofs.write.+write_block_write_branch_write_rounds_write_side_write_statement.{statement}
-use Rattle.layout.proofs.write.+write_block_write_branch_write_rounds_write_side_write_statement.Tie.{close}
+use Rattle.layout.proofs.write.+writing.{statement}
+use Rattle.layout.proofs.write.+writing.Tie.{close}
 
 abbrev μ-write-block : Measures 3 write-block-kinds.ps ℕ
 μ-write-block κs a = 5 * (a.1.1.0 - a.1.0) + 3

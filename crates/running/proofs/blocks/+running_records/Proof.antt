@@ -7,7 +7,7 @@ use Rattle.model.specs.Records.{Rec, kind_at}
 use Rattle.records.specs.Records.{record_of}
 use Rattle.reading.specs.Closing.{opens_block}
 use Rattle.timing.specs.Times.{settings_in}
-use Rattle.running.specs.Contracts.{Running}
+use Rattle.running.specs.Promises.{Running}
 use Rattle.running.proofs.{Behind.loop_goes_on, Behind.loop_times, RunningSteps.test_there, RunningSteps.kind_there}
 use Rattle.running.proofs.Running.{running_start, running_inside, running_ended, running_ran, running_then, statement_next, past_ran}
 use Rattle.running.proofs.RunningLoops.{Looping, loop_last, loop_entered, loop_halted, loop_next}
@@ -16,16 +16,16 @@ use borrow.Fn.Kinds.{In}
 use borrow.Fn.PlainCycle.{Measures, is, falls, and}
 use Rattle.running.proofs.blocks.run_loop.Reads as run_loop
 use Rattle.running.proofs.blocks.run_loop.Kinds as run-loop-kinds
-use Rattle.running.proofs.blocks.+run_loop_run_records_run_times_run_while.Lts-run_loop as run-loop-lts
+use Rattle.running.proofs.blocks.+running_records.Lts-run_loop as run-loop-lts
 use Rattle.running.proofs.blocks.run_records.Reads as run_records
 use Rattle.running.proofs.blocks.run_records.Kinds as run-records-kinds
-use Rattle.running.proofs.blocks.+run_loop_run_records_run_times_run_while.Lts-run_records as run-records-lts
+use Rattle.running.proofs.blocks.+running_records.Lts-run_records as run-records-lts
 use Rattle.running.proofs.blocks.run_times.Reads as run_times
 use Rattle.running.proofs.blocks.run_times.Kinds as run-times-kinds
-use Rattle.running.proofs.blocks.+run_loop_run_records_run_times_run_while.Lts-run_times as run-times-lts
+use Rattle.running.proofs.blocks.+running_records.Lts-run_times as run-times-lts
 use Rattle.running.proofs.blocks.run_while.Reads as run_while
 use Rattle.running.proofs.blocks.run_while.Kinds as run-while-kinds
-use Rattle.running.proofs.blocks.+run_loop_run_records_run_times_run_while.Lts-run_while as run-while-lts
+use Rattle.running.proofs.blocks.+running_records.Lts-run_while as run-while-lts
 use Rattle.running.proofs.blocks.last.Reads as last-reads
 use Rattle.running.proofs.blocks.run_steps.Reads as run-steps-reads
 use Rattle.records.proofs.record_at.Reads as record-at-reads
@@ -34,8 +34,8 @@ use Rattle.stepping.proofs.progress.halted.Reads as halted-reads
 use Rattle.stepping.proofs.progress.going.Reads as going-reads
 use Rattle.stepping.proofs.progress.run_last_test.Reads as run-last-test-reads
 use Rattle.stepping.proofs.steps.test_holds.Reads as test-holds-reads
-use Rattle.running.proofs.blocks.+run_loop_run_records_run_times_run_while.{statement}
-use Rattle.running.proofs.blocks.+run_loop_run_records_run_times_run_while.Tie.{close}
+use Rattle.running.proofs.blocks.+running_records.{statement}
+use Rattle.running.proofs.blocks.+running_records.Tie.{close}
 
 abbrev μ-run-loop : Measures 5 run-loop-kinds.ps ℕ
 μ-run-loop κs a = 3 * (5461 - a.1.0) + 1

@@ -20,19 +20,19 @@ use borrow.Fn.Kinds.{In}
 use borrow.Fn.PlainCycle.{Measures, is, falls, and}
 use Rattle.equaliser.proofs.write.write_block.Reads as write_block
 use Rattle.equaliser.proofs.write.write_block.Kinds as write-block-kinds
-use Rattle.equaliser.proofs.write.+write_block_write_branch_write_inner_write_loop_write_statement.Lts-write_block as write-block-lts
+use Rattle.equaliser.proofs.write.+writing.Lts-write_block as write-block-lts
 use Rattle.equaliser.proofs.write.write_branch.Reads as write_branch
 use Rattle.equaliser.proofs.write.write_branch.Kinds as write-branch-kinds
-use Rattle.equaliser.proofs.write.+write_block_write_branch_write_inner_write_loop_write_statement.Lts-write_branch as write-branch-lts
+use Rattle.equaliser.proofs.write.+writing.Lts-write_branch as write-branch-lts
 use Rattle.equaliser.proofs.write.write_inner.Reads as write_inner
 use Rattle.equaliser.proofs.write.write_inner.Kinds as write-inner-kinds
-use Rattle.equaliser.proofs.write.+write_block_write_branch_write_inner_write_loop_write_statement.Lts-write_inner as write-inner-lts
+use Rattle.equaliser.proofs.write.+writing.Lts-write_inner as write-inner-lts
 use Rattle.equaliser.proofs.write.write_loop.Reads as write_loop
 use Rattle.equaliser.proofs.write.write_loop.Kinds as write-loop-kinds
-use Rattle.equaliser.proofs.write.+write_block_write_branch_write_inner_write_loop_write_statement.Lts-write_loop as write-loop-lts
+use Rattle.equaliser.proofs.write.+writing.Lts-write_loop as write-loop-lts
 use Rattle.equaliser.proofs.write.write_statement.Reads as write_statement
 use Rattle.equaliser.proofs.write.write_statement.Kinds as write-statement-kinds
-use Rattle.equaliser.proofs.write.+write_block_write_branch_write_inner_write_loop_write_statement.Lts-write_statement as write-statement-lts
+use Rattle.equaliser.proofs.write.+writing.Lts-write_statement as write-statement-lts
 use Rattle.equaliser.proofs.pieces.put_loop_head.Reads as put-loop-head-reads
 use Rattle.equaliser.proofs.pieces.put_loop_tail.Reads as put-loop-tail-reads
 use Rattle.reading.proofs.blocks.closes.Reads as closes-reads
@@ -42,8 +42,8 @@ use Rattle.records.proofs.put_bare.Reads as put-bare-reads
 use Rattle.records.proofs.put_record.Reads as put-record-reads
 use Rattle.records.proofs.record_at.Reads as record-at-reads
 use Rattle.records.proofs.skips.put_skip.Reads as put-skip-reads
-use Rattle.equaliser.proofs.write.+write_block_write_branch_write_inner_write_loop_write_statement.{statement}
-use Rattle.equaliser.proofs.write.+write_block_write_branch_write_inner_write_loop_write_statement.Tie.{close}
+use Rattle.equaliser.proofs.write.+writing.{statement}
+use Rattle.equaliser.proofs.write.+writing.Tie.{close}
 
 abbrev μ-write-block : Measures 3 write-block-kinds.ps ℕ
 μ-write-block κs a = 4 * (a.1.1.0 - a.1.0) + 3

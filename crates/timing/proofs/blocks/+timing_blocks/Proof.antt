@@ -17,10 +17,10 @@ use borrow.Fn.Kinds.{In}
 use borrow.Fn.PlainCycle.{Measures, is, falls, and}
 use Rattle.timing.proofs.blocks.sequence_time.Reads as sequence_time
 use Rattle.timing.proofs.blocks.sequence_time.Kinds as sequence-time-kinds
-use Rattle.timing.proofs.blocks.+sequence_time_statement_time.Lts-sequence_time as sequence-time-lts
+use Rattle.timing.proofs.blocks.+timing_blocks.Lts-sequence_time as sequence-time-lts
 use Rattle.timing.proofs.blocks.statement_time.Reads as statement_time
 use Rattle.timing.proofs.blocks.statement_time.Kinds as statement-time-kinds
-use Rattle.timing.proofs.blocks.+sequence_time_statement_time.Lts-statement_time as statement-time-lts
+use Rattle.timing.proofs.blocks.+timing_blocks.Lts-statement_time as statement-time-lts
 use Rattle.reading.proofs.blocks.closes.Reads as closes-reads
 use Rattle.reading.proofs.blocks.opens.Reads as opens-reads
 use Rattle.records.proofs.kind_at.Reads as kind-at-reads
@@ -30,8 +30,8 @@ use Rattle.timing.proofs.ticks.loop_time.Reads as loop-time-reads
 use Rattle.timing.proofs.ticks.settings_in.Reads as settings-in-reads
 use Rattle.timing.proofs.ticks.step_ticks.Reads as step-ticks-reads
 use Rattle.timing.proofs.ticks.within.Reads as within-reads
-use Rattle.timing.proofs.blocks.+sequence_time_statement_time.{statement}
-use Rattle.timing.proofs.blocks.+sequence_time_statement_time.Tie.{close}
+use Rattle.timing.proofs.blocks.+timing_blocks.{statement}
+use Rattle.timing.proofs.blocks.+timing_blocks.Tie.{close}
 
 abbrev μ-sequence-time : Measures 2 sequence-time-kinds.ps ℕ
 μ-sequence-time κs a = 2 * a.1.1.1.0 + 1

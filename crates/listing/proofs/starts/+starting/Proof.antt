@@ -16,20 +16,20 @@ use borrow.Fn.Kinds.{In}
 use borrow.Fn.PlainCycle.{Measures, is, falls, and}
 use Rattle.listing.proofs.starts.start_block.Reads as start_block
 use Rattle.listing.proofs.starts.start_block.Kinds as start-block-kinds
-use Rattle.listing.proofs.starts.+start_block_start_branch_start_statement.Lts-start_block as start-block-lts
+use Rattle.listing.proofs.starts.+starting.Lts-start_block as start-block-lts
 use Rattle.listing.proofs.starts.start_branch.Reads as start_branch
 use Rattle.listing.proofs.starts.start_branch.Kinds as start-branch-kinds
-use Rattle.listing.proofs.starts.+start_block_start_branch_start_statement.Lts-start_branch as start-branch-lts
+use Rattle.listing.proofs.starts.+starting.Lts-start_branch as start-branch-lts
 use Rattle.listing.proofs.starts.start_statement.Reads as start_statement
 use Rattle.listing.proofs.starts.start_statement.Kinds as start-statement-kinds
-use Rattle.listing.proofs.starts.+start_block_start_branch_start_statement.Lts-start_statement as start-statement-lts
+use Rattle.listing.proofs.starts.+starting.Lts-start_statement as start-statement-lts
 use Rattle.timing.proofs.ticks.later.Reads as later-reads
 use Rattle.reading.proofs.blocks.closes.Reads as closes-reads
 use Rattle.records.proofs.kind_at.Reads as kind-at-reads
 use Rattle.records.proofs.record_at.Reads as record-at-reads
 use Rattle.timing.proofs.ticks.step_ticks.Reads as step-ticks-reads
-use Rattle.listing.proofs.starts.+start_block_start_branch_start_statement.{statement}
-use Rattle.listing.proofs.starts.+start_block_start_branch_start_statement.Tie.{close}
+use Rattle.listing.proofs.starts.+starting.{statement}
+use Rattle.listing.proofs.starts.+starting.Tie.{close}
 
 abbrev μ-start-block : Measures 2 start-block-kinds.ps ℕ
 μ-start-block κs a = 3 * (a.1.1.0 - a.1.0) + 2

@@ -19,19 +19,19 @@ use borrow.Fn.Kinds.{In}
 use borrow.Fn.PlainCycle.{Measures, is, falls, and}
 use Rattle.layout.proofs.measure.measure_block.Reads as measure_block
 use Rattle.layout.proofs.measure.measure_block.Kinds as measure-block-kinds
-use Rattle.layout.proofs.measure.+measure_block_measure_branch_measure_inner_measure_rounds_measure_side.Lts-measure_block as measure-block-lts
+use Rattle.layout.proofs.measure.+measuring.Lts-measure_block as measure-block-lts
 use Rattle.layout.proofs.measure.measure_branch.Reads as measure_branch
 use Rattle.layout.proofs.measure.measure_branch.Kinds as measure-branch-kinds
-use Rattle.layout.proofs.measure.+measure_block_measure_branch_measure_inner_measure_rounds_measure_side.Lts-measure_branch as measure-branch-lts
+use Rattle.layout.proofs.measure.+measuring.Lts-measure_branch as measure-branch-lts
 use Rattle.layout.proofs.measure.measure_inner.Reads as measure_inner
 use Rattle.layout.proofs.measure.measure_inner.Kinds as measure-inner-kinds
-use Rattle.layout.proofs.measure.+measure_block_measure_branch_measure_inner_measure_rounds_measure_side.Lts-measure_inner as measure-inner-lts
+use Rattle.layout.proofs.measure.+measuring.Lts-measure_inner as measure-inner-lts
 use Rattle.layout.proofs.measure.measure_rounds.Reads as measure_rounds
 use Rattle.layout.proofs.measure.measure_rounds.Kinds as measure-rounds-kinds
-use Rattle.layout.proofs.measure.+measure_block_measure_branch_measure_inner_measure_rounds_measure_side.Lts-measure_rounds as measure-rounds-lts
+use Rattle.layout.proofs.measure.+measuring.Lts-measure_rounds as measure-rounds-lts
 use Rattle.layout.proofs.measure.measure_side.Reads as measure_side
 use Rattle.layout.proofs.measure.measure_side.Kinds as measure-side-kinds
-use Rattle.layout.proofs.measure.+measure_block_measure_branch_measure_inner_measure_rounds_measure_side.Lts-measure_side as measure-side-lts
+use Rattle.layout.proofs.measure.+measuring.Lts-measure_side as measure-side-lts
 use Rattle.layout.proofs.lent.load.Reads as load-reads
 use Rattle.layout.proofs.lent.place.Reads as place-reads
 use Rattle.timing.proofs.ticks.settings_in.Reads as settings-in-reads
@@ -47,8 +47,8 @@ use Rattle.placing.proofs.clock.stepped.Reads as stepped-reads
 use Rattle.reading.proofs.blocks.closes.Reads as closes-reads
 use Rattle.records.proofs.kind_at.Reads as kind-at-reads
 use Rattle.records.proofs.record_at.Reads as record-at-reads
-use Rattle.layout.proofs.measure.+measure_block_measure_branch_measure_inner_measure_rounds_measure_side.{statement}
-use Rattle.layout.proofs.measure.+measure_block_measure_branch_measure_inner_measure_rounds_measure_side.Tie.{close}
+use Rattle.layout.proofs.measure.+measuring.{statement}
+use Rattle.layout.proofs.measure.+measuring.Tie.{close}
 
 abbrev μ-measure-block : Measures 4 measure-block-kinds.ps ℕ
 μ-measure-block κs a = 6 * (a.1.1.0 - a.1.0) + 4

@@ -15,16 +15,16 @@ use borrow.Fn.Kinds.{In}
 use borrow.Fn.PlainCycle.{Measures, is, falls, and}
 use Rattle.equaliser.proofs.measure.measure_block.Reads as measure_block
 use Rattle.equaliser.proofs.measure.measure_block.Kinds as measure-block-kinds
-use Rattle.equaliser.proofs.measure.+measure_block_measure_branch_measure_loop_measure_statement.Lts-measure_block as measure-block-lts
+use Rattle.equaliser.proofs.measure.+measuring.Lts-measure_block as measure-block-lts
 use Rattle.equaliser.proofs.measure.measure_branch.Reads as measure_branch
 use Rattle.equaliser.proofs.measure.measure_branch.Kinds as measure-branch-kinds
-use Rattle.equaliser.proofs.measure.+measure_block_measure_branch_measure_loop_measure_statement.Lts-measure_branch as measure-branch-lts
+use Rattle.equaliser.proofs.measure.+measuring.Lts-measure_branch as measure-branch-lts
 use Rattle.equaliser.proofs.measure.measure_loop.Reads as measure_loop
 use Rattle.equaliser.proofs.measure.measure_loop.Kinds as measure-loop-kinds
-use Rattle.equaliser.proofs.measure.+measure_block_measure_branch_measure_loop_measure_statement.Lts-measure_loop as measure-loop-lts
+use Rattle.equaliser.proofs.measure.+measuring.Lts-measure_loop as measure-loop-lts
 use Rattle.equaliser.proofs.measure.measure_statement.Reads as measure_statement
 use Rattle.equaliser.proofs.measure.measure_statement.Kinds as measure-statement-kinds
-use Rattle.equaliser.proofs.measure.+measure_block_measure_branch_measure_loop_measure_statement.Lts-measure_statement as measure-statement-lts
+use Rattle.equaliser.proofs.measure.+measuring.Lts-measure_statement as measure-statement-lts
 use Rattle.equaliser.proofs.measure.measure_plain.Reads as measure-plain-reads
 use Rattle.equaliser.proofs.measure.padded_records.Reads as padded-records-reads
 use Rattle.equaliser.proofs.pads.keep.Reads as keep-reads
@@ -36,8 +36,8 @@ use Rattle.records.proofs.skips.skip_records.Reads as skip-records-reads
 use Rattle.timing.proofs.ticks.excess.Reads as excess-reads
 use Rattle.timing.proofs.ticks.branch_time.Reads as branch-time-reads
 use Rattle.timing.proofs.ticks.loop_time.Reads as loop-time-reads
-use Rattle.equaliser.proofs.measure.+measure_block_measure_branch_measure_loop_measure_statement.{statement}
-use Rattle.equaliser.proofs.measure.+measure_block_measure_branch_measure_loop_measure_statement.Tie.{close}
+use Rattle.equaliser.proofs.measure.+measuring.{statement}
+use Rattle.equaliser.proofs.measure.+measuring.Tie.{close}
 
 abbrev μ-measure-block : Measures 2 measure-block-kinds.ps ℕ
 μ-measure-block κs a = 4 * (a.1.1.0 - a.1.0) + 3
