@@ -1,0 +1,21 @@
+use Rattle.std.proofs.Common.{arith}
+use Rattle.reading.proofs.Scanning.{left_start, left_small, left_refused, left_next, left_sound, left_open}
+use Rattle.reading.proofs.scan.scan_records.Goals as goal
+
+pub loop-i-init : goal.loop-i-init
+loop-i-init c = left_start _ _
+
+pub check_record-t-requires : goal.check_record-t-requires
+check_record-t-requires c = left_small c.loop-i.invariant
+
+pub returns-in-Refused : goal.returns-in-Refused
+returns-in-Refused c = left_refused c.loop-i.invariant (omega arith) c.record_at.ensures c.check_record-t.ensures c.in-Refused.is
+
+pub loop-i-preserved : goal.loop-i-preserved
+loop-i-preserved c = left_next c.loop-i.invariant (omega arith) c.record_at.ensures c.check_record-t.ensures c.in-Goes.is
+
+pub returns-then-around-eq0 : goal.returns-then-around-eq0
+returns-then-around-eq0 c = left_sound c.loop-i.invariant (omega arith) (omega arith)
+
+pub returns : goal.returns
+returns c = left_open c.loop-i.invariant (omega arith) (omega arith)
