@@ -4,16 +4,23 @@ use native.Mathlib.Omega.{arith}
 use mathlib.Core.Path.{◌≡◌, refl, ap, sym, ◌∙◌}
 use mathlib.Core.Bool.{Bool, true, false, cond, not, ◌||◌, true≢false}
 use mathlib.Core.List.{List, [], ◌∷◌}
+use borrow.Author.Tests.{eqb-true, not-false}
 use lib.{Dec.eqb, ListN.length, ListN.get_or, ListN.set, ListN.length-set}
 use Rattle.model.specs.declared.{Entry.Entry, Event.Event}
 use Rattle.model.specs.declared.Event.TheVariants.{Beat, Look, Reset}
 use Rattle.model.specs.{Answers.Verdict, Answers.finished, Answers.refused, Answers.kept, Replies.turn_down}
 use Rattle.model.specs.Watching.{has_failed, health_of, unless_failed, with_left, after, bad_entry, bad_event, told, entry_at, event_reply, event_table, status_reply}
 use Rattle.laws.proofs.Shapes.{neither}
+use Rattle.theory.proofs.WatchTables.{in_table}
 use Rattle.tables.specs.Numbers.{entry_from, bad_table, mark_after, entry_over, numbers_reply, numbers_status, numbers_table, entries_of, TablesStand}
-use Rattle.tables.proofs.TableLaws.{numbers_within}
 
 -- THE ENTRIES
+
+-- an entry's three numbers lie in the table
+numbers_within : (l n : ℕ) → bad_table l n ≡ false → 3 * n + 2 < l
+numbers_within l n e =
+    let q = neither (not (eqb (l % 3) 0)) (bad_entry (l / 3) n) e in
+    omega (arith, in_table (l / 3) n q.1, eqb-true (l % 3) 0 (not-false (eqb (l % 3) 0) q.0))
 
 entries_length : (t : List ℕ) → length (entries_of t) ≡ length t / 3
 entries_length [] = refl
@@ -28,12 +35,12 @@ further n k = omega arith
 further_0 : (n : ℕ) → 3 * suc n ≡ suc (suc (suc (3 * n)))
 further_0 n = omega arith
 
-entry_from : (t : List ℕ) (n : ℕ) → 3 * n + 2 < length t → entry_from t (3 * n) ≡ entry_at (entries_of t) n
-entry_from [] n h = absurd (omega arith)
-entry_from (l ∷ []) n h = absurd (omega arith)
-entry_from (l ∷ w ∷ []) n h = absurd (omega arith)
-entry_from (l ∷ w ∷ m ∷ t) zero h = refl
-entry_from (l ∷ w ∷ m ∷ t) (suc n) h = rw (further n 1, further n 2, further_0 n) (entry_from t n (omega arith))
+entry_is : (t : List ℕ) (n : ℕ) → 3 * n + 2 < length t → entry_from t (3 * n) ≡ entry_at (entries_of t) n
+entry_is [] n h = absurd (omega arith)
+entry_is (l ∷ []) n h = absurd (omega arith)
+entry_is (l ∷ w ∷ []) n h = absurd (omega arith)
+entry_is (l ∷ w ∷ m ∷ t) zero h = refl
+entry_is (l ∷ w ∷ m ∷ t) (suc n) h = rw (further n 1, further n 2, further_0 n) (entry_is t n (omega arith))
 
 -- an entry written over them
 entry_over_is : (t : List ℕ) (n : ℕ) (e : Entry) (m : ℕ) → 3 * n + 2 < length t → not (eqb m 0) ≡ e.waiting
@@ -93,7 +100,7 @@ module _ (t : List ℕ) (n : ℕ) where
   lies_within x good = numbers_within (length t) n (neither (bad_table (length t) n) (bad_event x) good).0
 
   same_after : (x : Event) → bad x ≡ false → after x old ≡ after x (entry_at (entries_of t) n)
-  same_after x good = ap (after x) (entry_from t n (lies_within x good))
+  same_after x good = ap (after x) (entry_is t n (lies_within x good))
 
   replaced : (x : Event) → bad x ≡ false
       → entries_of (entry_over t (3 * n) (after x old) (mark_after x (get_or t (3 * n + 2) 0) (after x old).waiting))
@@ -117,5 +124,5 @@ tables_stand t n whole =
       size = λ x.
           let e = after x (entry_from t (3 * n)) in
           same_size (numbers_reply t n x) t (3 * n) e (mark_after x (get_or t (3 * n + 2) 0) e.waiting);
-      status = same_reply _ _ _ _ cause (λ good. ap told (entry_from t n (numbers_within (length t) n good)));
+      status = same_reply _ _ _ _ cause (λ good. ap told (entry_is t n (numbers_within (length t) n good)));
     }

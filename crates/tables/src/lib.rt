@@ -71,6 +71,7 @@ fn put_entry(table: &mut [u32], at: usize, e: Entry, mark: u32)
 }
 
 // What an event makes of an entry's numbers.
+#[tactic(auto, unfolding(crate::specs::Numbers::numbers_reply, crate::specs::Numbers::numbers_table))]
 pub fn happen(table: &mut [u32], entry: u32, event: Event) -> Watched
     ensures { (watched result ≡ numbers_reply table.old entry event)
         × (table.new ≡ numbers_table table.old entry event) }
@@ -85,6 +86,7 @@ pub fn happen(table: &mut [u32], entry: u32, event: Event) -> Watched
     told(e)
 }
 
+#[tactic(auto, unfolding(crate::specs::Numbers::numbers_status))]
 pub fn seen(table: &[u32], entry: u32) -> Watched
     ensures { watched result ≡ numbers_status table.now entry }
 {

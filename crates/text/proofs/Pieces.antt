@@ -5,19 +5,25 @@ use mathlib.Core.Path.{◌≡◌, refl, sym, ap, subst, ◌∙◌}
 use mathlib.Core.Logic.{◌≢◌}
 use mathlib.Core.List.{List, [], ◌∷◌, ◌++◌, append_assoc, append-nil}
 use lib.ListN.{length, take, drop, get_or, length-append}
-use lib.Seq.{take-suc, take-length}
+use lib.Seq.{take-suc}
 use borrow.Author.Tests.{ne_eqb}
 use Rattle.model.specs.Listing.{ascii, name, decimal, spaced}
-use Rattle.records.proofs.{Over.lent, Over.back, Stores.stored_on, Stores.stored_lent}
+use Rattle.records.proofs.Stores.{stored_on}
+use Rattle.std.proofs.Common.{drop-drop}
+use Rattle.std.proofs.lemmas.List.Edits.{sets-eq}
+use borrow.Rule.Slice.PartMut.{put_mid}
 use Rattle.text.specs.Pieces.{Put}
 
 pub put_same : {a b old new : List ℕ} {at r : ℕ} → a ≡ b → Put a at old new r → Put b at old new r
 put_same {old = old} {new = new} {at = at} {r = r} e p = subst (λ (t : List ℕ). Put t at old new r) e p
 
--- copied into the rest of the page
-pub put_copied : (a old : List ℕ) (at : ℕ) {ys : List ℕ} {n : ℕ} → at + length a ≤ length old → n ≡ length a
-    → ys ≡ take (length a) a ++ drop (length a) (lent old at) → Put a at old (back old at ys) (at + n)
-put_copied a old at h en e = record { page = stored_lent old at a h (e ∙ rw take-length); ends = ap (λ (k : ℕ). at + k) en }
+-- copied into the middle of the page
+pub put_copied : (a old : List ℕ) (at k : ℕ) {ys : List ℕ} {r : ℕ} → at + length a ≤ length old → k ≡ length a → ys ≡ a → r ≡ at + length a
+    → Put a at old (put_mid at k old ys) r
+put_copied a old at k h n e r = record {
+  page = rw (e, n, drop-drop) (sym (sets-eq a old at h ∙ append_assoc (take at old) a (drop (at + length a) old)));
+  ends = r;
+}
 
 -- nothing
 pub put_none : (old : List ℕ) (at : ℕ) → Put [] at old old at

@@ -12,8 +12,9 @@ pub fn put_text(page: &mut [u8], at: usize, text: &[u8]) -> usize
     requires { at + length text.now ≤ length page.old }
     ensures { Put text.now at page.old page.new result }
 {
-    let n = bytes::copy(text, &mut page[at..]);
-    at + n
+    let end = at + text.len();
+    page[at..end].copy_from_slice(text);
+    end
 }
 
 // In decimal.

@@ -20,6 +20,7 @@ pub fn fresh() -> Entry
     waiting(0)
 }
 
+#[tactic(auto, unfolding(model::specs::Watching::event_reply, model::specs::Watching::event_table))]
 pub fn beat(table: &mut [Entry], entry: usize, value: u32) -> Watched
     ensures { (watched result ≡ event_reply table.old entry (Beat value))
         × (table.new ≡ event_table table.old entry (Beat value)) }
@@ -32,6 +33,7 @@ pub fn beat(table: &mut [Entry], entry: usize, value: u32) -> Watched
     told(e)
 }
 
+#[tactic(auto, unfolding(model::specs::Watching::event_reply, model::specs::Watching::event_table))]
 pub fn look(table: &mut [Entry], entry: usize) -> Watched
     ensures { (watched result ≡ event_reply table.old entry Look)
         × (table.new ≡ event_table table.old entry Look) }
@@ -44,6 +46,7 @@ pub fn look(table: &mut [Entry], entry: usize) -> Watched
     told(e)
 }
 
+#[tactic(auto, unfolding(model::specs::Watching::event_reply, model::specs::Watching::event_table))]
 pub fn reset(table: &mut [Entry], entry: usize, window: u32) -> Watched
     ensures { (watched result ≡ event_reply table.old entry (Reset window))
         × (table.new ≡ event_table table.old entry (Reset window)) }
@@ -56,6 +59,7 @@ pub fn reset(table: &mut [Entry], entry: usize, window: u32) -> Watched
     told(e)
 }
 
+#[tactic(auto, unfolding(model::specs::Watching::status_reply))]
 pub fn status(table: &[Entry], entry: usize) -> Watched
     ensures { watched result ≡ status_reply table.now entry }
 {
