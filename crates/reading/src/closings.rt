@@ -23,7 +23,8 @@ fn closing_of(file: &[u8], i: usize, to: usize, ends: &[u16]) -> u16
         return first;
     }
     let second = ends[first as usize + 1];
-    if kind == kinds::IF {
+    let is_if = kind == kinds::IF;
+    if is_if {
         return ends[second as usize + 1];
     }
     second

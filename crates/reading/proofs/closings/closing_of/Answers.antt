@@ -38,16 +38,16 @@ bounds-ends-first c =
 pub bounds-ends-second : goal.bounds-ends-second
 bounds-ends-second c =
     let w = opener c.requires c.if-to-i.false c.kind_at-kind.ensures c.closes.ensures c.if-closes.false c.opens.ensures c.if-not-opens.false in
-    omega (arith, second_early w (sym c.kind_at-kind.ensures ∙ c.if-kind-eq-IF.true), w.fillable.room)
+    omega (arith, second_early w (sym c.kind_at-kind.ensures ∙ c.if-is_if.true), w.fillable.room)
 
-pub returns-then-kind-eq-IF : goal.returns-then-kind-eq-IF
-returns-then-kind-eq-IF c =
+pub returns-then-is_if : goal.returns-then-is_if
+returns-then-is_if c =
     closing_if
     (opener c.requires c.if-to-i.false c.kind_at-kind.ensures c.closes.ensures c.if-closes.false c.opens.ensures c.if-not-opens.false)
-    (sym c.kind_at-kind.ensures ∙ c.if-kind-eq-IF.true)
+    (sym c.kind_at-kind.ensures ∙ c.if-is_if.true)
 
 pub returns : goal.returns
 returns c =
     closing_loop
     (opener c.requires c.if-to-i.false c.kind_at-kind.ensures c.closes.ensures c.if-closes.false c.opens.ensures c.if-not-opens.false)
-    (λ e. c.if-kind-eq-IF.false (c.kind_at-kind.ensures ∙ e))
+    (λ e. c.if-is_if.false (c.kind_at-kind.ensures ∙ e))
