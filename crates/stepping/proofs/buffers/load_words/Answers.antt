@@ -1,0 +1,12 @@
+use Rattle.std.proofs.Common.{arith}
+use Rattle.stepping.proofs.BufferLaws.{loaded_start, loaded_step, loaded_end}
+use Rattle.stepping.proofs.buffers.load_words.Goals as goal
+
+pub loop-i-init : goal.loop-i-init
+loop-i-init c = loaded_start
+
+pub loop-i-preserved : goal.loop-i-preserved
+loop-i-preserved c = loaded_step c.loop-i.invariant (omega arith) c.word_at.ensures
+
+pub returns : goal.returns
+returns c = loaded_end c.loop-i.invariant (omega arith)
