@@ -25,9 +25,9 @@ use Rattle.running.proofs.Running.{runs_same, ran_from}
 -- FIELDS
 
 -- a record that opens a block has a test
-pub test_fits : (r : Rec) → fields_fit r ≡ true → opens_block r.kind ≡ true → test_fits r ≡ true
+pub test_fitting : (r : Rec) → fields_fit r ≡ true → opens_block r.kind ≡ true → test_fits r ≡ true
 unfolding fields_fit
-test_fits r h o =
+test_fitting r h o =
     ⊎_elim (λ e. let k = eqb-true r.kind IF e in and_left (test_fits r) (unused (r.count ∷ [])) (rw k at h))
     (λ l. ⊎_elim
     (λ e. let k = eqb-true r.kind WHILE e in and_left (test_fits r) (between 1 65535 r.count) (rw k at h))
@@ -89,11 +89,11 @@ module _ {s : List ℕ} {i : ℕ} {ends ins w : List ℕ} {limit t : ℕ} (S : S
   }
 
   module _ {r : Rec} (h : r ≡ record_at s i) where
-    pub fields_fit : fields_fit r ≡ true
-    fields_fit = ap fields_fit h ∙ first_fits s i block stands (some S.at)
+    pub fields_fitting : fields_fit r ≡ true
+    fields_fitting = ap fields_fit h ∙ first_fits s i block stands (some S.at)
 
     pub test_there : opens_block (kind_at s i) ≡ true → test_fits r ≡ true
-    test_there o = test_fits r fields_fit (ap (λ (x : Rec). opens_block x.kind) h ∙ o)
+    test_there o = test_fitting r fields_fitting (ap (λ (x : Rec). opens_block x.kind) h ∙ o)
 
     -- a record that opens no block
     module _ (shut : opens_block (kind_at s i) ≡ false) {σ : Settings} {new : List ℕ} {p : Progress}
