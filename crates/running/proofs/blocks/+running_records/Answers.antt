@@ -10,9 +10,6 @@ use Rattle.running.proofs.blocks.+running_records.Goals as goal
 
 -- A LOOP
 
-pub run_loop-record_at-r-requires : goal.run_loop-record_at-r-requires
-run_loop-record_at-r-requires t c = omega (arith, c.requires.0.at.early)
-
 pub run_loop-run_while-requires : goal.run_loop-run_while-requires
 run_loop-run_while-requires t c =
     (omega arith, (c.requires.0, c.record_at-r.ensures, kind_there c.record_at-r.ensures c.if-r-eq-WHILE.true))
@@ -26,9 +23,6 @@ run_loop-run_times-requires t c =
 
 pub run_records-loop-next-init : goal.run_records-loop-next-init
 run_records-loop-next-init t c = running_start c.requires
-
-pub run_records-run_steps-e-requires : goal.run_records-run_steps-e-requires
-run_records-run_steps-e-requires t c = c.loop-next.invariant.rest
 
 pub run_records-returns-then-halted : goal.run_records-returns-then-halted
 run_records-returns-then-halted t c =
@@ -78,10 +72,6 @@ run_records-returns t c = running_ended c.loop-next.invariant c.loop-next-test.f
 
 -- A TIMES
 
-pub run_times-last-to-requires : goal.run_times-last-to-requires
-run_times-last-to-requires t c =
-    record { before = c.requires.0.at.early; few = c.requires.0.given.few; table = c.requires.0.given.table }
-
 pub run_times-run_last_test-requires : goal.run_times-run_last_test-requires
 run_times-run_last_test-requires t c =
     let fits = test_there c.requires.0 c.requires.1 (ap opens_block c.requires.2) in
@@ -117,10 +107,6 @@ pub run_times-returns : goal.run_times-returns
 run_times-returns t c = loop_last c.loop-round.invariant c.loop-round-test.false c.run_last_test-2.ensures
 
 -- A WHILE
-
-pub run_while-last-to-requires : goal.run_while-last-to-requires
-run_while-last-to-requires t c =
-    record { before = c.requires.0.at.early; few = c.requires.0.given.few; table = c.requires.0.given.table }
 
 pub run_while-loop-round-init : goal.run_while-loop-round-init
 run_while-loop-round-init t c = spinning_start c.requires.0 c.requires.2 c.requires.1 c.last-to.ensures.0 refl
