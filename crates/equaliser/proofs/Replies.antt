@@ -63,8 +63,8 @@ module _ {task : List ℕ} {σ : Settings} {pads kept : List ℕ} {r : Extent} (
       sized : (old : List ℕ) → equalise_rows σ (file_tree task) (length old) ≡ turn_down 9 (no_room (length old) n) (finished (12 * n ∷ t ∷ []))
       sized old = rw (counts, in_time.0, le-ltb σ.period t in_time.1)
 
-      pub no_room : (old : List ℕ) → no_room (length old) n ≡ true → EqualisesSound task σ old old (Equalised.Refused Refusal.NoRoom)
-      no_room old h = turned task σ old Refusal.NoRoom (sym (sized old ∙ rw h))
+      pub lacks_room : (old : List ℕ) → no_room (length old) n ≡ true → EqualisesSound task σ old old (Equalised.Refused Refusal.NoRoom)
+      lacks_room old h = turned task σ old Refusal.NoRoom (sym (sized old ∙ rw h))
 
       -- the result's length is that of its bytes
       length_result : length (block_bytes (padded σ 0 (file_tree task) 0)) ≡ 12 * n

@@ -145,3 +145,18 @@ module _ {s : List ℕ} {i to : ℕ} {pads old : List ℕ} (F : StatementFits s 
       end_laid {ys} e =
           subst (λ (b : Block). WritesStatement σ i 0 b old (back new n ys) (record { next = m + 1; bytes = n + 12; wait = 0 })) (sym is_if)
           (record { wrote = subst (λ (bs : List ℕ). Wrote bs old (back new n ys) (n + 12)) laid (wrote_last p.part (record_wrote end_rec e)); waits = refl; goes = p.goes })
+
+  -- what is laid by each place
+  module _ {new ys : List ℕ} {w : Written} (e : new ≡ over (record_bytes (record_of r)) old)
+      (W : BlockWritten s (i + 1) to (get_or pads i 0) pads (lent new 12) ys w) where
+    pub by_first : FirstLaid (back new 12 ys) (12 + w.bytes) w.next
+    by_first = first_laid (test_laid e) W
+
+    module _ {zs : List ℕ} (f : zs ≡ over (record_bytes else_rec) (lent (back new 12 ys) (12 + w.bytes))) where
+      pub by_else : ElseLaid (back (back new 12 ys) (12 + w.bytes) zs) (12 + w.bytes + 12) w.next
+      by_else = else_laid by_first f
+
+      pub by_second : {us : List ℕ} {v : Written}
+          → BlockWritten s (w.next + 1) to (get_or pads (256 + i) 0) pads (lent (back (back new 12 ys) (12 + w.bytes) zs) (12 + w.bytes + 12)) us v
+          → SecondLaid (back (back (back new 12 ys) (12 + w.bytes) zs) (12 + w.bytes + 12) us) (12 + w.bytes + 12 + v.bytes) v.next
+      by_second V = second_laid by_else V

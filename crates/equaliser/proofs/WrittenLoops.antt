@@ -91,3 +91,8 @@ module _ {s : List ℕ} {i to : ℕ} {pads old : List ℕ} (F : StatementFits s 
         tail_laid =
             subst (λ (b : Block). WritesStatement σ i 0 b old (back new n ys) (record { next = m + 1; bytes = n + t; wait = 0 })) (sym is_loop)
             (record { wrote = subst (λ (bs : List ℕ). Wrote bs old (back new n ys) (n + t)) laid (wrote_last p.part (rw known at W)); waits = refl; goes = omega (arith, p.goes) })
+
+  -- what is laid once the body is written
+  pub by_body : {new ys : List ℕ} {w : Written} → new ≡ over (loop_head (record_of r)) old → BlockWritten s (i + 1) to 0 pads (lent new 24) ys w
+      → BodyLaid (back new 24 ys) (24 + w.bytes) w.next
+  by_body e W = body_laid (head_laid e) W

@@ -115,7 +115,9 @@ module _ {s : List ℕ} {i to w : ℕ} {pads old : List ℕ} (F : StatementFits 
         the_act = act is_act.act_of (after_first all)
 
         act_left : Part (block_bytes (first_out σ w the_act)) (record_bytes (record_of r)) old new n
-        act_left = rw (same ∙ is_act.same, ← act_bytes is_act.act_of)
+        act_left =
+            subst (λ (bs : List ℕ). Part (block_bytes (first_out σ w the_act)) bs old new n)
+            (act_bytes is_act.act_of ∙ ap record_bytes (sym (same ∙ is_act.same)))
             (subst (λ (x : Block). Part (block_bytes (first_out σ w x)) (block_bytes (first_out σ 0 x)) old new n) is_act.is p.part)
 
         pub act_fits : 12 ≤ length (lent new n)

@@ -1,20 +1,13 @@
--- What was read fits the buffer.
-use Prim.Native.Nat.{ℕ, ◌+◌, ◌≤◌}
-use native.Mathlib.Omega.{arith}
-use mathlib.Core.{Path.◌≡◌, Path.subst, List.List}
-use lib.ListN.{length, replicate, length-replicate}
-use Rattle.records.proofs.Over.{lent, lent_length}
-use Rattle.printing.specs.declared.files.Input.{Input}
-use Rattle.printing.specs.Inputs.{Within}
+-- What was read stands at the front of the buffer.
+use Rattle.std.proofs.Common.{◌≡◌, ℕ, ◌+◌, ◌≤◌, List, ◌++◌, length, take, ap, ◌∙◌, subst, length-take-le}
+use Rattle.std.proofs.Math.Seq.{take-append-add}
+use Rattle.std.proofs.lemmas.List.{take-append-le}
+use borrow.Rule.Slice.PartMut.{put_mid, post_of}
 
--- so many bytes
-read_bytes : {r : Input} {n : ℕ} (room : ℕ) → r ≡ Input.Bytes n → Within r room → n ≤ room
-read_bytes room e w = subst (λ (x : Input). Within x room) e w
-
--- into zeros
-pub read_zeros : {r : Input} {n : ℕ} (room : ℕ) → r ≡ Input.Bytes n → Within r (length (replicate {A = ℕ} room 0)) → n ≤ room
-read_zeros room e w = omega (arith, read_bytes (length (replicate {A = ℕ} room 0)) e w, length-replicate {A = ℕ} room 0)
-
--- into the rest of a buffer
-pub read_part : {r : Input} {n : ℕ} (buf : List ℕ) (at : ℕ) → at ≤ length buf → r ≡ Input.Bytes n → Within r (length (lent buf at)) → at + n ≤ length buf
-read_part buf at h e w = omega (arith, read_bytes (length (lent buf at)) e w, lent_length buf at)
+-- what one read more has put into the rest of the buffer
+pub read_on : (buf ys : List ℕ) (done k n : ℕ) → done ≤ length buf → n ≤ length ys → take (done + n) (put_mid done k buf ys) ≡ take done buf ++ take n ys
+read_on buf ys done k n h few =
+    let e : length (take done buf) ≡ done = length-take-le done buf h in
+    let rest = ys ++ post_of done k buf in
+    subst (λ (i : ℕ). take (i + n) (take done buf ++ rest) ≡ take done buf ++ take n rest) e (take-append-add (take done buf) rest n)
+    ∙ ap (λ (l : List ℕ). take done buf ++ l) (take-append-le n ys (post_of done k buf) few)

@@ -3,7 +3,7 @@ use Prim.Native.Nat.{ℕ, zero, suc, ◌+◌, ◌/◌, ◌≤◌, ◌<◌}
 use native.Mathlib.{Nat.add-zero, Nat.zero-add, Numerals.add-one, Omega.arith}
 use mathlib.Core.Path.{◌≡◌, ap, sym, subst, ◌∙◌}
 use mathlib.Core.List.{List, [], ◌∷◌, ◌++◌, append_assoc, append-nil}
-use lib.ListN.{length, get_or, replicate, length-append, length-replicate}
+use lib.ListN.{length, get_or, replicate, length-replicate}
 use Rattle.model.specs.declared.{Line.Line, Shown.Shown, Refusal.Refusal, LaidOut.LaidOut}
 use Rattle.model.specs.{Records.record_at, Records.over, Answers.row, Answers.laid_out, Limits.file_length}
 use Rattle.model.specs.{Replies.prepare_reply, Replies.prepare_out}
@@ -45,9 +45,6 @@ module _ (laid table : List ℕ) (i : ℕ) where
     pub shown_line : {l : Line} → r ≡ Shown.Line l → l ≡ line_in laid table i
     shown_line {l} f = let g : Shown.Line l ≡ Shown.Line (line_in laid table i) = sym f ∙ there in cc
 
-    pub shown_absent : {A : Type 0} → r ≡ Shown.Absent → A
-    shown_absent f = let g = sym f ∙ there in let z : ◌≡◌ {A = ℕ} 0 1 = cc in absurd (omega arith)
-
   pub line_fits : {l : Line} → l ≡ line_in laid table i → l.count ≤ 4
   line_fits f = subst (λ (m : Line). m.count ≤ 4) (sym f) (at_most_four (get_or table i 0) (record_at laid i))
 
@@ -85,7 +82,3 @@ put_whole {old = old} text e p h =
     let q = put_same e p in
     let n = q.ends ∙ zero-add (length text) in
     (n, q.page ∙ stored_over old text (omega arith))
-
--- it fits the buffer
-pub over_fits : (text old : List ℕ) {new : List ℕ} {n : ℕ} → n ≡ length text → new ≡ over text old → n ≤ length new
-over_fits text old e f = omega (arith, simp length-append at (ap length f))

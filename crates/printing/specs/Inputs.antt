@@ -1,7 +1,6 @@
 -- What was read fits the buffer.
-use Rattle.std.specs.Prelude.{ℕ, ◌≤◌}
-use Rattle.printing.specs.declared.files.Input.{Input}
+use Rattle.std.specs.Prelude.{ℕ, ◌≤◌, Result, Ok, Err}
 
-abbrev pub Within : Input → ℕ → Type 0
-Within (Input.Bytes n) room = n ≤ room
-Within Input.Failed room = 0 ≤ room
+abbrev pub Within : {E : Type 0} → Result ℕ E → ℕ → Type 0
+Within (Ok n) room = n ≤ room
+Within (Err e) room = 0 ≤ room

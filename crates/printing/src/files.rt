@@ -1,39 +1,32 @@
 // Reading a file to its end, or until the buffer is full.
-ghost use Rattle.std.specs.Prelude.{length};
+ghost use Rattle.std.specs.Prelude.{◌≡◌, ◌<◌, length, take, IfOk, IfSome};
+ghost use Rattle.std.specs.Io.KnownBytes.{Consumes, IsAtEnd};
 ghost use Rattle.printing.specs.Inputs.{Within};
 
-// So many bytes, at the start of the buffer; or a read failed.
-#[derive(Clone, Copy)]
-pub enum Input {
-    Bytes(usize),
-    Failed,
-}
+use std::io;
+use std::io::Read;
 
 // One read, which gets no bytes at the end.
-fn read_once(fd: i32, buf: &mut [u8]) -> Input
-    ensures { Within result (length buf.old) }
+fn read_once<R: Read>(reader: &mut R, buf: &mut [u8]) -> io::Result<usize>
+    ensures within { Within result (length buf.old) }
+    ensures bytes { IfOk result (λ n. Consumes (R.remaining reader.old) (R.remaining reader.new) (take n buf.new)) }
+    ensures end { IfOk result (λ n. n ≡ 0 → 0 < length buf.old → IsAtEnd (R.remaining reader.new)) }
 {
-    let got = libc::read(fd, buf);
-    if got < 0 {
-        return Input::Failed;
-    }
-    Input::Bytes(io::count(got, buf))
+    reader.read(buf)
 }
 
-// A read that fails is no end: standard error tells what failed, and why.
-pub fn read_all(fd: i32, what: &[u8], buf: &mut [u8]) -> Input
-    ensures { Within result (length buf.old) }
+// Puts what the reader has left at the start of the buffer, as far as it has room, and says how many bytes that is. A read that fails is no end.
+pub fn read_all<R: Read>(reader: &mut R, buf: &mut [u8]) -> io::Result<usize>
+    ensures within { Within result (length buf.old) }
+    ensures bytes { IfOk result (λ n. IfSome (R.remaining reader.old) (λ bytes. take n buf.new ≡ take (length buf.old) bytes)) }
 {
     let mut done: usize = 0;
     while done < buf.len() {
-        let Input::Bytes(n) = read_once(fd, &mut buf[done..]) else {
-            os::fail(what);
-            return Input::Failed;
-        };
+        let n = read_once(reader, &mut buf[done..])?;
         if n == 0 {
-            return Input::Bytes(done);
+            return Ok(done);
         }
         done += n;
     }
-    Input::Bytes(done)
+    Ok(done)
 }
