@@ -29,7 +29,7 @@ use Rattle.placing.proofs.{Going.after-⧺, Settling.alike_eq}
 use Rattle.placing.proofs.Writing.{laid_bytes, Writing, first_room, writing_first, writing_same, writing_room, writing_next, writing_end}
 use Rattle.layout.specs.declared.skips.Idle.{Idle}
 use Rattle.layout.specs.Idling.{IdleBody, AllIdle, IdleLoop, IdleAt, SkipsFit, SkipsLaid, checked, check_rec, IdleEnds, IdleFits, IdleLaid}
-use Rattle.layout.specs.{Ranges.only, Measured.laid, Meetings.meetings, Meetings.StatementMeasured}
+use Rattle.layout.specs.{Measured.laid, Meetings.meetings, Meetings.StatementMeasured}
 use Rattle.layout.specs.Written.{LaidFits, StatementFits, StatementLaid}
 use Rattle.layout.proofs.Unrolled.{rounds, rounds_none, rounds_first, laid_nil, laid_free}
 use Rattle.layout.proofs.{Noting.plain_checked, Noting.noted_plain, Passing.laying_on, PassingSteps.LaidAs, PassingSteps.answered}

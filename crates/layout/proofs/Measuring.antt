@@ -22,7 +22,7 @@ use Rattle.layout.specs.Meetings.{meetings, Noting, Noted, Notes, BlockMeasured,
 use Rattle.reading.proofs.Walking.{every, none_closed, none_ended}
 use Rattle.layout.proofs.Noting.{notes-++, notes_first, plain_step, plain_idles, noted_plain, noted-⧺}
 use Rattle.layout.proofs.{Unrolled.rounds, Unrolled.rounds_none, PassingRounds.PassingRounds, PassingBranches.Tested}
-use Rattle.layout.proofs.Passing.{in_time, Passing, passing_start, left, all_done, passing_done, one, passing_late, passing_next}
+use Rattle.layout.proofs.Passing.{in_time, Passing, passing_start, left, all_done, passing_done, passing_late, passing_next}
 use Rattle.layout.proofs.PassingSteps.{LaidAs, laid_every, skip_as, skip_passed, is_act, act_as, act_passed}
 use Rattle.layout.proofs.PassingRounds as loops
 use Rattle.layout.proofs.PassingBranches as ifs

@@ -34,8 +34,8 @@ by_settings {s} {old} {new} {r} e m = subst (λ (ρ : Settings). FileMeasured s 
 turned : (file : List ℕ) (σ : Settings) (old : List ℕ) (x : Refusal) → refusal x ≡ lay_out_rows σ (file_tree file) (length old) → LaysOutSound file σ old old (LaidOut.Refused x)
 turned file σ old x e = record { reply = e; leaves = ap (λ (v : Verdict). kept v (over (bytes (linearise (layout σ (file_tree file)))) old) old) e }
 
-pub short_window : (file : List ℕ) (σ : Settings) (old : List ℕ) → short_window σ ≡ true → LaysOutSound file σ old old (LaidOut.Refused Refusal.ShortWindow)
-short_window file σ old h = turned file σ old Refusal.ShortWindow (rw h)
+pub window_refused : (file : List ℕ) (σ : Settings) (old : List ℕ) → short_window σ ≡ true → LaysOutSound file σ old old (LaidOut.Refused Refusal.ShortWindow)
+window_refused file σ old h = turned file σ old Refusal.ShortWindow (rw h)
 
 wide_window : {σ : Settings} → Layable σ → short_window σ ≡ false
 wide_window {σ} L = le-ltb σ.window (σ.beat + σ.save + longest σ) L.fits.wide
@@ -114,8 +114,8 @@ module _ {file : List ℕ} {σ : Settings} {r : State} {m : ℕ} (T : InTime fil
           above_all room (size result) (omega (arith, size_is T.settings tree ended, ended.records, T.skips)) ∙ sym (above_all room n l)
       go false x = ap (no_room room) (counts (ltb-false 5461 n x))
 
-  pub no_room : (old : List ℕ) → no_room (length old) n ≡ true → LaysOutSound file σ old old (LaidOut.Refused Refusal.NoRoom)
-  no_room old x = turned file σ old Refusal.NoRoom (sym (timed (length old) ∙ rw (same_room (length old), x)))
+  pub room_refused : (old : List ℕ) → no_room (length old) n ≡ true → LaysOutSound file σ old old (LaidOut.Refused Refusal.NoRoom)
+  room_refused old x = turned file σ old Refusal.NoRoom (sym (timed (length old) ∙ rw (same_room (length old), x)))
 
   module _ (old : List ℕ) (x : no_room (length old) n ≡ false) where
     counted : size result ≡ n

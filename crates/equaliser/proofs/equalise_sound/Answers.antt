@@ -1,6 +1,6 @@
 -- The size decides rows 8 and 9; where neither refuses, it is the room that writing asks for.
 use Rattle.std.proofs.Common.{ℕ, sym, ◌∙◌, arith}
-use lib.ListN.{length-replicate}
+use Rattle.std.proofs.lemmas.List.{length-replicate}
 use Rattle.equaliser.proofs.Replies.{task_asks, over_period, small, lacks_room, has_room, written}
 use Rattle.equaliser.proofs.equalise_sound.Goals as goal
 
