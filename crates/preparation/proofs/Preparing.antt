@@ -50,25 +50,23 @@ prepare_fits s task m {n} {t} e h =
 abbrev pub Prepares : List ℕ → List ℕ → List ℕ → List ℕ → Verdict → Type 0
 Prepares s task out out' v = (v ≡ prepare_reply s task (length out)) × (out' ≡ prepare_out s task out)
 
-module _ (s task own out : List ℕ) (h : length own ≡ 12300) where
-  answered : equalise_reply s task (length own) ≡ equalise_reply s task file_length
-  answered = room_enough s task (length own) (omega (arith, h))
-
-  pub prepare_refused : (x : Refusal) → refusal x ≡ equalise_reply s task (length own) → Prepares s task out out (refusal x)
+module _ (s task out : List ℕ) where
+  -- with a buffer of its own that has room for 1,025 records
+  pub prepare_refused : {m : ℕ} (x : Refusal) → refusal x ≡ equalise_reply s task m → 12300 ≤ m → Prepares s task out out (refusal x)
   unfolding prepare_reply prepare_out
-  prepare_refused x e =
-      let k = refused_first x (lay_out_reply s (equalised_of s task) (length out)) (e ∙ answered) in
+  prepare_refused {m} x e h =
+      let k = refused_first x (lay_out_reply s (equalised_of s task) (length out)) (e ∙ room_enough s task m h) in
       (k, rw (← k))
 
-  module _ {n t : ℕ} (e : finished (n ∷ t ∷ []) ≡ equalise_reply s task (length own)) {own' : List ℕ} (w : own' ≡ equalise_out s task own) where
+  module _ (own : List ℕ) {own' : List ℕ} {n t : ℕ} (e : finished (n ∷ t ∷ []) ≡ equalise_reply s task (length own)) (w : own' ≡ equalise_out s task own) where
     written : take n own' ≡ equalised_of s task
     written =
         ap (take n) w ∙ ap (λ (v : Verdict). take (value_at 0 v) (equalise_out s task own)) e
         ∙ equalised_file_is s task own (n ∷ t ∷ []) (sym e)
 
     pub prepare_laid : {v : Verdict} {out' : List ℕ} → v ≡ lay_out_reply s (take n own') (length out) → out' ≡ lay_out_out s (take n own') out
-        → Prepares s task out out' v
+        → 12300 ≤ length own → Prepares s task out out' v
     unfolding prepare_reply prepare_out lay_out_out
-    prepare_laid p q =
-        let k = sym (e ∙ answered) in
+    prepare_laid p q h =
+        let k = sym (e ∙ room_enough s task (length own) h) in
         (p ∙ rw (written, k), q ∙ rw (written, k))
