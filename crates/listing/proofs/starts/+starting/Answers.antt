@@ -18,14 +18,18 @@ start_block-returns-then-closes t c =
     starting_closed c.loop-next.invariant (told closes_block c.kind_at.ensures c.closes.ensures c.if-closes.true)
 
 pub start_block-start_statement-e-requires : goal.start_block-start_statement-e-requires
-start_block-start_statement-e-requires t c =
-    (omega (arith, c.decreases, c.loop-next.invariant.walk.on),
-    statement_next c.loop-next.invariant c.loop-next-test.true (told closes_block c.kind_at.ensures c.closes.ensures c.if-closes.false))
+start_block-start_statement-e-requires t c = (
+  omega (arith, c.decreases, c.loop-next.invariant.walk.on),
+  statement_next c.loop-next.invariant c.loop-next-test.true (told closes_block c.kind_at.ensures c.closes.ensures c.if-closes.false),
+)
 
 pub start_block-loop-next-smaller : goal.start_block-loop-next-smaller
 start_block-loop-next-smaller t c =
-    omega (arith, starting_on c.loop-next.invariant c.loop-next-test.true (told closes_block c.kind_at.ensures c.closes.ensures c.if-closes.false)
-    c.start_statement-e.ensures)
+    omega (
+      arith,
+      starting_on c.loop-next.invariant c.loop-next-test.true (told closes_block c.kind_at.ensures c.closes.ensures c.if-closes.false)
+          c.start_statement-e.ensures,
+    )
 
 pub start_block-loop-next-preserved : goal.start_block-loop-next-preserved
 start_block-loop-next-preserved t c =
