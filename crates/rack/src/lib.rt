@@ -1,4 +1,4 @@
-// The calls as C makes them. Each answers one number, in which `packing` puts what the paper returns.
+// The calls as C makes them, by `rack_c`. Each answers one number, in which `packing` puts what the paper returns.
 #![tactic(auto)]
 
 ghost use Rattle.std.specs.Prelude.{◌≡◌, length};
@@ -21,8 +21,7 @@ use tables::{happen, seen};
 use timing::time_file;
 
 // timing::time_file
-#[unsafe(no_mangle)]
-pub extern "C" fn rack_time(settings: &[u8], form: u8, file: &[u8]) -> u64
+pub fn rack_time(settings: &[u8], form: u8, file: &[u8]) -> u64
     ensures { result ≡ packed file_word (time_reply settings.now (form_of form) file.now) }
 {
     let timed = time_file(settings, form_of(form), file);
@@ -30,8 +29,7 @@ pub extern "C" fn rack_time(settings: &[u8], form: u8, file: &[u8]) -> u64
 }
 
 // equaliser::equalise
-#[unsafe(no_mangle)]
-pub extern "C" fn rack_equalise(settings: &[u8], task: &[u8], out: &mut [u8]) -> u64
+pub fn rack_equalise(settings: &[u8], task: &[u8], out: &mut [u8]) -> u64
     ensures { (result ≡ packed file_word (equalise_reply settings.now task.now (length out.old)))
         × (out.new ≡ equalise_out settings.now task.now out.old) }
 {
@@ -40,8 +38,7 @@ pub extern "C" fn rack_equalise(settings: &[u8], task: &[u8], out: &mut [u8]) ->
 }
 
 // layout::lay_out
-#[unsafe(no_mangle)]
-pub extern "C" fn rack_lay_out(settings: &[u8], equalised: &[u8], out: &mut [u8]) -> u64
+pub fn rack_lay_out(settings: &[u8], equalised: &[u8], out: &mut [u8]) -> u64
     ensures { (result ≡ packed file_word (lay_out_reply settings.now equalised.now (length out.old)))
         × (out.new ≡ lay_out_out settings.now equalised.now out.old) }
 {
@@ -50,8 +47,7 @@ pub extern "C" fn rack_lay_out(settings: &[u8], equalised: &[u8], out: &mut [u8]
 }
 
 // preparation::prepare
-#[unsafe(no_mangle)]
-pub extern "C" fn rack_prepare(settings: &[u8], task: &[u8], out: &mut [u8]) -> u64
+pub fn rack_prepare(settings: &[u8], task: &[u8], out: &mut [u8]) -> u64
     ensures { (result ≡ packed file_word (prepare_reply settings.now task.now (length out.old)))
         × (out.new ≡ prepare_out settings.now task.now out.old) }
 {
@@ -60,8 +56,7 @@ pub extern "C" fn rack_prepare(settings: &[u8], task: &[u8], out: &mut [u8]) -> 
 }
 
 // machine::run
-#[unsafe(no_mangle)]
-pub extern "C" fn rack_run(
+pub fn rack_run(
     settings: &[u8],
     form: u8,
     file: &[u8],
@@ -87,8 +82,7 @@ pub extern "C" fn rack_run(
 }
 
 // machine::run_until
-#[unsafe(no_mangle)]
-pub extern "C" fn rack_run_until(
+pub fn rack_run_until(
     settings: &[u8],
     form: u8,
     file: &[u8],
@@ -120,8 +114,7 @@ pub extern "C" fn rack_run_until(
 }
 
 // machine::resume
-#[unsafe(no_mangle)]
-pub extern "C" fn rack_resume(
+pub fn rack_resume(
     settings: &[u8],
     form: u8,
     file: &[u8],
@@ -150,8 +143,7 @@ pub extern "C" fn rack_resume(
 }
 
 // machine::restart
-#[unsafe(no_mangle)]
-pub extern "C" fn rack_restart(
+pub fn rack_restart(
     settings: &[u8],
     form: u8,
     file: &[u8],
@@ -177,8 +169,7 @@ pub extern "C" fn rack_restart(
 }
 
 // watcher::beat
-#[unsafe(no_mangle)]
-pub extern "C" fn rack_beat(table: &mut [u32], entry: u32, value: u32) -> u64
+pub fn rack_beat(table: &mut [u32], entry: u32, value: u32) -> u64
     ensures { (result ≡ packed file_word (numbers_reply table.old entry (Beat value)))
         × (table.new ≡ numbers_table table.old entry (Beat value)) }
 {
@@ -187,8 +178,7 @@ pub extern "C" fn rack_beat(table: &mut [u32], entry: u32, value: u32) -> u64
 }
 
 // watcher::look
-#[unsafe(no_mangle)]
-pub extern "C" fn rack_look(table: &mut [u32], entry: u32) -> u64
+pub fn rack_look(table: &mut [u32], entry: u32) -> u64
     ensures { (result ≡ packed file_word (numbers_reply table.old entry Look))
         × (table.new ≡ numbers_table table.old entry Look) }
 {
@@ -197,8 +187,7 @@ pub extern "C" fn rack_look(table: &mut [u32], entry: u32) -> u64
 }
 
 // watcher::reset
-#[unsafe(no_mangle)]
-pub extern "C" fn rack_reset(table: &mut [u32], entry: u32, window: u32) -> u64
+pub fn rack_reset(table: &mut [u32], entry: u32, window: u32) -> u64
     ensures { (result ≡ packed file_word (numbers_reply table.old entry (Reset window)))
         × (table.new ≡ numbers_table table.old entry (Reset window)) }
 {
@@ -207,8 +196,7 @@ pub extern "C" fn rack_reset(table: &mut [u32], entry: u32, window: u32) -> u64
 }
 
 // watcher::status
-#[unsafe(no_mangle)]
-pub extern "C" fn rack_status(table: &[u32], entry: u32) -> u64
+pub fn rack_status(table: &[u32], entry: u32) -> u64
     ensures { result ≡ packed file_word (numbers_status table.now entry) }
 {
     watched_word(seen(table, entry))
