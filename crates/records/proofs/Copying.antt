@@ -1,5 +1,6 @@
 -- One slice over another, element by element.
-use Rattle.std.proofs.Common.{◌≡◌, ℕ, suc, ◌+◌, ◌<◌, ◌≤◌, List, ◌++◌, length, get_or, take, drop, set, refl, ◌∙◌, append_assoc, append-nil, length-set, drop_of_length-le, length-take-le, take_all, drop-cons, take-suc}
+use Rattle.std.proofs.Common.{◌≡◌, ℕ, suc, ◌+◌, ◌<◌, ◌≤◌, List, ◌++◌, length, get_or, take, drop, set}
+use Rattle.std.proofs.Common.{refl, ◌∙◌, append_assoc, append-nil, length-set, drop_of_length-le, length-take-le, take_all, drop-cons, take-suc}
 use native.Mathlib.{Numerals.add-one, Omega.arith}
 use lib.Seq.{set_at}
 

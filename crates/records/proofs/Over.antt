@@ -1,5 +1,6 @@
 -- A list laid over the front of a buffer, piece by piece: from part-start or part-first, by part-put and part-lent, to part_end or part-last.
-use Rattle.std.proofs.Common.{◌≡◌, ℕ, ◌+◌, ◌-◌, ◌<◌, ◌≤◌, List, [], ◌∷◌, ◌++◌, length, take, drop, set, sym, refl, ap, ◌∙◌, append_assoc, append-nil, length-append, length-drop, drop_of_length-le, take_all, drop-cons, drop-drop}
+use Rattle.std.proofs.Common.{◌≡◌, ℕ, ◌+◌, ◌-◌, ◌<◌, ◌≤◌, List, [], ◌∷◌, ◌++◌, length, take, drop, set}
+use Rattle.std.proofs.Common.{sym, refl, ap, ◌∙◌, append_assoc, append-nil, length-append, length-drop, drop_of_length-le, take_all, drop-cons, drop-drop}
 use native.Mathlib.{Numerals.add-one, Omega.arith}
 use lib.Seq.{set_at, take-append_seam, drop-append_seam}
 use Rattle.model.specs.Records.{over}

@@ -1,5 +1,6 @@
 -- Numbers read from bytes and written as bytes, by the laws of Over, and what the cells hold after the loans that fill them.
-use Rattle.std.proofs.Common.{◌≡◌, ℕ, zero, suc, ◌+◌, ◌-◌, ◌*◌, ◌<◌, ◌≤◌, List, [], ◌∷◌, ◌++◌, length, get_or, take, drop, set, sym, refl, ap, ◌∙◌, subst, ap₂, append_assoc, append-nil, length-append, drop_of_length-le, length-take-le, drop-cons, drop-drop, take_at, drop_at}
+use Rattle.std.proofs.Common.{◌≡◌, ℕ, zero, suc, ◌+◌, ◌-◌, ◌*◌, ◌<◌, ◌≤◌, List, [], ◌∷◌, ◌++◌, length, get_or, take, drop, set}
+use Rattle.std.proofs.Common.{sym, refl, ap, ◌∙◌, subst, ap₂, append_assoc, append-nil, length-append, drop_of_length-le, length-take-le, drop-cons, drop-drop, take_at, drop_at}
 use native.Mathlib.{Nat.sub-zero, Numerals.add-one, Omega.arith}
 use Rattle.model.specs.{Records.word_at, Records.word_bytes, Records.over, Stopping.words, Stopping.words_from}
 use Rattle.laws.proofs.Images.{length_words}

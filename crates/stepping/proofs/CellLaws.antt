@@ -1,5 +1,6 @@
 -- What a store into the cells does to what they hold.
-use Rattle.std.proofs.Common.{◌≡◌, ℕ, ◌+◌, ◌-◌, ◌<◌, ◌≤◌, List, [], ◌∷◌, ◌++◌, length, get_or, take, drop, set, sym, ap, ◌∙◌, append-nil, arith, length-append, length-drop, take-append-drop, drop_of_length-le, length-take-le, get_or-take, drop-drop, drop-set-lt, drop_at, ne_eqb}
+use Rattle.std.proofs.Common.{◌≡◌, ℕ, ◌+◌, ◌-◌, ◌<◌, ◌≤◌, List, [], ◌∷◌, ◌++◌, length, get_or, take, drop, set}
+use Rattle.std.proofs.Common.{sym, ap, ◌∙◌, append-nil, arith, length-append, length-drop, take-append-drop, drop_of_length-le, length-take-le, get_or-take, drop-drop, drop-set-lt, drop_at, ne_eqb}
 use lib.Seq.{take-set-le, take-set-lt, drop-set-add}
 use lib.Seq.{take-append-le, drop-append-le}
 use Rattle.model.specs.{Runs.assigns, Runs.outputs, Runs.saves, Stopping.saved}
