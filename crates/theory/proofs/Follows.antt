@@ -4,7 +4,7 @@ use mathlib.Core.Path.{◌≡◌, refl, ap, ◌∙◌}
 use mathlib.Core.{Bool.cond, List.List}
 use lib.{Dec.eqb, Dec.leb}
 use Rattle.model.specs.declared.Settings.{Settings}
-use Rattle.model.specs.Trees.{Test, Act, beat, save, Block, nil, skip, act, branch, while, times, ◌⧺◌, size}
+use Rattle.model.specs.Trees.{Test, Act, beat, Block, nil, skip, act, branch, while, times, ◌⧺◌, size}
 use Rattle.model.specs.{Times.ticks, Times.time, Equalising.F, Equalising.pad, Equalising.merge, Equalising.equalise, Placement.Each}
 use Rattle.model.specs.Layout.{unroll, commands, left, before, idle, idles, fill, filled, lay, opened, body, layout, total, last_value}
 use Rattle.model.specs.Runs.{Effect, Run, ◌⊳◌, effect, single, choose, spin, rounds, run, last_test, variables_after}
