@@ -4,7 +4,7 @@ use native.Mathlib.Omega.{arith}
 use mathlib.Core.Path.{◌≡◌, refl, ap, sym, subst, ◌∙◌}
 use mathlib.Core.Bool.{Bool, true, false}
 use mathlib.Core.{Logic.inl, List.List}
-use lib.{Dec.eqb, ListN.length}
+use lib.{Dec.eqb, ListN.length, ListN.set as set_at}
 use borrow.Author.Tests.{eqb-true, eqb-false}
 use Rattle.model.specs.declared.Settings.{Settings}
 use Rattle.model.specs.declared.Form.TheVariants.{Task}
@@ -17,38 +17,32 @@ use Rattle.records.proofs.Blocks.{size_waiting}
 use Rattle.reading.specs.{Closing.opens_block, Walks.StatementAt}
 use Rattle.reading.specs.Ranges.{Stands, first_size, first_part, second_part, after_first, test_of}
 use Rattle.reading.proofs.Walking.{every, block, skip_at, act_at, if_at, open_at, first_in_is, second_in, task_while}
-use Rattle.timing.specs.declared.ticks.Time.{Time}
-use Rattle.timing.specs.declared.ticks.Time.TheVariants.{Ticks, OverPeriod}
+use Rattle.std.specs.Prelude.{Option, None, Some}
 use Rattle.timing.specs.{Times.Gives, Times.loop_ticks, Blocks.first_time}
-use Rattle.timing.proofs.{Given.gives_over, Given.was_ticks, Given.was_over, Firsts.loop_count, Firsts.parts_time, Firsts.plain_at}
+use Rattle.timing.proofs.{Given.gives_ticks, Given.was_ticks, Given.was_over, Firsts.loop_count, Firsts.parts_time, Firsts.plain_at}
 use Rattle.equaliser.specs.declared.measure.Extent.{Extent}
 use Rattle.equaliser.specs.Merged.{padded, branch_out, loop_out, first_out, first_waits}
-use Rattle.equaliser.specs.Pads.{Kept, Below, Keeps}
-use Rattle.equaliser.specs.Sizes.{Small, PlainSize, BlockAsks, BlockDone, IsBlock, BlockSize, StatementAsks, IsStatement, StatementSize}
-use Rattle.equaliser.proofs.Keeping.{below_none, below_on, below_keeps, kept_same, kept_on, kept_here, kept_closed, kept_plain}
+use Rattle.equaliser.specs.declared.pads.Pad.{Pad}
+use Rattle.equaliser.specs.Pads.{pad_of, Kept, Same}
+use Rattle.equaliser.specs.Sizes.{Small, Takes, PlainDone, PlainSize, BlockAsks, BlockDone, IsBlock, BlockSize, StatementAsks, IsStatement, StatementSize}
+use Rattle.equaliser.proofs.Keeping.{keeps_here, keeps_before, keeps_after, before_none, before_on, kept_same, kept_on, kept_here, kept_closed, kept_plain}
 
--- a block whose time was told is within the period
-pub told : {s : List ℕ} {i to : ℕ} {σ : Settings} {pads : List ℕ} {b : Block} {r : Extent} {t : ℕ} → IsBlock s i to σ pads b r → r.time ≡ Ticks t
-    → (time σ b ≡ t) × (t ≤ σ.period) × BlockDone s i to σ pads b r
-told {σ = σ} {b = b} {t = t} B e =
-    let q = was_ticks σ.period (time σ b) t (subst (Gives σ.period (time σ b)) e B.takes) in
-    (q.0, q.1, B.done (omega arith))
+-- the same time, and what follows from what is so
+takes_on : (σ : Settings) {t u : ℕ} (D E : Extent → Type 0) → t ≡ u → ((e : Extent) → D e → E e) → (z : Option Extent) → Takes σ t D z → Takes σ u E z
+takes_on σ D E q f None h = omega (arith, h)
+takes_on σ D E q f (Some e) h = (sym q ∙ h.0, omega (arith, h.1), f e h.2)
+
+-- a time that was told is the answer's
+gives : {p t x : ℕ} → t ≡ x → t ≤ p → Gives p t (Some x)
+gives {p} {t} e l = subst (λ (n : ℕ). Gives p t (Some n)) e (gives_ticks p t l)
 
 -- what holds of the statement that is read holds of every statement that stands there
-sized : {s : List ℕ} {i to : ℕ} (A : StatementAt Task s i to) {σ : Settings} {w : ℕ} {old new : List ℕ} {e : Extent}
-    → IsStatement s i to σ w new (block A) e → Below i old new → StatementSize s i to σ w old new e
+sized : {s : List ℕ} {i to : ℕ} (A : StatementAt Task s i to) {σ : Settings} {w : ℕ} {old new : List Pad} {e : Option Extent}
+    → IsStatement s i to σ w new (block A) e → Same 0 i old new → StatementSize s i to σ w old new e
 sized {s} {i} {to} A {σ} {w} {new = new} {e} h b = record {
   right = λ B. every (λ (x : Block). IsStatement s i to σ w new x e) A.file h B.file.block B.file.stands;
-  below = b;
+  before = b;
 }
-
--- it takes too long, since a part of it does
-late : {s : List ℕ} {i to : ℕ} (A : StatementAt Task s i to) {σ : Settings} {w : ℕ} {old new : List ℕ} {e : Extent} (t : ℕ) → t ≤ first_time σ (block A)
-    → Gives σ.period t e.time → e.time ≡ OverPeriod → Below i old new → StatementSize s i to σ w old new e
-late A {σ} t l g q b =
-    let all = first_time σ (block A) in
-    let over : σ.period < all = omega (arith, was_over σ.period t (subst (Gives σ.period t) q g)) in
-    sized A (record { takes = subst (Gives σ.period all) (sym q) (gives_over σ.period all over); done = λ l. absurd (omega arith) }) b
 
 -- A RECORD THAT OPENS NO BLOCK
 
@@ -59,9 +53,9 @@ module _ {s : List ℕ} {i to : ℕ} (A : StatementAt Task s i to) {r : Record} 
   shut : opens_block (kind_at s i) ≡ false
   shut = ap opens_block (sym kind) ∙ o
 
-  module _ {σ : Settings} {w : ℕ} {e : Extent} (P : PlainSize σ r w (i + 1) e) where
-    counts : (e.records ≡ size (first_out σ w (block A))) × (e.wait ≡ first_waits w (block A))
-    counts = go (eqb r.kind SKIP) refl
+  module _ (σ : Settings) {w : ℕ} where
+    counts : (e : Extent) → PlainDone r w (i + 1) e → (e.records ≡ size (first_out σ w (block A))) × (e.wait ≡ first_waits w (block A))
+    counts e P = go (eqb r.kind SKIP) refl
       where
         go : (t : Bool) → eqb r.kind SKIP ≡ t → (e.records ≡ size (first_out σ w (block A))) × (e.wait ≡ first_waits w (block A))
         go true q =
@@ -74,22 +68,20 @@ module _ {s : List ℕ} {i to : ℕ} (A : StatementAt Task s i to) {r : Record} 
             let one : e.records ≡ size (first_out σ w (act a.act_of (after_first (block A)))) = omega (arith, (P.acts k).0, size_waiting w (act a.act_of nil)) in
             (one ∙ ap (λ (x : Block). size (first_out σ w x)) (sym a.is), (P.acts k).1 ∙ ap (first_waits w) (sym a.is))
 
-    pub plain_size : (pads : List ℕ) → StatementSize s i to σ w pads pads e
-    plain_size pads =
+  module _ {σ : Settings} {w : ℕ} where
+    pub plain_size : {z : Option Extent} → PlainSize σ r w (i + 1) z → (pads : List Pad) → StatementSize s i to σ w pads pads z
+    plain_size {z} P pads =
         let p = plain_at A σ same o in
-        sized A (record {
-          takes = subst (λ (t : ℕ). Gives σ.period t e.time) p.0 P.takes;
-          done = λ l. record {
-            goes = P.goes ∙ ap (λ (n : ℕ). i + n) (sym p.1);
-            counts = counts.0;
-            waits = counts.1;
-            kept = subst (λ (n : ℕ). Kept σ s to pads i (i + n)) (sym p.1) (kept_plain i shut);
-          };
-        }) (below_none i pads)
+        sized A (takes_on σ (PlainDone r w (i + 1)) _ p.0 (λ e Q. record {
+          goes = Q.goes ∙ ap (λ (n : ℕ). i + n) (sym p.1);
+          counts = (counts σ e Q).0;
+          waits = (counts σ e Q).1;
+          kept = subst (λ (n : ℕ). Kept σ s to pads i (i + n)) (sym p.1) (kept_plain i shut);
+        }) z P) (before_none i pads)
 
 -- A RECORD THAT OPENS ONE
 
-module _ {s : List ℕ} {i to w : ℕ} {old : List ℕ} (Q : StatementAsks s i to w old) where
+module _ {s : List ℕ} {i to w : ℕ} (Q : StatementAsks s i to w) where
   abbrev at : StatementAt Task s i to
   at = Q.statement
 
@@ -107,34 +99,33 @@ module _ {s : List ℕ} {i to w : ℕ} {old : List ℕ} (Q : StatementAsks s i t
   parts σ = parts_time σ Task (block at) at.file.stands.fills.of_form
 
   module _ (o : opens_block (kind_at s i) ≡ true) where
-    pub first_asks : BlockAsks s (i + 1) to old
-    first_asks = record { file = first_in_is at o; few = Q.few; long = Q.long }
+    pub first_asks : BlockAsks s (i + 1) to
+    first_asks = record { file = first_in_is at o; few = Q.few }
 
-    module _ {σ : Settings} {t : List ℕ} {e : Extent} (X : BlockSize s (i + 1) to σ old t e) where
-      first_is : IsBlock s (i + 1) to σ t one e
+    module _ {σ : Settings} {old t : List Pad} {z : Option Extent} (X : BlockSize s (i + 1) to σ old t z) where
+      first_is : IsBlock s (i + 1) to σ t one z
       first_is = X.right (first_in_is at o)
 
-      first_below : Below i old t
-      first_below = below_on (omega arith) (below_none i old) X.below
+      first_before : Same 0 i old t
+      first_before = before_on (omega arith) (before_none i old) X.before
 
-      pub first_long : length t ≡ 512
-      first_long = X.below.length_same ∙ Q.long
+    pub first_over : {σ : Settings} {old t : List Pad} → BlockSize s (i + 1) to σ old t None → StatementSize s i to σ w old t None
+    first_over {σ} X =
+        let over : σ.period < time σ one = first_is X in
+        sized at (omega (arith, over, (parts σ).0)) (first_before X)
 
-      pub first_late : e.time ≡ OverPeriod → StatementSize s i to σ w old t e
-      first_late q = late at (time σ one) (parts σ).0 first_is.takes q first_below
+    module _ {σ : Settings} {old t : List Pad} {e : Extent} (X : BlockSize s (i + 1) to σ old t (Some e)) where
+      first_told : (time σ one ≡ e.ticks) × (time σ one ≤ σ.period) × BlockDone s (i + 1) to σ t one e
+      first_told = first_is X
 
-      module _ {x : ℕ} (q : e.time ≡ Ticks x) where
-        first_told : (time σ one ≡ x) × (x ≤ σ.period) × BlockDone s (i + 1) to σ t one e
-        first_told = told first_is q
+      pub first_on : i < e.next
+      first_on = omega (arith, first_told.2.goes)
 
-        pub first_on : i < e.next
-        first_on = omega (arith, first_told.2.goes)
+      pub first_early : e.next < to
+      first_early = omega (arith, first_told.2.goes, (open_at at o).ends)
 
-        pub first_early : e.next < to
-        first_early = omega (arith, first_told.2.goes, (open_at at o).ends)
-
-        pub first_small : Small e
-        first_small = first_told.2.small
+      pub first_small : Small e
+      first_small = first_told.2.small
 
   -- AN IF
 
@@ -145,85 +136,98 @@ module _ {s : List ℕ} {i to w : ℕ} {old : List ℕ} (Q : StatementAsks s i t
     abbrev the_if : Block
     the_if = branch (test_of (record_at s i)) one two after
 
-    module _ {σ : Settings} {t : List ℕ} {e : Extent} (X : BlockSize s (i + 1) to σ old t e) {x : ℕ} (q : e.time ≡ Ticks x) where
+    module _ {σ : Settings} {old t : List Pad} {e : Extent} (X : BlockSize s (i + 1) to σ old t (Some e)) where
       first_done : BlockDone s (i + 1) to σ t one e
-      first_done = (first_told opens X q).2
+      first_done = (first_told opens X).2
 
-      pub second_asks : BlockAsks s (e.next + 1) to t
-      second_asks = record { file = second_in at k first_done.goes; few = Q.few; long = first_long opens X }
+      pub second_asks : BlockAsks s (e.next + 1) to
+      second_asks = record { file = second_in at k first_done.goes; few = Q.few }
 
-      module _ {u : List ℕ} {f : Extent} (Y : BlockSize s (e.next + 1) to σ t u f) where
-        second_is : IsBlock s (e.next + 1) to σ u two f
+      module _ {u : List Pad} {z : Option Extent} (Y : BlockSize s (e.next + 1) to σ t u z) where
+        second_is : IsBlock s (e.next + 1) to σ u two z
         second_is = Y.right (second_in at k first_done.goes)
 
-        both_below : Below i old u
-        both_below = below_on (omega (arith, first_done.goes)) (first_below opens X) Y.below
+        both_before : Same 0 i old u
+        both_before = before_on (omega (arith, first_done.goes)) (first_before opens X) Y.before
 
-        pub second_late : f.time ≡ OverPeriod → StatementSize s i to σ w old u f
-        second_late r = late at (time σ two) (parts σ).1 second_is.takes r both_below
+      pub second_over : {u : List Pad} → BlockSize s (e.next + 1) to σ t u None → StatementSize s i to σ w old u None
+      second_over Y =
+          let over : σ.period < time σ two = second_is Y in
+          sized at (omega (arith, over, (parts σ).1)) (both_before Y)
 
-        pub second_long : length u ≡ 512
-        second_long = Y.below.length_same ∙ first_long opens X
+      module _ {u : List Pad} {f : Extent} (Y : BlockSize s (e.next + 1) to σ t u (Some f)) where
+        second_told : (time σ two ≡ f.ticks) × (time σ two ≤ σ.period) × BlockDone s (e.next + 1) to σ u two f
+        second_told = second_is Y
 
-        module _ {y : ℕ} (g : f.time ≡ Ticks y) where
-          second_told : (time σ two ≡ y) × (y ≤ σ.period) × BlockDone s (e.next + 1) to σ u two f
-          second_told = told second_is g
+        second_done : BlockDone s (e.next + 1) to σ u two f
+        second_done = second_told.2
 
-          second_done : BlockDone s (e.next + 1) to σ u two f
-          second_done = second_told.2
+        pub second_early : f.next < to
+        second_early = omega (arith, first_done.goes, second_done.goes, (if_at at k).ends)
 
-          pub second_early : f.next < to
-          second_early = omega (arith, first_done.goes, second_done.goes, (if_at at k).ends)
+        pub second_small : Small f
+        second_small = second_done.small
 
-          pub second_small : Small f
-          second_small = second_done.small
+        -- the time of both
+        module _ {z : Option ℕ} (J : (t u : ℕ) → Gives σ.period t (Some e.ticks) → Gives σ.period u (Some f.ticks) → Gives σ.period (1 + max t u) z) where
+          both_gives : Gives σ.period (1 + max (time σ one) (time σ two)) z
+          both_gives = J (time σ one) (time σ two) (gives (first_told opens X).0 (first_told opens X).1) (gives second_told.0 second_told.1)
 
-          -- the ticks that make up its sides are kept
-          module _ {v : List ℕ} {l r : ℕ} (K : Keeps i l r u v) (p : l ≡ y - x) (z : r ≡ x - y) where
-            pads : (l ≡ time σ two - time σ one) × (r ≡ time σ one - time σ two)
-            pads = (omega (arith, first_told opens X q, second_told), omega (arith, first_told opens X q, second_told))
+        pub branch_over : ((t u : ℕ) → Gives σ.period t (Some e.ticks) → Gives σ.period u (Some f.ticks) → Gives σ.period (1 + max t u) None)
+            → StatementSize s i to σ w old u None
+        branch_over J =
+            let over = was_over σ.period (1 + max (time σ one) (time σ two)) (both_gives J) in
+            sized at (omega (arith, over, ap (first_time σ) (if_at at k).is)) (both_before Y)
 
-            kept : Kept σ s to v i (i + first_size the_if)
-            kept =
-                let I = if_at at k in
-                let m = i + 1 + size one in
-                let n = m + 1 + size two in
-                let end : n + 1 ≡ i + (3 + size one + size two) = omega arith in
-                let first : Kept σ s to u (i + 1) m = kept_same first_done.kept Y.below.same (omega arith) (omega (arith, first_done.goes)) in
-                let second : Kept σ s to u (m + 1) n = subst (λ (j : ℕ). Kept σ s to u (j + 1) (j + 1 + size two)) first_done.goes second_done.kept in
-                let inner : Kept σ s to u (i + 1) (n + 1) =
-                kept_on first (kept_on (kept_closed m (I.first.stops (omega (arith, I.ends)))) (kept_on second (kept_closed n (I.second.stops I.ends)))) in
-                let here : Kept σ s to v i (i + 1) =
-                kept_here i the_if (subst (Stands Task s i to) I.is at.file.stands) (K.first ∙ pads.0, K.second ∙ pads.1) in
-                subst (λ (j : ℕ). Kept σ s to v i j) end (kept_on here (kept_same inner K.after (omega arith) (omega (arith, I.ends, Q.few))))
+        -- the ticks that make up its sides are kept
+        module _ (long : length u ≡ 256) {l r : ℕ} (p : l ≡ f.ticks - e.ticks) (z : r ≡ e.ticks - f.ticks) where
+          abbrev if_pads : List Pad
+          if_pads = set_at u i (pad_of l r)
 
-            pub branch_size : {o : Time} {m n h : ℕ} → m ≡ e.records + skip_records (e.wait + l) → n ≡ f.records + skip_records (f.wait + r)
-                → ((t u : ℕ) → Gives σ.period t (Ticks x) → Gives σ.period u (Ticks y) → Gives σ.period (1 + max t u) o) → h ≡ skip_records w
-                → StatementSize s i to σ w old v (record { time = o; records = h + (3 + (m + n)); wait = 0; next = f.next + 1 })
-            branch_size {o} {m} {n} {h} em en J eh =
-                sized at
-                (subst (λ (c : Block). IsStatement s i to σ w v c (record { time = o; records = h + (3 + (m + n)); wait = 0; next = f.next + 1 })) (sym (if_at at k).is)
-                (record {
-                  takes = J (time σ one) (time σ two) (subst (Gives σ.period (time σ one)) q (first_is opens X).takes)
-                      (subst (Gives σ.period (time σ two)) g second_is.takes);
-                  done = λ j. record {
-                    goes = omega (arith, first_done.goes, second_done.goes);
-                    counts = omega (
-                      arith,
-                      em,
-                      en,
-                      eh,
-                      size_waiting w (branch_out σ (test_of (record_at s i)) one two),
-                      first_done.counts l,
-                      second_done.counts r,
-                      ap (λ (k : ℕ). size (padded σ 0 one k)) pads.0,
-                      ap (λ (k : ℕ). size (padded σ 0 two k)) pads.1,
-                    );
-                    waits = refl;
-                    kept = kept;
-                  };
-                }))
-                (below_on (omega arith) both_below (below_keeps K))
+          pads : (l ≡ time σ two - time σ one) × (r ≡ time σ one - time σ two)
+          pads = (omega (arith, first_told opens X, second_told), omega (arith, first_told opens X, second_told))
+
+          kept : Kept σ s to if_pads i (i + first_size the_if)
+          kept =
+              let I = if_at at k in
+              let m = i + 1 + size one in
+              let n = m + 1 + size two in
+              let end : n + 1 ≡ i + (3 + size one + size two) = omega arith in
+              let first : Kept σ s to u (i + 1) m = kept_same first_done.kept Y.before (omega arith) (omega (arith, first_done.goes)) in
+              let second : Kept σ s to u (m + 1) n = subst (λ (j : ℕ). Kept σ s to u (j + 1) (j + 1 + size two)) first_done.goes second_done.kept in
+              let inner : Kept σ s to u (i + 1) (n + 1) =
+              kept_on first (kept_on (kept_closed m (I.first.stops (omega (arith, I.ends)))) (kept_on second (kept_closed n (I.second.stops I.ends)))) in
+              let here : Kept σ s to if_pads i (i + 1) =
+              kept_here i the_if (subst (Stands Task s i to) I.is at.file.stands) (keeps_here u i (pad_of l r) (omega (arith, long, I.ends, Q.few)) ∙ rw (pads.0, pads.1) refl) in
+              subst (λ (j : ℕ). Kept σ s to if_pads i j) end (kept_on here (kept_same inner (keeps_after u i (pad_of l r) (n + 1)) (omega arith) (omega arith)))
+
+          pub branch_size : {o m n h : ℕ} → m ≡ e.records + skip_records (e.wait + l) → n ≡ f.records + skip_records (f.wait + r) → h ≡ skip_records w
+              → ((t u : ℕ) → Gives σ.period t (Some e.ticks) → Gives σ.period u (Some f.ticks) → Gives σ.period (1 + max t u) (Some o))
+              → StatementSize s i to σ w old if_pads (Some (record { ticks = o; records = h + (3 + (m + n)); wait = 0; next = f.next + 1 }))
+          branch_size {o} {m} {n} {h} em en eh J =
+              let took = was_ticks σ.period (1 + max (time σ one) (time σ two)) o (both_gives J) in
+              sized at
+              (subst (λ (c : Block). IsStatement s i to σ w if_pads c (Some (record { ticks = o; records = h + (3 + (m + n)); wait = 0; next = f.next + 1 }))) (sym (if_at at k).is) (
+                took.0,
+                omega (arith, took),
+                record {
+                  goes = omega (arith, first_done.goes, second_done.goes);
+                  counts = omega (
+                    arith,
+                    em,
+                    en,
+                    eh,
+                    size_waiting w (branch_out σ (test_of (record_at s i)) one two),
+                    first_done.counts l,
+                    second_done.counts r,
+                    ap (λ (k : ℕ). size (padded σ 0 one k)) pads.0,
+                    ap (λ (k : ℕ). size (padded σ 0 two k)) pads.1,
+                  );
+                  waits = refl;
+                  kept = kept;
+                },
+              ))
+              (before_on (omega arith) (both_before Y) (keeps_before u i (pad_of l r)))
 
   -- A LOOP
 
@@ -234,41 +238,56 @@ module _ {s : List ℕ} {i to w : ℕ} {old : List ℕ} (Q : StatementAsks s i t
     stands_loop : Stands Task s i to the_loop
     stands_loop = subst (Stands Task s i to) (task_while at o x) at.file.stands
 
-    -- its body's time is kept
-    module _ {σ : Settings} {t : List ℕ} {e : Extent} (X : BlockSize s (i + 1) to σ old t e) {y : ℕ} (q : e.time ≡ Ticks y)
-        {v : List ℕ} {l : ℕ} (K : Keeps i y l t v) {r : Record} (same : record_of r ≡ record_at s i) where
-      body_told : (time σ one ≡ y) × (y ≤ σ.period) × BlockDone s (i + 1) to σ t one e
-      body_told = first_told o X q
+    module _ {σ : Settings} {old t : List Pad} {e : Extent} (X : BlockSize s (i + 1) to σ old t (Some e)) {r : Record} (same : record_of r ≡ record_at s i) where
+      body_done : BlockDone s (i + 1) to σ t one e
+      body_done = (first_told o X).2
 
-      body_kept : Kept σ s to v i (i + first_size the_loop)
-      body_kept =
-          let O = open_at at o in
-          let m = i + 1 + size one in
-          let end : m + 1 ≡ i + (2 + size one) = omega arith in
-          let inner : Kept σ s to t (i + 1) (m + 1) = kept_on body_told.2.kept (kept_closed m (O.first.stops O.ends)) in
-          subst (λ (j : ℕ). Kept σ s to v i j) end
-          (kept_on (kept_here i the_loop stands_loop (K.first ∙ sym body_told.0)) (kept_same inner K.after (omega arith) (omega (arith, O.ends, Q.few))))
+      module _ {z : Option ℕ} (L : 1 ≤ r.count → (u : ℕ) → Gives σ.period u (Some e.ticks) → Gives σ.period (loop_ticks (record_of r) u) z) where
+        loop_gives : Gives σ.period (first_time σ the_loop) z
+        loop_gives =
+            let is = same ∙ stands_loop.fills.stands.0.is in
+            let count = loop_count Task WHILE (test_of (record_at s i)) (record_at s i).count (inl refl) stands_loop.fills.of_form.0 in
+            subst (λ (u : ℕ). Gives σ.period u z) (ap (λ (k : Rec). loop_ticks k (time σ one)) is)
+            (L (omega (arith, count, ap (λ (k : Rec). k.count) is)) (time σ one) (gives (first_told o X).0 (first_told o X).1))
 
-      pub loop_size : {z : Time} {m n h : ℕ} → m ≡ e.records + skip_records (e.wait + 0) → n ≡ skip_records y → h ≡ skip_records w
-          → (1 ≤ r.count → (u : ℕ) → Gives σ.period u (Ticks y) → Gives σ.period (loop_ticks (record_of r) u) z)
-          → StatementSize s i to σ w old v (record { time = z; records = h + (5 + (m + n)); wait = 0; next = e.next + 1 })
-      loop_size {z} {m} {n} {h} em en eh L =
-          let g = test_of (record_at s i) in
-          let c = (record_at s i).count in
-          let is = same ∙ stands_loop.fills.stands.0.is in
-          let count : r.count ≡ c = ap (λ (k : Rec). k.count) is in
-          let ticks : loop_ticks (record_of r) (time σ one) ≡ first_time σ the_loop = ap (λ (k : Rec). loop_ticks k (time σ one)) is in
-          sized at
-          (subst (λ (c : Block). IsStatement s i to σ w v c (record { time = z; records = h + (5 + (m + n)); wait = 0; next = e.next + 1 })) (sym (task_while at o x))
-          (record {
-            takes = subst (λ (u : ℕ). Gives σ.period u z) ticks
-                (L (omega (arith, loop_count Task WHILE g c (inl refl) stands_loop.fills.of_form.0)) (time σ one)
-                (subst (Gives σ.period (time σ one)) q (first_is o X).takes));
-            done = λ j. record {
-              goes = omega (arith, body_told.2.goes);
-              counts = omega (arith, em, en, eh, size_waiting w (loop_out σ g c one), body_told.2.counts 0, ap skip_records body_told.0);
-              waits = refl;
-              kept = body_kept;
-            };
-          }))
-          (below_on (omega arith) (first_below o X) (below_keeps K))
+      pub loop_over : (1 ≤ r.count → (u : ℕ) → Gives σ.period u (Some e.ticks) → Gives σ.period (loop_ticks (record_of r) u) None)
+          → StatementSize s i to σ w old t None
+      loop_over L =
+          sized at (omega (arith, was_over σ.period (first_time σ the_loop) (loop_gives L), ap (first_time σ) (task_while at o x))) (first_before o X)
+
+      -- its body's time is kept
+      module _ (long : length t ≡ 256) where
+        abbrev loop_pads : List Pad
+        loop_pads = set_at t i (pad_of e.ticks 0)
+
+        body_kept : Kept σ s to loop_pads i (i + first_size the_loop)
+        body_kept =
+            let O = open_at at o in
+            let m = i + 1 + size one in
+            let end : m + 1 ≡ i + (2 + size one) = omega arith in
+            let inner : Kept σ s to t (i + 1) (m + 1) = kept_on body_done.kept (kept_closed m (O.first.stops O.ends)) in
+            subst (λ (j : ℕ). Kept σ s to loop_pads i j) end
+            (kept_on
+            (kept_here i the_loop stands_loop
+            (ap (λ (p : Pad). p.first) (keeps_here t i (pad_of e.ticks 0) (omega (arith, long, O.ends, Q.few))) ∙ sym (first_told o X).0))
+            (kept_same inner (keeps_after t i (pad_of e.ticks 0) (m + 1)) (omega arith) (omega arith)))
+
+        pub loop_size : {z m n h : ℕ} → m ≡ e.records + skip_records (e.wait + 0) → n ≡ skip_records e.ticks → h ≡ skip_records w
+            → (1 ≤ r.count → (u : ℕ) → Gives σ.period u (Some e.ticks) → Gives σ.period (loop_ticks (record_of r) u) (Some z))
+            → StatementSize s i to σ w old loop_pads (Some (record { ticks = z; records = h + (5 + (m + n)); wait = 0; next = e.next + 1 }))
+        loop_size {z} {m} {n} {h} em en eh L =
+            let g = test_of (record_at s i) in
+            let c = (record_at s i).count in
+            let took = was_ticks σ.period (first_time σ the_loop) z (loop_gives L) in
+            sized at
+            (subst (λ (b : Block). IsStatement s i to σ w loop_pads b (Some (record { ticks = z; records = h + (5 + (m + n)); wait = 0; next = e.next + 1 }))) (sym (task_while at o x)) (
+              took.0,
+              omega (arith, took),
+              record {
+                goes = omega (arith, body_done.goes);
+                counts = omega (arith, em, en, eh, size_waiting w (loop_out σ g c one), body_done.counts 0, ap skip_records (first_told o X).0);
+                waits = refl;
+                kept = body_kept;
+              },
+            ))
+            (before_on (omega arith) (first_before o X) (keeps_before t i (pad_of e.ticks 0)))

@@ -12,18 +12,18 @@ use Rattle.records.proofs.Laying.{wrote_next, wrote_room, wrote_last}
 use Rattle.reading.specs.{Closing.closes_block, Ranges.after_first, Walks.Walk}
 use Rattle.reading.proofs.Walking.{walk_start, none_closed, none_ended, walk_end, walk_at, walk_on, walk_next}
 use Rattle.timing.proofs.Firsts.{time_first}
-use Rattle.equaliser.specs.declared.write.Written.{Written}
+use Rattle.equaliser.specs.declared.{pads.Pad.Pad, write.Written.Written}
 use Rattle.equaliser.specs.Merged.{padded, first_out, first_waits}
 use Rattle.equaliser.specs.Written.{BlockFits, WritesBlock, StatementFits, WritesStatement, StatementWritten}
 use Rattle.equaliser.proofs.{Merged.waits_less, WrittenBytes.first_bytes}
 
 -- of the block at `from`, with k ticks of SKIP at its end: what stands at i is left, and w ticks of SKIP wait
-pub record Writing {s : List ℕ} {from to k : ℕ} {pads old : List ℕ} (F : BlockFits s from to k pads old) (new : List ℕ) (at w i : ℕ) : Type 0 where
+pub record Writing {s : List ℕ} {from to k : ℕ} {pads : List Pad} {old : List ℕ} (F : BlockFits s from to k pads old) (new : List ℕ) (at w i : ℕ) : Type 0 where
   pub walk : Walk F.file i
   pub within : w + time F.settings walk.rest.block + k < 2 ^ 32
   pub part : Part (block_bytes (padded F.settings 0 F.file.block k)) (block_bytes (padded F.settings w walk.rest.block k)) old new at
 
-module _ {s : List ℕ} {from to k : ℕ} {pads old : List ℕ} (F : BlockFits s from to k pads old) where
+module _ {s : List ℕ} {from to k : ℕ} {pads : List Pad} {old : List ℕ} (F : BlockFits s from to k pads old) where
   pub writing_start : Writing F old 0 0 from
   writing_start = record { walk = walk_start F.file; within = omega (arith, F.within); part = part_start _ _ F.room }
 

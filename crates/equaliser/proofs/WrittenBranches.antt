@@ -3,7 +3,7 @@ use Prim.Native.Nat.{ℕ, ◌+◌, ◌-◌, ◌^◌, ◌≤◌, ◌<◌}
 use native.Mathlib.Omega.{arith}
 use mathlib.Core.Path.{◌≡◌, refl, ap, sym, subst, ◌∙◌}
 use mathlib.Core.List.{List, ◌++◌}
-use lib.ListN.{length, get_or}
+use lib.ListN.{length}
 use Rattle.model.specs.declared.Settings.{Settings}
 use Rattle.model.specs.declared.Form.TheVariants.{Task}
 use Rattle.model.specs.Records.{Rec, kind_at, record_at, record_bytes, IF, over}
@@ -16,12 +16,12 @@ use Rattle.records.proofs.{Laying.record_wrote, Laying.wrote_next, Laying.wrote_
 use Rattle.reading.specs.Ranges.{Stands, first_part, second_part, after_first, test_of}
 use Rattle.reading.specs.{Closing.opens_block, Walks.StatementAt}
 use Rattle.reading.proofs.Walking.{block, if_at, first_in_is, second_in}
-use Rattle.equaliser.specs.declared.write.Written.{Written}
-use Rattle.equaliser.specs.{Merged.padded, Merged.first_out, Pads.Entry}
+use Rattle.equaliser.specs.declared.{pads.Pad.Pad, write.Written.Written}
+use Rattle.equaliser.specs.{Merged.padded, Merged.first_out, Pads.pad_of, Pads.pad_at, Pads.Entry}
 use Rattle.equaliser.specs.Written.{BlockFits, BlockWritten, StatementFits, WritesStatement}
 use Rattle.equaliser.proofs.{WrittenBytes.branch_bytes, WrittenParts.block_fits, WrittenParts.block_laid, WrittenParts.block_goes}
 
-module _ {s : List ℕ} {i to : ℕ} {pads old : List ℕ} (F : StatementFits s i to 0 pads old) {r : Record} (same : record_of r ≡ record_at s i) (k : kind_at s i ≡ IF) where
+module _ {s : List ℕ} {i to : ℕ} {pads : List Pad} {old : List ℕ} (F : StatementFits s i to 0 pads old) {r : Record} (same : record_of r ≡ record_at s i) (k : kind_at s i ≡ IF) where
   abbrev at : StatementAt Task s i to
   at = F.statement
 
@@ -61,8 +61,8 @@ module _ {s : List ℕ} {i to : ℕ} {pads old : List ℕ} (F : StatementFits s 
   laid = sym whole ∙ ap (λ (x : Block). block_bytes (first_out σ 0 x)) is_if
 
   -- what was kept for it
-  known : (get_or pads i 0 ≡ pad_one) × (get_or pads (256 + i) 0 ≡ pad_two)
-  known = subst (Entry σ pads i) is_if (F.kept.entry i (omega arith) at.early all at.file.stands)
+  known : pad_at pads i ≡ pad_of pad_one pad_two
+  known = subst (Entry σ (pad_at pads i)) is_if (F.kept.entry i (omega arith) at.early all at.file.stands)
 
   short : (time σ one + pad_one < 2 ^ 32) × (time σ two + pad_two < 2 ^ 32)
   short = (omega (arith, F.within, ap (time σ) is_if), omega (arith, F.within, ap (time σ) is_if))
@@ -101,13 +101,13 @@ module _ {s : List ℕ} {i to : ℕ} {pads old : List ℕ} (F : StatementFits s 
 
   module _ {new : List ℕ} {n : ℕ} where
     module _ (p : TestLaid new n) where
-      pub first_fits : BlockFits s (i + 1) to (get_or pads i 0) pads (lent new n)
-      first_fits = block_fits (first_in_is at (ap opens_block k)) F.few F.kept pad_one known.0 short.0 after_one p.part
+      pub first_fits : BlockFits s (i + 1) to ((pad_at pads i).first) pads (lent new n)
+      first_fits = block_fits (first_in_is at (ap opens_block k)) F.few F.kept pad_one (ap (λ (p : Pad). p.first) known) short.0 after_one p.part
 
-      pub first_laid : {ys : List ℕ} {w : Written} → BlockWritten s (i + 1) to (get_or pads i 0) pads (lent new n) ys w → FirstLaid (back new n ys) (n + w.bytes) w.next
+      pub first_laid : {ys : List ℕ} {w : Written} → BlockWritten s (i + 1) to ((pad_at pads i).first) pads (lent new n) ys w → FirstLaid (back new n ys) (n + w.bytes) w.next
       first_laid W = record {
-        part = block_laid (first_in_is at (ap opens_block k)) F.few F.kept pad_one known.0 short.0 after_one p.part W;
-        goes = block_goes (first_in_is at (ap opens_block k)) F.few F.kept pad_one known.0 short.0 after_one p.part W;
+        part = block_laid (first_in_is at (ap opens_block k)) F.few F.kept pad_one (ap (λ (p : Pad). p.first) known) short.0 after_one p.part W;
+        goes = block_goes (first_in_is at (ap opens_block k)) F.few F.kept pad_one (ap (λ (p : Pad). p.first) known) short.0 after_one p.part W;
       }
 
     module _ {m : ℕ} (p : FirstLaid new n m) where
@@ -124,13 +124,13 @@ module _ {s : List ℕ} {i to : ℕ} {pads old : List ℕ} (F : StatementFits s 
       pub else_late : i < m
       else_late = omega (arith, p.goes)
 
-      pub second_fits : BlockFits s (m + 1) to (get_or pads (256 + i) 0) pads (lent new n)
-      second_fits = block_fits (second_in at k p.goes) F.few F.kept pad_two known.1 short.1 (record_bytes end_rec) p.part
+      pub second_fits : BlockFits s (m + 1) to ((pad_at pads i).second) pads (lent new n)
+      second_fits = block_fits (second_in at k p.goes) F.few F.kept pad_two (ap (λ (p : Pad). p.second) known) short.1 (record_bytes end_rec) p.part
 
-      pub second_laid : {ys : List ℕ} {w : Written} → BlockWritten s (m + 1) to (get_or pads (256 + i) 0) pads (lent new n) ys w → SecondLaid (back new n ys) (n + w.bytes) w.next
+      pub second_laid : {ys : List ℕ} {w : Written} → BlockWritten s (m + 1) to ((pad_at pads i).second) pads (lent new n) ys w → SecondLaid (back new n ys) (n + w.bytes) w.next
       second_laid W = record {
-        part = block_laid (second_in at k p.goes) F.few F.kept pad_two known.1 short.1 (record_bytes end_rec) p.part W;
-        goes = omega (arith, p.goes, block_goes (second_in at k p.goes) F.few F.kept pad_two known.1 short.1 (record_bytes end_rec) p.part W);
+        part = block_laid (second_in at k p.goes) F.few F.kept pad_two (ap (λ (p : Pad). p.second) known) short.1 (record_bytes end_rec) p.part W;
+        goes = omega (arith, p.goes, block_goes (second_in at k p.goes) F.few F.kept pad_two (ap (λ (p : Pad). p.second) known) short.1 (record_bytes end_rec) p.part W);
       }
 
     module _ {m : ℕ} (p : SecondLaid new n m) where
@@ -148,7 +148,7 @@ module _ {s : List ℕ} {i to : ℕ} {pads old : List ℕ} (F : StatementFits s 
 
   -- what is laid by each place
   module _ {new ys : List ℕ} {w : Written} (e : new ≡ over (record_bytes (record_of r)) old)
-      (W : BlockWritten s (i + 1) to (get_or pads i 0) pads (lent new 12) ys w) where
+      (W : BlockWritten s (i + 1) to ((pad_at pads i).first) pads (lent new 12) ys w) where
     pub by_first : FirstLaid (back new 12 ys) (12 + w.bytes) w.next
     by_first = first_laid (test_laid e) W
 
@@ -157,6 +157,6 @@ module _ {s : List ℕ} {i to : ℕ} {pads old : List ℕ} (F : StatementFits s 
       by_else = else_laid by_first f
 
       pub by_second : {us : List ℕ} {v : Written}
-          → BlockWritten s (w.next + 1) to (get_or pads (256 + i) 0) pads (lent (back (back new 12 ys) (12 + w.bytes) zs) (12 + w.bytes + 12)) us v
+          → BlockWritten s (w.next + 1) to ((pad_at pads i).second) pads (lent (back (back new 12 ys) (12 + w.bytes) zs) (12 + w.bytes + 12)) us v
           → SecondLaid (back (back (back new 12 ys) (12 + w.bytes) zs) (12 + w.bytes + 12) us) (12 + w.bytes + 12 + v.bytes) v.next
       by_second V = second_laid by_else V

@@ -3,7 +3,7 @@ use Prim.Native.Nat.{ℕ, ◌+◌, ◌^◌, ◌≤◌, ◌<◌}
 use native.Mathlib.Omega.{arith}
 use mathlib.Core.Path.{◌≡◌, refl, ap, sym, subst, ◌∙◌}
 use mathlib.Core.{Bool.true, List.List, List.◌++◌}
-use lib.ListN.{length, get_or}
+use lib.ListN.{length}
 use Rattle.model.specs.declared.Settings.{Settings}
 use Rattle.model.specs.declared.Form.TheVariants.{Task}
 use Rattle.model.specs.Records.{Rec, kind_at, record_at, IF, over}
@@ -16,12 +16,12 @@ use Rattle.reading.specs.{Closing.opens_block, Walks.StatementAt}
 use Rattle.reading.specs.Ranges.{first_part, after_first, test_of}
 use Rattle.reading.proofs.Walking.{block, open_at, first_in_is, task_while}
 use Rattle.timing.proofs.Firsts.{parts_time, time_first}
-use Rattle.equaliser.specs.declared.write.Written.{Written}
-use Rattle.equaliser.specs.{Merged.padded, Merged.first_out, Pads.Entry}
+use Rattle.equaliser.specs.declared.{pads.Pad.Pad, write.Written.Written}
+use Rattle.equaliser.specs.{Merged.padded, Merged.first_out, Pads.pad_at, Pads.Entry}
 use Rattle.equaliser.specs.Written.{loop_head, loop_tail, BlockFits, BlockWritten, StatementFits, WritesStatement}
 use Rattle.equaliser.proofs.{WrittenBytes.loop_bytes, WrittenBytes.loop_bytes_is, WrittenParts.block_fits, WrittenParts.block_laid, WrittenParts.block_goes}
 
-module _ {s : List ℕ} {i to : ℕ} {pads old : List ℕ} (F : StatementFits s i to 0 pads old) {r : Record} (same : record_of r ≡ record_at s i)
+module _ {s : List ℕ} {i to : ℕ} {pads : List Pad} {old : List ℕ} (F : StatementFits s i to 0 pads old) {r : Record} (same : record_of r ≡ record_at s i)
     (o : opens_block (kind_at s i) ≡ true) (x : kind_at s i ≡ IF → ⊥) where
   abbrev at : StatementAt Task s i to
   at = F.statement
@@ -42,8 +42,8 @@ module _ {s : List ℕ} {i to : ℕ} {pads old : List ℕ} (F : StatementFits s 
   laid = sym (loop_bytes_is σ (record_of r) body)
 
   -- what was kept for it
-  known : get_or pads i 0 ≡ time σ body
-  known = subst (Entry σ pads i) is_loop (F.kept.entry i (omega arith) at.early all at.file.stands)
+  known : (pad_at pads i).first ≡ time σ body
+  known = subst (Entry σ (pad_at pads i)) is_loop (F.kept.entry i (omega arith) at.early all at.file.stands)
 
   short : time σ body + 0 < 2 ^ 32
   short = omega (arith, F.within, parts_time σ Task all at.file.stands.fills.of_form, time_first σ all)
@@ -80,10 +80,10 @@ module _ {s : List ℕ} {i to : ℕ} {pads old : List ℕ} (F : StatementFits s 
       pub body_early : m < to
       body_early = omega (arith, p.goes, (open_at at o).ends)
 
-      pub tail_fits : length (loop_tail (get_or pads i 0)) ≤ length (lent new n)
+      pub tail_fits : length (loop_tail ((pad_at pads i).first)) ≤ length (lent new n)
       tail_fits = rw known (part_fits_last p.part)
 
-      module _ {ys : List ℕ} {t : ℕ} (W : Wrote (loop_tail (get_or pads i 0)) (lent new n) ys t) where
+      module _ {ys : List ℕ} {t : ℕ} (W : Wrote (loop_tail ((pad_at pads i).first)) (lent new n) ys t) where
         pub tail_room : n + t ≤ length old
         tail_room = wrote_room p.part (rw known at W)
 

@@ -9,11 +9,11 @@ use Rattle.records.specs.Blocks.{block_bytes}
 use Rattle.records.proofs.Over.{Part, lent, back, part_fits}
 use Rattle.records.proofs.Laying.{wrote_next}
 use Rattle.reading.specs.Ranges.{InFile}
-use Rattle.equaliser.specs.declared.write.Written.{Written}
+use Rattle.equaliser.specs.declared.{pads.Pad.Pad, write.Written.Written}
 use Rattle.equaliser.specs.{Merged.padded, Pads.Kept, Written.BlockFits, Written.BlockWritten}
 
 -- it comes next, with l ticks of SKIP at its end
-module _ {s : List ℕ} {i to : ℕ} (T : InFile Task s i to) (few : to ≤ 256) {σ : Settings} {pads : List ℕ} (K : Kept σ s to pads 0 to)
+module _ {s : List ℕ} {i to : ℕ} (T : InFile Task s i to) (few : to ≤ 256) {σ : Settings} {pads : List Pad} (K : Kept σ s to pads 0 to)
     {k : ℕ} (l : ℕ) (e : k ≡ l) (h : time σ T.block + l < 2 ^ 32) (rest : List ℕ) {w old new : List ℕ} {at : ℕ}
     (p : Part w (block_bytes (padded σ 0 T.block l) ++ rest) old new at) where
   abbrev pub block_fits : BlockFits s i to k pads (lent new at)

@@ -17,7 +17,7 @@ use Rattle.reading.specs.{Closing.opens_block, Walks.StatementAt}
 use Rattle.reading.specs.Ranges.{Stands, first_size, after_first}
 use Rattle.reading.proofs.FirstKinds.{IsAct, shut}
 use Rattle.reading.proofs.Walking.{block, some, skip_at, act_at}
-use Rattle.equaliser.specs.declared.write.Written.{Written}
+use Rattle.equaliser.specs.declared.{pads.Pad.Pad, write.Written.Written}
 use Rattle.equaliser.specs.Merged.{branch_out, loop_out, padded, first_out, first_waits}
 use Rattle.equaliser.specs.Written.{StatementFits, WritesStatement, StatementWritten}
 
@@ -40,7 +40,7 @@ opens_waits w (branch q a d b) B l o = refl
 opens_waits w (while q n a b) B l o = refl
 opens_waits w (times q n a b) B l o = refl
 
-module _ {s : List ℕ} {i to w : ℕ} {pads old : List ℕ} (F : StatementFits s i to w pads old) {r : Record} (same : record_of r ≡ record_at s i) where
+module _ {s : List ℕ} {i to w : ℕ} {pads : List Pad} {old : List ℕ} (F : StatementFits s i to w pads old) {r : Record} (same : record_of r ≡ record_at s i) where
   abbrev at : StatementAt Task s i to
   at = F.statement
 

@@ -10,6 +10,7 @@ use Rattle.reading.specs.Ranges.{InFile, test_of, first_size}
 use Rattle.reading.specs.Walks.{StatementAt}
 use Rattle.equaliser.specs.declared.write.Written.{Written}
 use Rattle.equaliser.specs.Merged.{padded, first_out, first_waits}
+use Rattle.equaliser.specs.declared.pads.Pad.{Pad}
 use Rattle.equaliser.specs.Pads.{Kept}
 
 -- PIECES
@@ -24,7 +25,7 @@ loop_tail t = record_bytes else_rec ++ (skip_bytes t ++ (record_bytes end_rec ++
 -- CONTRACTS: the settings are those with which the table was made, and what is promised is promised for all such
 
 -- the block at i, with k ticks of SKIP at its end
-pub record BlockFits (s : List ℕ) (i to k : ℕ) (pads out : List ℕ) : Type 0 where
+pub record BlockFits (s : List ℕ) (i to k : ℕ) (pads : List Pad) (out : List ℕ) : Type 0 where
   pub settings : Settings
   pub file : InFile Task s i to
   pub few : to ≤ 256
@@ -36,11 +37,11 @@ pub record WritesBlock (σ : Settings) (i k : ℕ) (b : Block) (old new : List �
   pub wrote : Wrote (block_bytes (padded σ 0 b k)) old new r.bytes
   pub goes : r.next ≡ i + size b
 
-pub record BlockWritten (s : List ℕ) (i to k : ℕ) (pads old new : List ℕ) (r : Written) : Type 0 where
+pub record BlockWritten (s : List ℕ) (i to k : ℕ) (pads : List Pad) (old new : List ℕ) (r : Written) : Type 0 where
   pub right : (F : BlockFits s i to k pads old) → WritesBlock F.settings i k F.file.block old new r
 
 -- its first statement, after w ticks of SKIP
-pub record StatementFits (s : List ℕ) (i to w : ℕ) (pads out : List ℕ) : Type 0 where
+pub record StatementFits (s : List ℕ) (i to w : ℕ) (pads : List Pad) (out : List ℕ) : Type 0 where
   pub settings : Settings
   pub statement : StatementAt Task s i to
   pub few : to ≤ 256
@@ -53,5 +54,5 @@ pub record WritesStatement (σ : Settings) (i w : ℕ) (b : Block) (old new : Li
   pub waits : r.wait ≡ first_waits w b
   pub goes : r.next ≡ i + first_size b
 
-pub record StatementWritten (s : List ℕ) (i to w : ℕ) (pads old new : List ℕ) (r : Written) : Type 0 where
+pub record StatementWritten (s : List ℕ) (i to w : ℕ) (pads : List Pad) (old new : List ℕ) (r : Written) : Type 0 where
   pub right : (F : StatementFits s i to w pads old) → WritesStatement F.settings i w F.statement.file.block old new r

@@ -13,44 +13,52 @@ ghost use Rattle.model.specs.declared.Form.TheVariants.{Task};
 ghost use Rattle.reading.specs.Ranges.{SoundFile};
 ghost use Rattle.equaliser.specs.Answers.{EqualisesSound};
 
-use measure::{measure_block, padded_records};
+use measure::Source;
+use model::limits::TASK_RECORDS;
 use model::{Equalised, Form, Refusal, Settings};
-use pads::PADS;
-use reading::Checked;
+use pads::Pad;
 use records::no_room;
-use timing::ticks::Time;
-use write::write_block;
+use write::Plan;
 
 // A task that was read: refusals 8 and 9, or the equalised task over the front of out.
-fn equalise_sound(task: &[u8], rack: Settings, out: &mut [u8]) -> Equalised
+fn equalise_sound(task: &[u8], rack: &Settings, out: &mut [u8]) -> Result<Equalised, Refusal>
     requires { SoundFile Task task.now }
-    ensures { EqualisesSound task.now rack out.old out.new result }
+    ensures { EqualisesSound task.now rack.now out.old out.new result }
 {
     let to = task.len() / 12;
-    let mut pads: [u32; PADS] = [0; PADS];
-    let whole = measure_block(task, 0, to, rack, &mut pads);
-    let time = whole.time;
-    let Time::Ticks(t) = time else {
-        return Equalised::Refused(Refusal::OverPeriod);
+    let none = Pad {
+        first: 0,
+        second: 0,
     };
-    if no_room(out.len(), padded_records(whole, 0)) {
-        return Equalised::Refused(Refusal::NoRoom);
+    let mut pads = [none; TASK_RECORDS];
+    let source = Source {
+        file: task,
+        to,
+        rack,
+    };
+    let whole = source
+        .measure_block(0, &mut pads)
+        .ok_or(Refusal::OverPeriod)?;
+    if no_room(out.len(), whole.padded_records(0)) {
+        return Err(Refusal::NoRoom);
     }
-    let w = write_block(task, 0, to, 0, &pads, out);
-    Equalised::Written {
+    let plan = Plan {
+        file: task,
+        to,
+        pads: &pads,
+    };
+    let w = plan.write_block(0, 0, out);
+    Ok(Equalised {
         bytes: w.bytes,
-        time: t,
-    }
+        time: whole.ticks,
+    })
 }
 
 // The equalised task over the front of out, or the first refusal of 6, 1 to 5, 8 and 9.
-pub fn equalise(settings: &[u8], task: &[u8], out: &mut [u8]) -> Equalised
+pub fn equalise(settings: &[u8], task: &[u8], out: &mut [u8]) -> Result<Equalised, Refusal>
     ensures { (equalised result ≡ equalise_reply settings.now task.now (length out.old))
         × (out.new ≡ equalise_out settings.now task.now out.old) }
 {
-    let read = reading::read(settings, Form::Task, task);
-    match read {
-        Checked::Refused(x) => Equalised::Refused(x),
-        Checked::Valid(rack) => equalise_sound(task, rack, out),
-    }
+    let rack = reading::read(settings, Form::Task, task)?;
+    equalise_sound(task, &rack, out)
 }

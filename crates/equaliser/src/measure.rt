@@ -6,186 +6,168 @@ ghost use Rattle.records.specs.Blocks.{skip_records};
 ghost use Rattle.reading.specs.Closing.{opens_block};
 ghost use Rattle.equaliser.specs.Sizes.{Small, PlainSize, BlockAsks, BlockSize, StatementAsks, StatementSize};
 
-use crate::pads::{PADS, keep};
+use crate::pads::Pad;
 use model::Settings;
+use model::limits::TASK_RECORDS;
 use reading::blocks::{closes, opens};
 use records::skips::skip_records;
 use records::{Record, kind_at, kinds, record_at};
-use timing::ticks::{Time, branch_time, excess, loop_time, step_ticks, within};
+use timing::ticks::{branch_time, loop_time, step_ticks, within};
 
 // The time of a statement or a block, the records written by its end, the ticks of SKIP that wait there, and the index of the record after it.
-// A time above the period says that alone. What waits has 64 bits, since it is added before the sum is held against the period.
+// What waits has 64 bits, since it is added before the sum is held against the period.
 #[derive(Clone, Copy)]
 pub struct Extent {
-    pub time: Time,
+    pub ticks: u32,
     pub records: usize,
     pub wait: u64,
     pub next: usize,
 }
 
-// The records of a block once a SKIP of `pad` ticks ends it.
-pub fn padded_records(block: Extent, pad: u32) -> usize
-    requires { Small block }
-    ensures { (result ≡ block.records + skip_records (block.wait + pad)) × (result ≤ 1026) }
-{
-    block.records + skip_records(block.wait + pad as u64)
+impl Extent {
+    // The records of a block once a SKIP of `pad` ticks ends it.
+    pub fn padded_records(self, pad: u32) -> usize
+        requires { Small self }
+        ensures { (result ≡ self.records + skip_records (self.wait + pad)) × (result ≤ 1026) }
+    {
+        self.records + skip_records(self.wait + u64::from(pad))
+    }
 }
 
 // The record r, which opens no block, after waiting ticks of SKIP and before the record `next`.
-fn measure_plain(rack: Settings, r: Record, wait: u64, next: usize) -> Extent
+fn measure_plain(rack: &Settings, r: Record, wait: u64, next: usize) -> Option<Extent>
     requires { wait ≤ 2 ^ 32 }
-    ensures { PlainSize rack r wait next result }
+    ensures { PlainSize rack.now r wait next result }
 {
-    let time = within(rack.period, step_ticks(rack, r) as u64);
+    let ticks = within(rack.period, u64::from(step_ticks(*rack, r)))?;
     if r.kind == kinds::SKIP {
-        let wait = wait + r.count as u64;
-        return Extent {
-            time,
+        let wait = wait + u64::from(r.count);
+        return Some(Extent {
+            ticks,
             records: 0,
             wait,
             next,
-        };
+        });
     }
-    Extent {
-        time,
-        records: skip_records(wait) + 1,
+    let records = skip_records(wait) + 1;
+    Some(Extent {
+        ticks,
+        records,
         wait: 0,
         next,
-    }
+    })
 }
 
-// The WHILE at i, with the record r, after waiting ticks of SKIP.
-#[cycle(measuring)]
-fn measure_loop(
-    file: &[u8],
-    i: usize,
-    to: usize,
-    r: Record,
-    rack: Settings,
-    wait: u64,
-    pads: &mut [u32; PADS],
-) -> Extent
-    requires { (StatementAsks file.now i to wait pads.old) × (record_of r ≡ record_at file.now i) × (opens_block (kind_at file.now i) ≡ true)
-        × (kind_at file.now i ≡ IF → ⊥) }
-    ensures { StatementSize file.now i to rack wait pads.old pads.new result }
-{
-    let body = measure_block(file, i + 1, to, rack, pads);
-    let time = body.time;
-    let Time::Ticks(t) = time else {
-        return body;
-    };
-    keep(pads, i, t, 0);
-    let sides = padded_records(body, 0) + skip_records(t as u64);
-    Extent {
-        time: loop_time(rack.period, r, time),
-        records: skip_records(wait) + (5 + sides),
-        wait: 0,
-        next: body.next + 1,
-    }
+// A task's records up to `to`, and the settings that it is timed with. Its methods stand here, so the struct does too.
+#[derive(Clone, Copy)]
+pub struct Source<'a> {
+    pub file: &'a [u8],
+    pub to: usize,
+    pub rack: &'a Settings,
 }
 
-// The IF at i, after waiting ticks of SKIP.
-#[cycle(measuring)]
-fn measure_branch(
-    file: &[u8],
-    i: usize,
-    to: usize,
-    rack: Settings,
-    wait: u64,
-    pads: &mut [u32; PADS],
-) -> Extent
-    requires { (StatementAsks file.now i to wait pads.old) × (kind_at file.now i ≡ IF) }
-    ensures { StatementSize file.now i to rack wait pads.old pads.new result }
-{
-    let first = measure_block(file, i + 1, to, rack, pads);
-    let one = first.time;
-    let Time::Ticks(x) = one else {
-        return first;
-    };
-    let second = measure_block(file, first.next + 1, to, rack, pads);
-    let two = second.time;
-    let Time::Ticks(y) = two else {
-        return second;
-    };
-    let pad_one = excess(y, x);
-    let pad_two = excess(x, y);
-    keep(pads, i, pad_one, pad_two);
-    let sides = padded_records(first, pad_one) + padded_records(second, pad_two);
-    Extent {
-        time: branch_time(rack.period, one, two),
-        records: skip_records(wait) + (3 + sides),
-        wait: 0,
-        next: second.next + 1,
-    }
-}
-
-// The statement at i, after waiting ticks of SKIP.
-#[cycle(measuring)]
-fn measure_statement(
-    file: &[u8],
-    i: usize,
-    to: usize,
-    rack: Settings,
-    wait: u64,
-    pads: &mut [u32; PADS],
-) -> Extent
-    requires { StatementAsks file.now i to wait pads.old }
-    ensures { StatementSize file.now i to rack wait pads.old pads.new result }
-{
-    let r = record_at(file, i);
-    if !opens(r.kind) {
-        return measure_plain(rack, r, wait, i + 1);
-    }
-    if r.kind == kinds::IF {
-        return measure_branch(file, i, to, rack, wait, pads);
-    }
-    measure_loop(file, i, to, r, rack, wait, pads)
-}
-
-// The block at `from`, up to the record that closes it. The sum is given up once it passes the period.
-#[cycle(measuring)]
-pub fn measure_block(
-    file: &[u8],
-    from: usize,
-    to: usize,
-    rack: Settings,
-    pads: &mut [u32; PADS],
-) -> Extent
-    requires { BlockAsks file.now from to pads.old }
-    ensures { BlockSize file.now from to rack pads.old pads.new result }
-{
-    let mut sum: u32 = 0;
-    let mut records: usize = 0;
-    let mut wait: u64 = 0;
-    let mut next = from;
-    while next < to {
-        if closes(kind_at(file, next)) {
-            break;
-        }
-        let e = measure_statement(file, next, to, rack, wait, pads);
-        let one = e.time;
-        let Time::Ticks(t) = one else {
-            return e;
+impl Source<'_> {
+    // The WHILE at i, with the record r, after waiting ticks of SKIP.
+    #[cycle(measuring)]
+    fn measure_loop(
+        &self,
+        i: usize,
+        r: Record,
+        wait: u64,
+        pads: &mut [Pad; TASK_RECORDS],
+    ) -> Option<Extent>
+        requires { (StatementAsks self.now.file.now i self.now.to wait) × (record_of r ≡ record_at self.now.file.now i)
+            × (opens_block (kind_at self.now.file.now i) ≡ true) × (kind_at self.now.file.now i ≡ IF → ⊥) }
+        ensures { StatementSize self.now.file.now i self.now.to self.now.rack.now wait pads.old pads.new result }
+    {
+        let body = self.measure_block(i + 1, pads)?;
+        let ticks = loop_time(self.rack.period, r, Some(body.ticks))?;
+        pads[i] = Pad {
+            first: body.ticks,
+            second: 0,
         };
-        if rack.period - sum < t {
-            let time = Time::OverPeriod;
-            return Extent {
-                time,
-                records,
-                wait,
-                next,
+        let sides = body.padded_records(0) + skip_records(u64::from(body.ticks));
+        let records = skip_records(wait) + (5 + sides);
+        Some(Extent {
+            ticks,
+            records,
+            wait: 0,
+            next: body.next + 1,
+        })
+    }
+
+    // The IF at i, after waiting ticks of SKIP.
+    #[cycle(measuring)]
+    fn measure_branch(&self, i: usize, wait: u64, pads: &mut [Pad; TASK_RECORDS]) -> Option<Extent>
+        requires { (StatementAsks self.now.file.now i self.now.to wait) × (kind_at self.now.file.now i ≡ IF) }
+        ensures { StatementSize self.now.file.now i self.now.to self.now.rack.now wait pads.old pads.new result }
+    {
+        let first = self.measure_block(i + 1, pads)?;
+        let second = self.measure_block(first.next + 1, pads)?;
+        let ticks = branch_time(self.rack.period, Some(first.ticks), Some(second.ticks))?;
+        let pad = Pad {
+            first: second.ticks.saturating_sub(first.ticks),
+            second: first.ticks.saturating_sub(second.ticks),
+        };
+        pads[i] = pad;
+        let sides = first.padded_records(pad.first) + second.padded_records(pad.second);
+        let records = skip_records(wait) + (3 + sides);
+        Some(Extent {
+            ticks,
+            records,
+            wait: 0,
+            next: second.next + 1,
+        })
+    }
+
+    // The statement at i, after waiting ticks of SKIP.
+    #[cycle(measuring)]
+    fn measure_statement(
+        &self,
+        i: usize,
+        wait: u64,
+        pads: &mut [Pad; TASK_RECORDS],
+    ) -> Option<Extent>
+        requires { StatementAsks self.now.file.now i self.now.to wait }
+        ensures { StatementSize self.now.file.now i self.now.to self.now.rack.now wait pads.old pads.new result }
+    {
+        let r = record_at(self.file, i);
+        if !opens(r.kind) {
+            return measure_plain(self.rack, r, wait, i + 1);
+        }
+        if r.kind == kinds::IF {
+            return self.measure_branch(i, wait, pads);
+        }
+        self.measure_loop(i, r, wait, pads)
+    }
+
+    // The block at `from`, up to the record that closes it. The sum is given up once it passes the period.
+    #[cycle(measuring)]
+    pub fn measure_block(&self, from: usize, pads: &mut [Pad; TASK_RECORDS]) -> Option<Extent>
+        requires { BlockAsks self.now.file.now from self.now.to }
+        ensures { BlockSize self.now.file.now from self.now.to self.now.rack.now pads.old pads.new result }
+    {
+        let mut all = Extent {
+            ticks: 0,
+            records: 0,
+            wait: 0,
+            next: from,
+        };
+        // The index goes past whole statements, so a `for` over it is no plainer.
+        while all.next < self.to {
+            if closes(kind_at(self.file, all.next)) {
+                break;
+            }
+            let one = self.measure_statement(all.next, all.wait, pads)?;
+            if self.rack.period - all.ticks < one.ticks {
+                return None;
+            }
+            all = Extent {
+                ticks: all.ticks + one.ticks,
+                records: all.records + one.records,
+                ..one
             };
         }
-        sum += t;
-        records += e.records;
-        wait = e.wait;
-        next = e.next;
-    }
-    let time = Time::Ticks(sum);
-    Extent {
-        time,
-        records,
-        wait,
-        next,
+        Some(all)
     }
 }

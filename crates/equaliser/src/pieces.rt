@@ -15,20 +15,14 @@ pub fn put_loop_head(out: &mut [u8], r: Record)
 {
     let times = Record {
         kind: kinds::TIMES,
-        op: r.op,
         target: 0,
-        left: r.left,
-        value: r.value,
-        count: r.count,
+        ..r
     };
     put_record(out, times);
     let test = Record {
         kind: kinds::IF,
-        op: r.op,
-        target: 0,
-        left: r.left,
-        value: r.value,
         count: 0,
+        ..times
     };
     put_record(&mut out[12..], test);
 }

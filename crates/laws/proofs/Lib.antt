@@ -6,3 +6,4 @@ pub mod Shapes
 pub mod Sound
 pub mod Passes
 pub mod Images
+pub mod Exits

@@ -2,7 +2,7 @@
 use Prim.Native.Nat.{ℕ, zero, suc, ◌+◌, ◌*◌, ◌≤◌, ◌<◌, min}
 use native.Mathlib.{Omega.arith, Nat.add-zero}
 use mathlib.Core.Path.{◌≡◌, refl, ap, ap₂, sym, subst, ◌∙◌}
-use mathlib.Core.Bool.{Bool, true, false, false≢true}
+use mathlib.Core.Bool.{Bool, true, false}
 use mathlib.Core.List.{List, []}
 use lib.{ListN.length, Dec.eqb, Dec.ltb}
 use borrow.Author.Tests.{eqb-true, eqb-false, ltb-true, ltb-false}
@@ -28,7 +28,7 @@ use Rattle.placing.specs.Placed.{Room, Lays, step_bytes, StepLaid}
 use Rattle.placing.proofs.{Going.after-⧺, Settling.alike_eq}
 use Rattle.placing.proofs.Writing.{laid_bytes, Writing, first_room, writing_first, writing_same, writing_room, writing_next, writing_end}
 use Rattle.layout.specs.declared.skips.Idle.{Idle}
-use Rattle.layout.specs.Idling.{IdleBody, AllIdle, IdleLoop, IdleAt, SkipsFit, SkipsLaid, checked, check_rec, IdleEnds, IdleFits, IdleLaid}
+use Rattle.layout.specs.Idling.{IdleBody, IdleRounds, IdleLoop, IdleHere, SkipsFit, SkipsLaid, checked, check_rec, IdleEnds, IdleFits, IdleLaid}
 use Rattle.layout.specs.{Measured.laid, Meetings.meetings, Meetings.StatementMeasured}
 use Rattle.layout.specs.Written.{LaidFits, StatementFits, StatementLaid}
 use Rattle.layout.proofs.Unrolled.{rounds, rounds_none, rounds_first, laid_nil, laid_free}
@@ -135,13 +135,13 @@ module _ {s : List ℕ} {i to p ticks next : ℕ} (S : Scanning s i to p ticks n
           }
 
   -- another record ends it; r answers for c rounds
-  pub scan_closed : {c : ℕ} {r : Idle} → r.only ≡ closes_block x.kind → r.ticks ≡ min (c * ticks) (p + 1) → r.next ≡ next → AllIdle s i to c p r
+  pub scan_closed : {c : ℕ} {r : Idle} → closes_block x.kind ≡ true → r.ticks ≡ min (c * ticks) (p + 1) → r.next ≡ next → IdleRounds s i to c p r
   unfolding rounds
   scan_closed {c} {r} o f g = record {
     high = omega (arith, g, S.range.order);
-    right = λ a A y.
+    right = λ a A.
         let F : InFile Equalised s i to = record { block = a; stands = A; inside = S.range.inside } in
-        body F (S.right F) (ap closes_block (kind_is s next (sym e)) ∙ sym o ∙ y);
+        body F (S.right F) (ap closes_block (kind_is s next (sym e)) ∙ o);
   }
     where
       body : (F : InFile Equalised s i to) → Scanned F p ticks next → closes_block (kind_at s next) ≡ true → IdleBody F.block i c p r
@@ -156,69 +156,51 @@ module _ {s : List ℕ} {i to p ticks next : ℕ} (S : Scanning s i to p ticks n
             goes = omega (arith, g, walk_end R.walk none);
           }
 
--- nothing is told of a body that has others, or none that closes it
-pub scan_ended : {s : List ℕ} {i to c p : ℕ} {r : Idle} → r.only ≡ false → r.next ≤ to → AllIdle s i to c p r
-scan_ended e h = record { high = h; right = λ a A o. absurd (false≢true (sym e ∙ o)) }
-
 -- A STATEMENT
 
 module _ {s : List ℕ} {i to : ℕ} {x : Rec} {p : ℕ} where
-  pub at_skip : x.kind ≡ SKIP → {r : Idle} → r.only ≡ true → r.ticks ≡ x.count → r.next ≡ i + 1 → IdleAt s i to x p r
-  at_skip k o t n = record { skip = λ h. (o, t, n); loop = λ h y. absurd (h k) }
+  pub at_skip : x.kind ≡ SKIP → IdleHere s i to x p (record { ticks = x.count; next = i + 1 })
+  at_skip k = record { skip = λ h. (refl, refl); loop = λ h. absurd (h k) }
 
-  pub at_other : (x.kind ≡ SKIP → ⊥) → {r : Idle} → r.only ≡ false → IdleAt s i to x p r
-  at_other k o = record { skip = λ h. absurd (k h); loop = λ h y. absurd (false≢true (sym o ∙ y)) }
-
-  pub at_loop : (x.kind ≡ SKIP → ⊥) → x.kind ≡ TIMES → {b : Idle} → AllIdle s (i + 1) to x.count p b
-      → IdleAt s i to x p (record { only = b.only; ticks = b.ticks; next = b.next + 1 })
-  at_loop k l {b} A = record { skip = λ h. absurd (k h); loop = λ h y. record { kind = l; body = b; all = A; only = y; ticks = refl; next = refl } }
+  pub at_loop : (x.kind ≡ SKIP → ⊥) → x.kind ≡ TIMES → {b : Idle} → IdleRounds s (i + 1) to x.count p b
+      → IdleHere s i to x p (record { ticks = b.ticks; next = b.next + 1 })
+  at_loop k l {b} A = record { skip = λ h. absurd (k h); loop = λ h. record { kind = l; body = b; all = A; ticks = refl; next = refl } }
 
 -- THE LOOP, MEASURED
 
--- with the settings of a table
-module _ {σ n : Settings} (e : n ≡ σ) {s : State} (L : Laying σ s) where
-  pub idle_start : Laying n s
-  idle_start = subst (λ (τ : Settings). Laying τ s) (sym e) L
+module _ {σ : Settings} {s : State} (L : Laying σ s) {k : ℕ} {m : State} (K : Skipped σ k s m) where
+  -- the ticks of SKIP end too late
+  pub idle_late : σ.period < m.tick → IdleEnds σ k s m
+  idle_late h = record {
+    late = λ q l. h;
+    after = λ q l.
+        let t = s.tick in
+        let u = time-⧺ σ (idles σ k t) (before σ (t + time σ (idles σ k t)) 1 ⧺ act (check q) nil) in
+        absurd (omega (arith, (K.after (omega (arith, l, u))).tick));
+    few = K.few;
+  }
 
-  module _ {k : ℕ} {m : State} (K' : Skipped n k s m) where
-    K : Skipped σ k s m
-    K = subst (λ (τ : Settings). Skipped τ k s m) e K'
+  module _ (soon : m.tick ≤ σ.period) where
+    skips_after : After σ (idles σ k s.tick) s m
+    skips_after = go (ltb σ.period (s.tick + time σ (idles σ k s.tick))) refl
+      where
+        go : (o : Bool) → ltb σ.period (s.tick + time σ (idles σ k s.tick)) ≡ o → After σ (idles σ k s.tick) s m
+        go true x = let l = K.late (ltb-true σ.period _ x) in absurd (omega (arith, soon))
+        go false x = K.after (ltb-false σ.period _ x)
 
-    -- the ticks of SKIP end too late
-    pub idle_late : n.period < m.tick → IdleEnds σ k s m
-    idle_late h = record {
-      late = λ q l. subst (λ (τ : Settings). τ.period < m.tick) e h;
-      after = λ q l.
-          let t = s.tick in
-          let u = time-⧺ σ (idles σ k t) (before σ (t + time σ (idles σ k t)) 1 ⧺ act (check q) nil) in
-          absurd (omega (arith, ap (λ (τ : Settings). τ.period) e, (K.after (omega (arith, l, u))).tick));
-      few = K.few;
-    }
+    pub idle_laying : Laying σ m
+    idle_laying = laying_on L skips_after soon
 
-    module _ (h : m.tick ≤ n.period) where
-      soon : m.tick ≤ σ.period
-      soon = subst (λ (τ : Settings). m.tick ≤ τ.period) e h
+    pub idle_ends : {r : State} → Stepped σ m 1 r → IdleEnds σ k s r
+    idle_ends {r} T = record { late = λ q l. omega (arith, (all q).tick); after = λ q l. all q; few = (all first).shows.few }
+      where
+        all : (q : Test) → After σ (checked σ k q s.tick) s r
+        all q =
+            after-⧺ (idles σ k s.tick) _ skips_after
+            (subst (λ (u : ℕ). After σ (before σ u 1 ⧺ act (check q) nil) m r) skips_after.tick (T.after (check q) refl))
 
-      skips_after : After σ (idles σ k s.tick) s m
-      skips_after = go (ltb σ.period (s.tick + time σ (idles σ k s.tick))) refl
-        where
-          go : (o : Bool) → ltb σ.period (s.tick + time σ (idles σ k s.tick)) ≡ o → After σ (idles σ k s.tick) s m
-          go true x = let l = K.late (ltb-true σ.period _ x) in absurd (omega (arith, soon))
-          go false x = K.after (ltb-false σ.period _ x)
-
-      pub idle_laying : Laying n m
-      idle_laying = subst (λ (τ : Settings). Laying τ m) (sym e) (laying_on L skips_after soon)
-
-      pub idle_ends : {r : State} → Stepped n m 1 r → IdleEnds σ k s r
-      idle_ends {r} T = record { late = λ q l. omega (arith, (all q).tick); after = λ q l. all q; few = (all first).shows.few }
-        where
-          all : (q : Test) → After σ (checked σ k q s.tick) s r
-          all q =
-              after-⧺ (idles σ k s.tick) _ skips_after
-              (subst (λ (u : ℕ). After σ (before σ u 1 ⧺ act (check q) nil) m r) skips_after.tick ((subst (λ (τ : Settings). Stepped τ m 1 r) e T).after (check q) refl))
-
-          first : Test
-          first = record { relation = 0; left = 0; right = 0 }
+        first : Test
+        first = record { relation = 0; left = 0; right = 0 }
 
 -- ticks that are told up to P + 1
 pub idle_capped : {σ : Settings} {k n : ℕ} {s r : State} → n ≡ min k (σ.period + 1) → IdleEnds σ n s r → IdleEnds σ k s r
@@ -270,10 +252,9 @@ module _ {σ : Settings} {k : ℕ} {x : Rec} {s : State} {out : List ℕ} (F : I
 
 -- A LOOP OF THE FILE
 
-module _ {s : List ℕ} {i to : ℕ} {σ : Settings} {from : State} {c : ℕ} (O : Loop s i to σ from c) {r : Idle} (A : AllIdle s (i + 1) to c σ.period r)
-    (o : r.only ≡ true) where
+module _ {s : List ℕ} {i to : ℕ} {σ : Settings} {from : State} {c : ℕ} (O : Loop s i to σ from c) {r : Idle} (A : IdleRounds s (i + 1) to c σ.period r) where
   the : IdleBody (loops.body O) (i + 1) c σ.period r
-  the = A.right (loops.body O) (loops.opened O).first o
+  the = A.right (loops.body O) (loops.opened O).first
 
   abbrev whole : Block
   whole = checked σ the.all (loops.test O) from.tick
@@ -306,17 +287,17 @@ module _ {s : List ℕ} {i to : ℕ} {σ : Settings} {from : State} {c : ℕ} (O
       }
 
 module _ {s : List ℕ} {i to : ℕ} {σ : Settings} {from : State} {p : ℕ} {table old : List ℕ} (F : StatementFits s i to σ from p table old) (k : kind_at s i ≡ TIMES) {x : Rec}
-    (e : x ≡ record_at s i) {r : Idle} (A : AllIdle s (i + 1) to x.count σ.period r) (o : r.only ≡ true) where
+    (e : x ≡ record_at s i) {r : Idle} (A : IdleRounds s (i + 1) to x.count σ.period r) where
   abbrev loop : Loop s i to σ from x.count
   loop = record { statement = F.statement; kind = k; count_is = ap (λ (y : Rec). y.count) e }
 
-  fits : LaidFits σ (whole loop A o) from old
-  fits = fits_as F (idle_as loop A o)
+  fits : LaidFits σ (whole loop A) from old
+  fits = fits_as F (idle_as loop A)
 
   -- so the ticks are told
-  same_whole : checked σ r.ticks (test_of x) from.tick ≡ whole loop A o
+  same_whole : checked σ r.ticks (test_of x) from.tick ≡ whole loop A
   same_whole =
-      let B = the loop A o in
+      let B = the loop A in
       let t = from.tick in
       let q = loops.test loop in
       let n : r.ticks ≡ B.all = omega (
@@ -335,55 +316,50 @@ module _ {s : List ℕ} {i to : ℕ} {σ : Settings} {from : State} {p : ℕ} {t
 
   idle_written : {new : List ℕ} {y : State} → IdleLaid σ r.ticks x from old new y → StatementLaid s i to σ from p old new (record { state = y; next = r.next + 1; ifs = p })
   idle_written {new} {y} I =
-      answered_as F (idle_as loop A o)
+      answered_as F (idle_as loop A)
       (record {
         lays = subst (λ (b : Block). Lays σ b from old new y) same_whole I.lays;
-        goes = goes loop A o;
-        ifs = omega (arith, ap length (plain loop A o));
+        goes = goes loop A;
+        ifs = omega (arith, ap length (plain loop A));
       })
 
 -- A STATEMENT OF THE FILE
 
 module _ {s : List ℕ} {i to : ℕ} {σ : Settings} {from : State} {p : ℕ} {table old : List ℕ} (F : StatementFits s i to σ from p table old) {x : Record} (e : record_of x ≡ record_at s i)
-    {r : Idle} (I : IdleAt s i to (record_of x) σ.period r) where
+    {r : Idle} (I : IdleHere s i to (record_of x) σ.period r) where
   -- where it is a loop
-  module _ (h : x.kind ≡ SKIP → ⊥) (o : r.only ≡ true) where
+  module _ (h : x.kind ≡ SKIP → ⊥) where
     it : IdleLoop s i to (record_of x) σ.period r
-    it = I.loop h o
+    it = I.loop h
 
     loop_fits : IdleFits σ r.ticks (record_of x) from old
     loop_fits =
-        subst (λ (k : ℕ). IdleFits σ k (record_of x) from old) (sym it.ticks) (idle_fits F (kind_there F.statement.here e it.kind) e it.all it.only)
+        subst (λ (k : ℕ). IdleFits σ k (record_of x) from old) (sym it.ticks) (idle_fits F (kind_there F.statement.here e it.kind) e it.all)
 
     loop_laid : {new : List ℕ} {y : State} → IdleLaid σ r.ticks (record_of x) from old new y → StatementLaid s i to σ from p old new (record { state = y; next = r.next; ifs = p })
     loop_laid {new} {y} L =
         subst (λ (j : ℕ). StatementLaid s i to σ from p old new (record { state = y; next = j; ifs = p })) (sym it.next)
-        (idle_written F (kind_there F.statement.here e it.kind) e it.all it.only (subst (λ (k : ℕ). IdleLaid σ k (record_of x) from old new y) it.ticks L))
+        (idle_written F (kind_there F.statement.here e it.kind) e it.all (subst (λ (k : ℕ). IdleLaid σ k (record_of x) from old new y) it.ticks L))
 
-  module _ (o : r.only ≡ true) where
-    pub skips_fit : SkipsFit σ r.ticks (record_of x) from old
-    skips_fit = go (eqb x.kind SKIP) refl
-      where
-        go : (b : Bool) → eqb x.kind SKIP ≡ b → SkipsFit σ r.ticks (record_of x) from old
-        go true z =
-            let k = eqb-true x.kind SKIP z in
-            subst (λ (m : ℕ). SkipsFit σ m (record_of x) from old) (sym (I.skip k).1)
-            (record { laying = F.statement.ready.laying; within = (skip_fits F e k).within; room = (skip_fits F e k).room; check = λ h. absurd (h k) })
-        go false z =
-            let h = eqb-false x.kind SKIP z in
-            let L = loop_fits h o in
-            record { laying = L.laying; within = skips_soon L; room = skips_room L; check = λ y. L }
+  pub skips_fit : SkipsFit σ r.ticks (record_of x) from old
+  skips_fit = go (eqb x.kind SKIP) refl
+    where
+      go : (b : Bool) → eqb x.kind SKIP ≡ b → SkipsFit σ r.ticks (record_of x) from old
+      go true z =
+          let k = eqb-true x.kind SKIP z in
+          subst (λ (m : ℕ). SkipsFit σ m (record_of x) from old) (sym (I.skip k).0)
+          (record { laying = F.statement.ready.laying; within = (skip_fits F e k).within; room = (skip_fits F e k).room; check = λ h. absurd (h k) })
+      go false z =
+          let h = eqb-false x.kind SKIP z in
+          let L = loop_fits h in
+          record { laying = L.laying; within = skips_soon L; room = skips_room L; check = λ y. L }
 
-    pub skips_laid : {new : List ℕ} {y : State} → SkipsLaid σ r.ticks (record_of x) from old new y → StatementLaid s i to σ from p old new (record { state = y; next = r.next; ifs = p })
-    skips_laid {new} {y} L = go (eqb x.kind SKIP) refl
-      where
-        go : (b : Bool) → eqb x.kind SKIP ≡ b → StatementLaid s i to σ from p old new (record { state = y; next = r.next; ifs = p })
-        go true z =
-            let k = eqb-true x.kind SKIP z in
-            subst (λ (j : ℕ). StatementLaid s i to σ from p old new (record { state = y; next = j; ifs = p })) (sym (I.skip k).2)
-            (skip_laid F e k (subst (λ (m : ℕ). Lays σ (idles σ m from.tick) from old new y) (I.skip k).1 (L.skips k)))
-        go false z = let h = eqb-false x.kind SKIP z in loop_laid h o (L.check h)
-
-  -- or it is neither
-  pub no_skip : r.only ≡ false → x.kind ≡ SKIP → ⊥
-  no_skip o k = false≢true (sym o ∙ (I.skip k).0)
+  pub skips_laid : {new : List ℕ} {y : State} → SkipsLaid σ r.ticks (record_of x) from old new y → StatementLaid s i to σ from p old new (record { state = y; next = r.next; ifs = p })
+  skips_laid {new} {y} L = go (eqb x.kind SKIP) refl
+    where
+      go : (b : Bool) → eqb x.kind SKIP ≡ b → StatementLaid s i to σ from p old new (record { state = y; next = r.next; ifs = p })
+      go true z =
+          let k = eqb-true x.kind SKIP z in
+          subst (λ (j : ℕ). StatementLaid s i to σ from p old new (record { state = y; next = j; ifs = p })) (sym (I.skip k).1)
+          (skip_laid F e k (subst (λ (m : ℕ). Lays σ (idles σ m from.tick) from old new y) (I.skip k).0 (L.skips k)))
+      go false z = let h = eqb-false x.kind SKIP z in loop_laid h (L.check h)

@@ -2,7 +2,6 @@
 -- turn; the whole file, and the reply of the call.
 pub mod Meeting
 pub mod Noting
-pub mod Lending
 pub mod Standing
 pub mod Unrolled
 pub mod Passing

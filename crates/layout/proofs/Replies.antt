@@ -14,27 +14,24 @@ use Rattle.model.specs.Layout.{unroll, opened, layout, total}
 use Rattle.model.specs.Answers.{Verdict, finished, refusal, laid_out, kept}
 use Rattle.model.specs.Replies.{turn_down, short_window, no_room, lay_out_rows, laid_tree, lay_out_reply, lay_out_out}
 use Rattle.theory.proofs.{Accepted.in_range, Accepted.fits, Accepted.room_left, Laid.total_longer}
-use Rattle.reading.specs.declared.Checked.TheVariants.{Valid, Refused}
+use Rattle.std.specs.Option.{ok_or}
+use Rattle.std.specs.Prelude.{Option, None, Some, Result, Ok, Err}
 use Rattle.records.specs.Blocks.{block_bytes, skip_records}
 use Rattle.records.proofs.Blocks.{one_skip, length_block, above_all}
 use Rattle.reading.specs.{Answers.Reads, Ranges.SoundFile}
 use Rattle.reading.proofs.{Entry.read_settings, Entry.read_sound, Standing.stands_file}
 use Rattle.placing.specs.declared.clock.State.{State}
 use Rattle.placing.specs.States.{Layable, After, started}
-use Rattle.layout.specs.{Measured.FilePassed, Meetings.FileMeasured, Written.FileFits, Answers.InRange, Answers.LaysOutSound}
+use Rattle.layout.specs.{Measured.FilePassed, Meetings.FileMeasured, Clocked.FileClocked, Written.FileFits, Answers.InRange, Answers.LaysOutSound}
 use Rattle.layout.proofs.Whole.{few_ifs, opened_total, total_is, size_is}
 
 -- A FILE THAT WAS READ
 
--- what was measured with the settings of a table
-pub by_settings : {s old new : List ℕ} {r : State} {σ τ : Settings} → σ ≡ τ → FileMeasured s σ old new r → FileMeasured s τ old new r
-by_settings {s} {old} {new} {r} e m = subst (λ (ρ : Settings). FileMeasured s ρ old new r) e m
-
 -- the first row that refuses decides, and a refusal keeps the buffer
-turned : (file : List ℕ) (σ : Settings) (old : List ℕ) (x : Refusal) → refusal x ≡ lay_out_rows σ (file_tree file) (length old) → LaysOutSound file σ old old (LaidOut.Refused x)
+turned : (file : List ℕ) (σ : Settings) (old : List ℕ) (x : Refusal) → refusal x ≡ lay_out_rows σ (file_tree file) (length old) → LaysOutSound file σ old old (Err x)
 turned file σ old x e = record { reply = e; leaves = ap (λ (v : Verdict). kept v (over (bytes (linearise (layout σ (file_tree file)))) old) old) e }
 
-pub window_refused : (file : List ℕ) (σ : Settings) (old : List ℕ) → short_window σ ≡ true → LaysOutSound file σ old old (LaidOut.Refused Refusal.ShortWindow)
+pub window_refused : (file : List ℕ) (σ : Settings) (old : List ℕ) → short_window σ ≡ true → LaysOutSound file σ old old (Err Refusal.ShortWindow)
 window_refused file σ old h = turned file σ old Refusal.ShortWindow (rw h)
 
 wide_window : {σ : Settings} → Layable σ → short_window σ ≡ false
@@ -43,22 +40,42 @@ wide_window {σ} L = le-ltb σ.window (σ.beat + σ.save + longest σ) L.fits.wi
 pub layable : {σ : Settings} → InRange σ → short_window σ ≡ false → Layable σ
 layable {σ} I h = record { fits = fits σ I.positive h; narrow = I.narrow; short = I.short }
 
--- the ticks that were counted are above P: so is the total, and row 8 refuses
-module _ {file : List ℕ} {σ : Settings} (L : Layable σ) {r : State} (F : FilePassed file σ r) where
-  late : σ.period < r.tick + r.ticks_left + σ.beat → σ.period < total σ (file_tree file)
-  late h = go (ltb σ.period t) refl
-    where
-      t : ℕ
-      t = time σ (opened σ (unroll (file_tree file)))
-
-      go : (o : Bool) → ltb σ.period t ≡ o → σ.period < total σ (file_tree file)
-      go true e = omega (arith, opened_total σ (file_tree file), ltb-true σ.period t e)
-      go false e = omega (arith, total_is L (file_tree file) (F.after (ltb-false σ.period t e)))
-
-  pub over_period : (old : List ℕ) → σ.period < r.tick + r.ticks_left + σ.beat → LaysOutSound file σ old old (LaidOut.Refused Refusal.OverPeriod)
-  over_period old h =
+-- the steps up to the last one, or the ticks that were counted, are above P: so is the total, and row 8 refuses
+module _ {file : List ℕ} {σ : Settings} (L : Layable σ) where
+  total_over : (old : List ℕ) → σ.period < total σ (file_tree file) → LaysOutSound file σ old old (Err Refusal.OverPeriod)
+  total_over old h =
       turned file σ old Refusal.OverPeriod
-      (sym (rw (wide_window L, lt-ltb σ.period (total σ (file_tree file)) (late h), or-true (ltb σ.period (time σ (file_tree file))))))
+      (sym (rw (wide_window L, lt-ltb σ.period (total σ (file_tree file)) h, or-true (ltb σ.period (time σ (file_tree file))))))
+
+  pub given_up : (old : List ℕ) → σ.period < time σ (opened σ (unroll (file_tree file))) → LaysOutSound file σ old old (Err Refusal.OverPeriod)
+  given_up old h = total_over old (omega (arith, opened_total σ (file_tree file)))
+
+  -- measuring was given up, and so is the call
+  pub passed_on : (old none table : List ℕ) (r : Option State) {q : Result State Refusal} {x : Refusal} → FileClocked file σ none table r
+      → q ≡ ok_or r Refusal.OverPeriod → q ≡ Err x → LaysOutSound file σ old old (Err x)
+  passed_on old none table None {x = x} F e f =
+      let z : x ≡ Refusal.OverPeriod = cc in subst (λ (y : Refusal). LaysOutSound file σ old old (Err y)) (sym z) (given_up old F)
+  passed_on old none table (Some s) F e f = let z : ◌≡◌ {A = ℕ} 0 1 = cc in absurd (omega arith)
+
+  module _ {r : State} (F : FilePassed file σ r) where
+    late : σ.period < r.tick + r.ticks_left + σ.beat → σ.period < total σ (file_tree file)
+    late h = go (ltb σ.period t) refl
+      where
+        t : ℕ
+        t = time σ (opened σ (unroll (file_tree file)))
+
+        go : (o : Bool) → ltb σ.period t ≡ o → σ.period < total σ (file_tree file)
+        go true e = omega (arith, opened_total σ (file_tree file), ltb-true σ.period t e)
+        go false e = omega (arith, total_is L (file_tree file) (F.after (ltb-false σ.period t e)))
+
+    pub over_period : (old : List ℕ) → σ.period < r.tick + r.ticks_left + σ.beat → LaysOutSound file σ old old (Err Refusal.OverPeriod)
+    over_period old h = total_over old (late h)
+
+-- or it was not
+pub measured_as : {file : List ℕ} {σ : Settings} (r : Option State) {q : Result State Refusal} {s : State} {none table : List ℕ} → FileClocked file σ none table r
+    → q ≡ ok_or r Refusal.OverPeriod → q ≡ Ok s → FileMeasured file σ none table s
+measured_as None F e f = let z : ◌≡◌ {A = ℕ} 0 1 = cc in absurd (omega arith)
+measured_as {file} {σ} (Some t) {s = s} {none} {table} F e f = let z : t ≡ s = cc in subst (FileMeasured file σ none table) z F
 
 -- they are not: the file is laid up to r, and m records of SKIP follow
 pub record InTime (file : List ℕ) (σ : Settings) (r : State) (m : ℕ) : Type 0 where
@@ -114,7 +131,7 @@ module _ {file : List ℕ} {σ : Settings} {r : State} {m : ℕ} (T : InTime fil
           above_all room (size result) (omega (arith, size_is T.settings tree ended, ended.records, T.skips)) ∙ sym (above_all room n l)
       go false x = ap (no_room room) (counts (ltb-false 5461 n x))
 
-  pub room_refused : (old : List ℕ) → no_room (length old) n ≡ true → LaysOutSound file σ old old (LaidOut.Refused Refusal.NoRoom)
+  pub room_refused : (old : List ℕ) → no_room (length old) n ≡ true → LaysOutSound file σ old old (Err Refusal.NoRoom)
   room_refused old x = turned file σ old Refusal.NoRoom (sym (timed (length old) ∙ rw (same_room (length old), x)))
 
   module _ (old : List ℕ) (x : no_room (length old) n ≡ false) where
@@ -134,13 +151,17 @@ module _ {file : List ℕ} {σ : Settings} {r : State} {m : ℕ} (T : InTime fil
     replies : finished (12 * n ∷ (r.tick + r.ticks_left + σ.beat) ∷ []) ≡ lay_out_rows σ tree (length old)
     replies = ap₂ (λ (k t : ℕ). finished (12 * k ∷ t ∷ [])) (sym counted) (sym totals) ∙ sym (timed (length old) ∙ rw (same_room (length old), x))
 
-    pub written : (new : List ℕ) → new ≡ over (block_bytes result) old → LaysOutSound file σ old new (LaidOut.Written (12 * n) (r.tick + r.ticks_left + σ.beat))
+    pub written : (new : List ℕ) (t : ℕ) → t ≡ r.tick + r.ticks_left + σ.beat → new ≡ over (block_bytes result) old
+        → LaysOutSound file σ old new (Ok (record { bytes = 12 * n; total = t }))
     unfolding block_bytes
-    written new y = record { reply = replies; leaves = y ∙ ap (λ (v : Verdict). kept v (over (bytes (linearise result)) old) old) replies }
+    written new t e y = record {
+      reply = ap (λ (u : ℕ). finished (12 * n ∷ u ∷ [])) e ∙ replies;
+      leaves = y ∙ ap (λ (v : Verdict). kept v (over (bytes (linearise result)) old) old) replies;
+    }
 
 -- THE CALL
 
-module _ (s file : List ℕ) (σ : Settings) (R : Reads s Equalised file (Valid σ)) where
+module _ (s file : List ℕ) (σ : Settings) (R : Reads s Equalised file (Ok σ)) where
   pub sound_file : SoundFile Equalised file
   sound_file = record { sound = read_sound s Equalised file σ R }
 
@@ -156,16 +177,16 @@ module _ (s file : List ℕ) (σ : Settings) (R : Reads s Equalised file (Valid 
 
 module _ (s file old : List ℕ) where
   -- what it answers, and the buffer afterwards
-  abbrev pub Replied : LaidOut → List ℕ → Type 0
+  abbrev pub Replied : Result LaidOut Refusal → List ℕ → Type 0
   Replied r new = (laid_out r ≡ lay_out_reply s file (length old)) × (new ≡ lay_out_out s file old)
 
-  pub read_refused : (x : Refusal) → Reads s Equalised file (Refused x) → Replied (LaidOut.Refused x) old
+  pub read_refused : (x : Refusal) → Reads s Equalised file (Err x) → Replied (Err x) old
   unfolding lay_out_reply lay_out_out
   read_refused x R =
       let new = over (bytes (linearise (laid_tree s file))) old in
       (R.reply _, ap (λ (v : Verdict). kept v new old) (R.reply _))
 
-  pub read_laid : (σ : Settings) (new : List ℕ) (r : LaidOut) → Reads s Equalised file (Valid σ) → LaysOutSound file σ old new r → Replied r new
+  pub read_laid : (σ : Settings) (new : List ℕ) (r : Result LaidOut Refusal) → Reads s Equalised file (Ok σ) → LaysOutSound file σ old new r → Replied r new
   unfolding lay_out_reply lay_out_out laid_tree
   read_laid σ new r R E =
       let E' = subst (λ (τ : Settings). LaysOutSound file τ old new r) (R.settings σ refl) E in

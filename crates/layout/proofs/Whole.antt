@@ -1,5 +1,5 @@
 -- The whole file: from the commands of tick 0 over the laid block to the last BEAT.
-use Prim.Native.Nat.{ℕ, ◌+◌, ◌*◌, ◌-◌, ◌%◌, ◌/◌, ◌≤◌, ◌<◌}
+use Prim.Native.Nat.{ℕ, ◌+◌, ◌*◌, ◌-◌, ◌%◌, ◌/◌, ◌≤◌}
 use native.Mathlib.{Omega.arith, Nat.zero-mod, Nat.zero-add}
 use mathlib.Core.Path.{◌≡◌, refl, ap, ap₂, sym, subst, ◌∙◌}
 use mathlib.Core.Bool.{Bool, true, false, cond}
@@ -55,11 +55,11 @@ module _ {σ : Settings} (L : Layable σ) where
   start_alike = alike_trans (alike_skip (commands σ 0)) (alike_eq (commands_0 σ L.fits))
 
   -- what goes on to the next multiple of H lays no more than the commands
-  pub after_opening : {s o : State} → s ≡ started → After σ (skip s.ticks_left (commands σ (s.tick + s.ticks_left))) s o → After σ opening started o
-  after_opening {s} {o} e A = after_alike start_alike (subst (λ (x : State). After σ (skip x.ticks_left (commands σ (x.tick + x.ticks_left))) x o) e A)
+  pub after_opening : {o : State} → After σ (skip 0 (commands σ (0 + 0))) started o → After σ opening started o
+  after_opening A = after_alike start_alike A
 
-  opening_bytes : {s : State} → s ≡ started → bytes_of s (skip s.ticks_left (commands σ (s.tick + s.ticks_left))) ≡ block_bytes opening
-  opening_bytes e = ap (λ (x : State). bytes_of x (skip x.ticks_left (commands σ (x.tick + x.ticks_left)))) e ∙ ap block_bytes (start_alike.settles 0)
+  opening_bytes : bytes_of started (skip 0 (commands σ (0 + 0))) ≡ block_bytes opening
+  opening_bytes = ap block_bytes (start_alike.settles 0)
 
 -- BEHIND THEM
 
@@ -78,7 +78,7 @@ module _ {σ : Settings} (L : Layable σ) {o : State} (A : After σ opening star
   unfolding laid
   opened_laid b = ap (λ (t : ℕ). opening ⧺ lay σ (unroll b) t) (sym start_tick)
 
-  opened_lasts : (b : Block) → time σ (opened σ (unroll b)) ≡ o.tick + time σ (laid σ b o.tick)
+  pub opened_lasts : (b : Block) → time σ (opened σ (unroll b)) ≡ o.tick + time σ (laid σ b o.tick)
   opened_lasts b = omega (arith, ap (time σ) (opened_laid b), start_tick)
 
   after_opened : {r : State} (b : Block) → After σ (laid σ b o.tick) o r → After σ (opened σ (unroll b)) started r
@@ -89,12 +89,6 @@ module _ {σ : Settings} (L : Layable σ) {o : State} (A : After σ opening star
   opened_meetings b =
       ap (λ (c : Block). meetings σ c 0) (opened_laid b)
       ∙ ap (meetings σ (laid σ b o.tick)) (ap (λ (t : ℕ). t + σ.save) (zero-add σ.beat) ∙ sym start_tick)
-
-  pub file_late : {s old new : List ℕ} → σ.period < o.tick → FileMeasured s σ old new o
-  file_late {s} h = record {
-    passed = record { late = λ l. h; after = λ l. absurd (omega (arith, opened_lasts (file_tree s))) };
-    noted = λ e l m. absurd (omega (arith, opened_lasts (file_tree s)));
-  }
 
   pub file_measured : {s old new : List ℕ} {r : Passage} → SoundFile Equalised s → BlockMeasured s 0 (length s / 12) σ o 0 old new r → FileMeasured s σ old new r.state
   file_measured {s} {old} {new} S B =
@@ -238,16 +232,15 @@ module _ {s : List ℕ} {σ : Settings} {table out : List ℕ} (F : FileFits s �
       let e = ending σ (file_tree s) in
       omega (arith, F.few, ap size (layout_ending σ (file_tree s)), size-⧺ (opening ⧺ middle) e)
 
-  pub start_fits : {x : State} → x ≡ started → (Laying σ x) × (length (bytes_of x (skip x.ticks_left (commands σ (x.tick + x.ticks_left)))) ≤ length out)
-  start_fits {x} e = (
-    subst (Laying σ) (sym e) (laying_start F.settings),
-    omega (arith, F.room, ap length whole_bytes, length-append (block_bytes opening) behind, ap length (opening_bytes F.settings e)),
+  pub start_fits : (Laying σ started) × (length (bytes_of started (skip 0 (commands σ (0 + 0)))) ≤ length out)
+  start_fits = (
+    laying_start F.settings,
+    omega (arith, F.room, ap length whole_bytes, length-append (block_bytes opening) behind, ap length (opening_bytes F.settings)),
   )
 
-  pub start_part : {x : State} {new : List ℕ} {at : ℕ} → x ≡ started → Wrote (bytes_of x (skip x.ticks_left (commands σ (x.tick + x.ticks_left)))) out new at
-      → Part whole behind out new at
-  start_part {x} {new} {at} e W =
-      let X = subst (λ (bs : List ℕ). Wrote bs out new at) (opening_bytes F.settings e) W in
+  pub start_part : {new : List ℕ} {at : ℕ} → Wrote (bytes_of started (skip 0 (commands σ (0 + 0)))) out new at → Part whole behind out new at
+  start_part {new} {at} W =
+      let X = subst (λ (bs : List ℕ). Wrote bs out new at) (opening_bytes F.settings) W in
       subst (λ (w : List ℕ). Part w behind out new at) (sym whole_bytes)
       (part_first (block_bytes opening) (subst (λ (w : List ℕ). length w ≤ length out) whole_bytes F.room) X.laid X.count)
 

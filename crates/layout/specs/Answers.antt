@@ -1,8 +1,9 @@
 -- What laying out an equalised file that was read answers and leaves, with settings that were read.
-use Rattle.std.specs.Prelude.{ℕ, ◌≤◌, ◌≡◌, List, length}
+use Rattle.std.specs.Prelude.{ℕ, ◌≤◌, ◌≡◌, List, length, Result}
 use Rattle.model.specs.Limits.{most_ticks}
 use Rattle.model.specs.declared.Settings.{Settings}
 use Rattle.model.specs.declared.LaidOut.{LaidOut}
+use Rattle.model.specs.declared.Refusal.{Refusal}
 use Rattle.model.specs.Records.{bytes, over}
 use Rattle.model.specs.Trees.{linearise, file_tree}
 use Rattle.model.specs.Layout.{layout}
@@ -17,6 +18,6 @@ pub record InRange (σ : Settings) : Type 0 where
   pub short : σ.period ≤ most_ticks
 
 -- rows 7 to 9, and the result
-pub record LaysOutSound (file : List ℕ) (σ : Settings) (old new : List ℕ) (r : LaidOut) : Type 0 where
+pub record LaysOutSound (file : List ℕ) (σ : Settings) (old new : List ℕ) (r : Result LaidOut Refusal) : Type 0 where
   pub reply : laid_out r ≡ lay_out_rows σ (file_tree file) (length old)
   pub leaves : new ≡ kept (lay_out_rows σ (file_tree file) (length old)) (over (bytes (linearise (layout σ (file_tree file)))) old) old

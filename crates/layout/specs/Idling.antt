@@ -1,5 +1,5 @@
 -- Loops whose bodies have SKIPs alone: what all their rounds are laid as, and what such a loop asks for and leaves.
-use Rattle.std.specs.Prelude.{ℕ, ◌+◌, ◌≤◌, ◌<◌, min, ◌≡◌, true, List}
+use Rattle.std.specs.Prelude.{ℕ, ◌+◌, ◌≤◌, ◌<◌, min, ◌≡◌, List, Option, None, Some}
 use Rattle.model.specs.declared.Form.TheVariants.{Equalised}
 use Rattle.model.specs.declared.Settings.{Settings}
 use Rattle.model.specs.Records.{Rec, SKIP, TIMES}
@@ -21,23 +21,32 @@ pub record IdleBody (a : Block) (i c p : ℕ) (r : Idle) : Type 0 where
   pub told : r.ticks ≡ min all (p + 1)
   pub goes : r.next ≡ i + size a
 
-pub record AllIdle (s : List ℕ) (i to c p : ℕ) (r : Idle) : Type 0 where
+-- the body that stands at i has SKIPs alone
+pub record IdleRounds (s : List ℕ) (i to c p : ℕ) (r : Idle) : Type 0 where
   pub high : r.next ≤ to
-  pub right : (a : Block) → Stands Equalised s i to a → r.only ≡ true → IdleBody a i c p r
+  pub right : (a : Block) → Stands Equalised s i to a → IdleBody a i c p r
+
+-- nothing is told of any other
+abbrev pub AllIdle : List ℕ → ℕ → ℕ → ℕ → ℕ → Option Idle → Type 0
+AllIdle s i to c p None = Unit {0}
+AllIdle s i to c p (Some r) = IdleRounds s i to c p r
 
 -- the loop at i with the record x has such a body
 pub record IdleLoop (s : List ℕ) (i to : ℕ) (x : Rec) (p : ℕ) (r : Idle) : Type 0 where
   pub kind : x.kind ≡ TIMES
   pub body : Idle
-  pub all : AllIdle s (i + 1) to x.count p body
-  pub only : body.only ≡ true
+  pub all : IdleRounds s (i + 1) to x.count p body
   pub ticks : r.ticks ≡ body.ticks
   pub next : r.next ≡ body.next + 1
 
--- the statement at i with the record x
-pub record IdleAt (s : List ℕ) (i to : ℕ) (x : Rec) (p : ℕ) (r : Idle) : Type 0 where
-  pub skip : x.kind ≡ SKIP → (r.only ≡ true) × (r.ticks ≡ x.count) × (r.next ≡ i + 1)
-  pub loop : (x.kind ≡ SKIP → ⊥) → r.only ≡ true → IdleLoop s i to x p r
+-- the statement at i with the record x is a SKIP, or such a loop
+pub record IdleHere (s : List ℕ) (i to : ℕ) (x : Rec) (p : ℕ) (r : Idle) : Type 0 where
+  pub skip : x.kind ≡ SKIP → (r.ticks ≡ x.count) × (r.next ≡ i + 1)
+  pub loop : (x.kind ≡ SKIP → ⊥) → IdleLoop s i to x p r
+
+abbrev pub IdleAt : List ℕ → ℕ → ℕ → Rec → ℕ → Option Idle → Type 0
+IdleAt s i to x p None = x.kind ≡ SKIP → ⊥
+IdleAt s i to x p (Some r) = IdleHere s i to x p r
 
 -- k ticks of SKIP from tick t on, and a CHECK
 abbrev pub checked : Settings → ℕ → Test → ℕ → Block

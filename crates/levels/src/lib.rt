@@ -44,9 +44,7 @@ fn surely_writes(task: &[u8]) -> bool
 {
     let n = task.len() / 12;
     let mut sure = 0;
-    let mut i = n;
-    while 0 < i {
-        i -= 1;
+    for i in (0..n).rev() {
         sure = before(kind_at(task, i), sure);
     }
     sure % 2 == 1
@@ -59,7 +57,6 @@ pub fn no_level(form: Form, file: &[u8]) -> bool
 {
     match form {
         Form::Task => !surely_writes(file),
-        Form::Equalised => false,
-        Form::Laid => false,
+        Form::Equalised | Form::Laid => false,
     }
 }

@@ -6,6 +6,7 @@ use mathlib.Core.Bool.{false}
 use mathlib.Core.List.{List, [], ◌∷◌, append-nil}
 use lib.ListN.{length, get_or, drop, length-append, length-drop}
 use lib.Seq.{sets}
+use Rattle.std.specs.Prelude.{Result, Ok, Err}
 use Rattle.model.specs.declared.Form.TheVariants.{Laid}
 use Rattle.model.specs.declared.{Refusal.Refusal, LaidOut.LaidOut, Settings.Settings}
 use Rattle.model.specs.{Settings.settings_of, Settings.bad_settings, Times.time, Records.over, Limits.file_length}
@@ -14,7 +15,6 @@ use Rattle.model.specs.{Listing.start_ticks, Listing.laid_from, Listing.list_sta
 use Rattle.model.specs.Replies.{equalise_reply, laid_total, lay_out_reply, equalised_of, prepare_reply, prepare_out}
 use Rattle.laws.proofs.{Bytes.records_at, Bytes.first_bytes, Trees.length_linearise, Passes.length_file, Stands.begins}
 use Rattle.laws.proofs.{Sound.sound_file}
-use Rattle.records.specs.declared.settings.Decoded.TheVariants.{Refused}
 use Rattle.records.specs.Decoded.{Decodes}
 use Rattle.records.proofs.Stores.{stored_over}
 use Rattle.reading.specs.Ranges.{Stands}
@@ -26,7 +26,7 @@ use Rattle.listing.specs.Starts.{Entered, BlockStarted}
 use Rattle.listing.proofs.Starting.{starts_length}
 
 -- settings that are good are not refused
-pub decoded_good : {A : Type 0} (s : List ℕ) (x : Refusal) → bad_settings s ≡ false → Decodes s (Refused x) → A
+pub decoded_good : {A : Type 0} (s : List ℕ) (x : Refusal) → bad_settings s ≡ false → Decodes s (Err x) → A
 decoded_good s x g D = never_finished x [] (D.reply (finished []) ∙ rw g)
 
 -- a refusal leaves the table as it was
@@ -95,29 +95,33 @@ module _ (s task : List ℕ) {n t : ℕ} (e : prepare_reply s task file_length �
 -- THE CALL
 
 -- what listing a task answers and leaves
-abbrev pub Lists : List ℕ → List ℕ → List ℕ → List ℕ → List ℕ → List ℕ → LaidOut → Type 0
-Lists s task laid laid' table table' r = (laid_out r ≡ prepare_reply s task file_length) × (laid' ≡ prepare_out s task laid) × (table' ≡ list_starts s task table)
+abbrev pub Lists : List ℕ → List ℕ → List ℕ → List ℕ → List ℕ → List ℕ → Result LaidOut Refusal → Type 0
+Lists s task laid laid' table table' r =
+    (laid_out r ≡ prepare_reply s task file_length) × (laid' ≡ prepare_out s task laid) × (table' ≡ list_starts s task table)
 
-module _ (s task laid laid' : List ℕ) (r : LaidOut) (h : length laid ≡ 65532)
-    (p : (laid_out r ≡ prepare_reply s task (length laid)) × (laid' ≡ prepare_out s task laid)) where
-  answered : laid_out r ≡ prepare_reply s task file_length
-  answered = p.0 ∙ ap (prepare_reply s task) h
+module _ (s task laid laid' : List ℕ) (h : length laid ≡ 65532) where
+  -- what preparing it does
+  abbrev pub Prepares : Result LaidOut Refusal → Type 0
+  Prepares r = (laid_out r ≡ prepare_reply s task (length laid)) × (laid' ≡ prepare_out s task laid)
 
-  pub list_refused : (table : List ℕ) {x : Refusal} → r ≡ LaidOut.Refused x → Lists s task laid laid' table table r
-  list_refused table {x} f = (answered, p.1, table_kept s task table x (sym (ap laid_out f) ∙ answered))
+  answered : (r : Result LaidOut Refusal) → Prepares r → laid_out r ≡ prepare_reply s task file_length
+  answered r p = p.0 ∙ ap (prepare_reply s task) h
 
-  module _ {n t : ℕ} (f : r ≡ LaidOut.Written n t) where
-    reply : prepare_reply s task file_length ≡ finished (n ∷ t ∷ [])
-    reply = sym answered ∙ ap laid_out f
+  pub list_refused : (table : List ℕ) (x : Refusal) → Prepares (Err x) → Lists s task laid laid' table table (Err x)
+  list_refused table x p = (answered (Err x) p, p.1, table_kept s task table x (answered (Err x) p))
 
-    pub list_decoded : {A : Type 0} (x : Refusal) → Decodes s (Refused x) → A
+  module _ (d : LaidOut) (p : Prepares (Ok d)) where
+    reply : prepare_reply s task file_length ≡ finished (d.bytes ∷ d.total ∷ [])
+    reply = sym (answered (Ok d) p)
+
+    pub list_decoded : {A : Type 0} (x : Refusal) → Decodes s (Err x) → A
     list_decoded x D = decoded_good s x (accepted s task reply).settings_good D
 
     module _ {σ : Settings} (same : σ ≡ settings_of s) (table : List ℕ) (k : length table ≡ 5461) where
-      stands : Stands Laid laid' 0 (n / 12) (laid_from s task)
-      stands = subst (λ (l : List ℕ). Stands Laid l 0 (n / 12) (laid_from s task)) (sym p.1) (tree_stands s task reply laid h)
+      stands : Stands Laid laid' 0 (d.bytes / 12) (laid_from s task)
+      stands = subst (λ (l : List ℕ). Stands Laid l 0 (d.bytes / 12) (laid_from s task)) (sym p.1) (tree_stands s task reply laid h)
 
-      pub list_entered : Entered laid' 0 (n / 12) σ 0 table
+      pub list_entered : Entered laid' 0 (d.bytes / 12) σ 0 table
       list_entered =
           let b = laid_from s task in
           let A = accepted s task reply in
@@ -128,8 +132,8 @@ module _ (s task laid laid' : List ℕ) (r : LaidOut) (h : length laid ≡ 65532
             early = omega (arith, ap (λ (τ : Settings). time τ b) same, (runnable s task reply).in_time, A.in_range.short);
           }
 
-      pub list_written : {table' : List ℕ} {e : Place} → BlockStarted laid' 0 (n / 12) σ 0 table table' e
-          → Lists s task laid laid' table table' (LaidOut.Written n t)
+      pub list_written : {table' : List ℕ} {e : Place} → BlockStarted laid' 0 (d.bytes / 12) σ 0 table table' e
+          → Lists s task laid laid' table table' (Ok d)
       list_written B =
           let b = laid_from s task in
           let stored = (B.right b stands).table ∙ ap (λ (τ : Settings). sets table 0 (start_ticks τ b 0)) same in

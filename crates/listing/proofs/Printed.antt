@@ -4,7 +4,8 @@ use native.Mathlib.Omega.{arith}
 use mathlib.Core.Path.{◌≡◌, refl, ap, ap₂, sym, subst, ◌∙◌}
 use mathlib.Core.List.{List, [], ◌∷◌, ◌++◌}
 use lib.{ListN.length, ListN.get_or, ListN.drop, Seq.length-sets, Seq.drop-cons}
-use Rattle.model.specs.declared.{Line.Line, Shown.Shown, Refusal.Refusal}
+use Rattle.std.specs.Prelude.{Some}
+use Rattle.model.specs.declared.{Line.Line, Refusal.Refusal}
 use Rattle.model.specs.{Settings.settings_of, Trees.Block, Trees.linearise, Limits.file_length, Replies.prepare_reply, Replies.prepare_out}
 use Rattle.model.specs.Records.{Rec, record_at, first_records, over}
 use Rattle.model.specs.Answers.{finished, row, refusal}
@@ -44,7 +45,7 @@ pub record Listing (s task laid table : List ℕ) (n t : ℕ) : Type 0 where
   pub inside : n ≤ 65532
   pub laid_room_is : length laid ≡ 65532
   pub table_room : length table ≡ 5461
-  pub shown : (i : ℕ) → i < n / 12 → line_at laid table i ≡ Shown.Line (line_of (get_or table i 0) (record_at laid i))
+  pub shown : (i : ℕ) → i < n / 12 → line_at laid table i ≡ Some (line_of (get_or table i 0) (record_at laid i))
 
 module _ (s task laid table : List ℕ) {n t : ℕ} (h : length laid ≡ 65532) (k : length table ≡ 5461)
     (e : prepare_reply s task file_length ≡ finished (n ∷ t ∷ [])) where

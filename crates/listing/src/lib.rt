@@ -10,11 +10,11 @@ ghost use Rattle.model.specs.Limits.{file_length};
 ghost use Rattle.model.specs.Replies.{prepare_reply, prepare_out};
 ghost use Rattle.model.specs.Listing.{list_starts};
 
-use model::LaidOut;
 use model::limits::{FILE_LENGTH, FILE_RECORDS};
+use model::{LaidOut, Refusal};
 use preparation::prepare;
-use records::settings::Decoded;
-use starts::start_block;
+use records::settings::decode;
+use starts::Source;
 
 // The laid file, the tick at which each of its records starts, and the bytes and the total; or the refusal.
 pub fn list_task(
@@ -22,19 +22,19 @@ pub fn list_task(
     task: &[u8],
     laid: &mut [u8; FILE_LENGTH],
     starts: &mut [u32; FILE_RECORDS],
-) -> LaidOut
+) -> Result<LaidOut, Refusal>
     ensures { (laid_out result ≡ prepare_reply settings.now task.now file_length)
         × (laid.new ≡ prepare_out settings.now task.now laid.old)
         × (starts.new ≡ list_starts settings.now task.now starts.old) }
 {
-    let r = prepare(settings, task, laid);
-    let LaidOut::Written { bytes, total: _ } = r else {
-        return r;
+    let done = prepare(settings, task, laid)?;
+    // Good settings, since they were not refused.
+    let rack = decode(settings)?;
+    let source = Source {
+        file: laid,
+        to: done.bytes / 12,
+        rack: &rack,
     };
-    let decoded = records::settings::decode(settings);
-    let Decoded::Valid(rack) = decoded else {
-        return r;
-    };
-    start_block(laid, 0, bytes / 12, rack, 0, starts);
-    r
+    source.start_block(0, 0, starts);
+    Ok(done)
 }

@@ -6,7 +6,7 @@ ghost use Rattle.listing.specs.Starts.{Entered, Statement, BlockStarted, Stateme
 use model::Settings;
 use reading::blocks::closes;
 use records::{kind_at, kinds, record_at};
-use timing::ticks::{later, step_ticks};
+use timing::ticks::step_ticks;
 
 // The tick at which the records from `next` on start.
 #[derive(Clone, Copy)]
@@ -15,73 +15,70 @@ pub struct Place {
     pub next: usize,
 }
 
-// The IF at i: both sides start at the next tick, as ELSE does, and END where the later one ends.
-#[cycle(starting)]
-fn start_branch(file: &[u8], i: usize, to: usize, rack: Settings, at: u32, out: &mut [u32]) -> Place
-    requires { (Statement file.now i to rack at out.old) × (kind_at file.now i ≡ IF) }
-    ensures { StatementStarted file.now i to rack at out.old out.new result }
-{
-    let inside = at + 1;
-    out[i] = at;
-    let one = start_block(file, i + 1, to, rack, inside, out);
-    let middle = one.next;
-    out[middle] = inside;
-    let two = start_block(file, middle + 1, to, rack, inside, out);
-    let last = two.next;
-    let end = later(one.tick, two.tick);
-    out[last] = end;
-    Place {
-        tick: end,
-        next: last + 1,
-    }
+// A laid file's records up to `to`, and the settings. Its methods stand here, so the struct does too.
+#[derive(Clone, Copy)]
+pub struct Source<'a> {
+    pub file: &'a [u8],
+    pub to: usize,
+    pub rack: &'a Settings,
 }
 
-// The statement at i.
-#[cycle(starting)]
-fn start_statement(
-    file: &[u8],
-    i: usize,
-    to: usize,
-    rack: Settings,
-    at: u32,
-    out: &mut [u32],
-) -> Place
-    requires { Statement file.now i to rack at out.old }
-    ensures { StatementStarted file.now i to rack at out.old out.new result }
-{
-    let r = record_at(file, i);
-    if r.kind == kinds::IF {
-        return start_branch(file, i, to, rack, at, out);
-    }
-    out[i] = at;
-    Place {
-        tick: at + step_ticks(rack, r),
-        next: i + 1,
-    }
-}
-
-// The block at `from`, up to the record that closes it.
-#[cycle(starting)]
-pub fn start_block(
-    file: &[u8],
-    from: usize,
-    to: usize,
-    rack: Settings,
-    at: u32,
-    out: &mut [u32],
-) -> Place
-    requires { Entered file.now from to rack at out.old }
-    ensures { BlockStarted file.now from to rack at out.old out.new result }
-{
-    let mut tick = at;
-    let mut next = from;
-    while next < to {
-        if closes(kind_at(file, next)) {
-            return Place { tick, next };
+impl Source<'_> {
+    // The IF at i: both sides start at the next tick, as ELSE does, and END where the later one ends.
+    #[cycle(starting)]
+    fn start_branch(&self, i: usize, at: u32, out: &mut [u32]) -> Place
+        requires { (Statement self.now.file.now i self.now.to self.now.rack.now at out.old) × (kind_at self.now.file.now i ≡ IF) }
+        ensures { StatementStarted self.now.file.now i self.now.to self.now.rack.now at out.old out.new result }
+    {
+        let inside = at + 1;
+        out[i] = at;
+        let one = self.start_block(i + 1, inside, out);
+        let middle = one.next;
+        out[middle] = inside;
+        let two = self.start_block(middle + 1, inside, out);
+        let last = two.next;
+        let end = one.tick.max(two.tick);
+        out[last] = end;
+        Place {
+            tick: end,
+            next: last + 1,
         }
-        let e = start_statement(file, next, to, rack, tick, out);
-        tick = e.tick;
-        next = e.next;
     }
-    Place { tick, next }
+
+    // The statement at i.
+    #[cycle(starting)]
+    fn start_statement(&self, i: usize, at: u32, out: &mut [u32]) -> Place
+        requires { Statement self.now.file.now i self.now.to self.now.rack.now at out.old }
+        ensures { StatementStarted self.now.file.now i self.now.to self.now.rack.now at out.old out.new result }
+    {
+        let r = record_at(self.file, i);
+        if r.kind == kinds::IF {
+            return self.start_branch(i, at, out);
+        }
+        out[i] = at;
+        Place {
+            tick: at + step_ticks(*self.rack, r),
+            next: i + 1,
+        }
+    }
+
+    // The block at `from`, up to the record that closes it.
+    #[cycle(starting)]
+    pub fn start_block(&self, from: usize, at: u32, out: &mut [u32]) -> Place
+        requires { Entered self.now.file.now from self.now.to self.now.rack.now at out.old }
+        ensures { BlockStarted self.now.file.now from self.now.to self.now.rack.now at out.old out.new result }
+    {
+        let mut tick = at;
+        let mut next = from;
+        // The index goes past whole statements, so a `for` over it is no plainer.
+        while next < self.to {
+            if closes(kind_at(self.file, next)) {
+                return Place { tick, next };
+            }
+            let e = self.start_statement(next, tick, out);
+            tick = e.tick;
+            next = e.next;
+        }
+        Place { tick, next }
+    }
 }

@@ -14,16 +14,14 @@ use Rattle.model.specs.Replies.{reading, Loan, bad_lengths, ready_rows, ready, e
 use Rattle.model.specs.Replies.{stop_rows, taken_up, taken_buffers, resume_reply, resume_buffers, restart_reply, restart_buffers}
 use Rattle.laws.proofs.Shapes.{neither}
 use Rattle.theory.proofs.{Left.rest_0}
-use Rattle.reading.specs.declared.Checked.{Checked}
-use Rattle.reading.specs.declared.Checked.TheVariants.{Valid, Refused}
-use Rattle.reading.specs.Answers.{checked}
-use Rattle.stepping.specs.declared.progress.Progress.{Progress}
+use Rattle.std.specs.Prelude.{Result, Ok, Err}
+use Rattle.records.specs.Decoded.{checked}
 use Rattle.machine.specs.Calls.{Readies, ReadyToRun, steps, RunWhole, StopsSound, again_rows, Resumes}
 use Rattle.machine.proofs.Whole.{equal_of}
 
 -- a call is handed these over
 module _ (s : List ℕ) (f : Form) (file v ins l m : List ℕ) where
-  abbrev c : Loan
+  abbrev pub c : Loan
   c = loan s f file v ins l m
 
   -- row 10's cause: a length, or another one
@@ -33,11 +31,11 @@ module _ (s : List ℕ) (f : Form) (file v ins l m : List ℕ) where
   -- WHAT WAS READ
 
   module _ (cause : Bool) {bad : Bool} (h : Bad cause bad) where
-    replied : {r : Checked} → Readies s f file bad r → (next : Verdict) → checked r next ≡ ready c cause next
+    replied : {r : Result Settings Refusal} → Readies s f file bad r → (next : Verdict) → checked r next ≡ ready c cause next
     unfolding ready
     replied R next = R.reply next ∙ ap (λ (b : Bool). reading s f file (ready_rows (settings_of s) (file_tree file) b next)) h
 
-    module _ {σ : Settings} (R : Readies s f file bad (Valid σ)) where
+    module _ {σ : Settings} (R : Readies s f file bad (Ok σ)) where
       none_bad : (bad_lengths (length v) (length ins) (length l) (length m) ≡ false) × (cause ≡ false)
       none_bad = neither (bad_lengths (length v) (length ins) (length l) (length m)) cause (sym h ∙ R.good σ refl)
 
@@ -50,22 +48,22 @@ module _ (s : List ℕ) (f : Form) (file v ins l m : List ℕ) where
   -- RUN AND RESTART
 
   module _ {bad : Bool} (h : Bad false bad) where
-    pub run_refused : {x : Refusal} → Readies s f file bad (Refused x) → (ran (Ran.Refused x) ≡ run_reply c) × (buffers_of v l m ≡ run_buffers c)
+    pub run_refused : {x : Refusal} → Readies s f file bad (Err x) → (ran (Err x) ≡ run_reply c) × (buffers_of v l m ≡ run_buffers c)
     unfolding run_reply run_buffers
     run_refused {x} R =
         let e = replied false h R (ended 0 (steps_of c)) in
         let new = leave (steps_of c) (cleared v) in
         (e, ap (λ (y : Verdict). kept y new (buffers_of v l m)) e)
 
-    pub restart_refused : {x : Refusal} → Readies s f file bad (Refused x) → (ran (Ran.Refused x) ≡ restart_reply c) × (buffers_of v l m ≡ restart_buffers c)
+    pub restart_refused : {x : Refusal} → Readies s f file bad (Err x) → (ran (Err x) ≡ restart_reply c) × (buffers_of v l m ≡ restart_buffers c)
     unfolding restart_reply restart_buffers
     restart_refused {x} R =
         let e = replied false h R (ended 0 (taken_up c (start v))) in
         let new = taken_buffers c (start v) in
         (e, ap (λ (y : Verdict). kept y new (buffers_of v l m)) e)
 
-    module _ {σ : Settings} (R : Readies s f file bad (Valid σ)) {v' l' m' : List ℕ} {e : Progress} where
-      pub run_finished : RunWhole file σ ins v (replicate 8 0) (replicate 8 0) v' l' m' e → (ran (Ran.Ended e.tick e.overran) ≡ run_reply c) × (buffers_of v' l' m' ≡ run_buffers c)
+    module _ {σ : Settings} (R : Readies s f file bad (Ok σ)) {v' l' m' : List ℕ} {e : Ran} where
+      pub run_finished : RunWhole file σ ins v (replicate 8 0) (replicate 8 0) v' l' m' e → (ran (Ok e) ≡ run_reply c) × (buffers_of v' l' m' ≡ run_buffers c)
       unfolding run_reply run_buffers steps_of
       run_finished W =
           let W' = subst (λ (τ : Settings). RunWhole file τ ins v (replicate 8 0) (replicate 8 0) v' l' m' e) (R.settings σ refl) W in
@@ -75,7 +73,7 @@ module _ (s : List ℕ) (f : Form) (file v ins l m : List ℕ) where
             W'.leaves ∙ ap (λ (y : Verdict). kept y (leave es (cleared v)) (buffers_of v l m)) k,
           )
 
-      pub restart_finished : RunWhole file σ ins v l m v' l' m' e → (ran (Ran.Ended e.tick e.overran) ≡ restart_reply c) × (buffers_of v' l' m' ≡ restart_buffers c)
+      pub restart_finished : RunWhole file σ ins v l m v' l' m' e → (ran (Ok e) ≡ restart_reply c) × (buffers_of v' l' m' ≡ restart_buffers c)
       unfolding restart_reply restart_buffers taken_up taken_buffers take_up
       restart_finished W =
           let W' = subst (λ (τ : Settings). RunWhole file τ ins v l m v' l' m' e) (R.settings σ refl) W in
@@ -93,14 +91,14 @@ module _ (s : List ℕ) (f : Form) (file v ins l m : List ℕ) where
     abbrev cause : Bool
     cause = not (eqb (length image) 72)
 
-    pub image_lent : {σ : Settings} → Readies s f file bad (Valid σ) → length image ≡ 72
+    pub image_lent : {σ : Settings} → Readies s f file bad (Ok σ) → length image ≡ 72
     image_lent R = equal_of (length image) 72 (no_cause cause h R)
 
     module _ (stop : ℕ) where
-      abbrev Until : Stopped → List ℕ → List ℕ → List ℕ → List ℕ → Type 0
+      abbrev pub Until : Result Stopped Refusal → List ℕ → List ℕ → List ℕ → List ℕ → Type 0
       Until r v' l' m' image' = (stopped r ≡ stop_reply c image stop) × (buffers_of v' l' m' ≡ stop_buffers c image stop) × (image' ≡ stop_image c image stop)
 
-      pub until_refused : {x : Refusal} → Readies s f file bad (Refused x) → Until (Stopped.Refused x) v l m image
+      pub until_refused : {x : Refusal} → Readies s f file bad (Err x) → Until (Err x) v l m image
       unfolding stop_reply stop_buffers stop_image image_at
       until_refused {x} R =
           let e = replied cause h R (stop_rows (steps_of c) v stop) in
@@ -111,7 +109,7 @@ module _ (s : List ℕ) (f : Form) (file v ins l m : List ℕ) where
             ap (λ (y : Verdict). kept y saved image) e,
           )
 
-      pub until_finished : {σ : Settings} → Readies s f file bad (Valid σ) → {v' l' m' image' : List ℕ} {r : Stopped} → StopsSound file σ ins stop v l m image v' l' m' image' r
+      pub until_finished : {σ : Settings} → Readies s f file bad (Ok σ) → {v' l' m' image' : List ℕ} {r : Result Stopped Refusal} → StopsSound file σ ins stop v l m image v' l' m' image' r
           → Until r v' l' m' image'
       unfolding stop_reply stop_buffers stop_image image_at steps_of
       until_finished {σ} R {v'} {l'} {m'} {image'} {r} S =
@@ -123,17 +121,17 @@ module _ (s : List ℕ) (f : Form) (file v ins l m : List ℕ) where
             S'.saves ∙ ap (λ (y : Verdict). kept y (image_over (last_image (upto stop es) 0 v none) image) image) e,
           )
 
-    abbrev From : Ran → List ℕ → List ℕ → List ℕ → Type 0
+    abbrev pub From : Result Ran Refusal → List ℕ → List ℕ → List ℕ → Type 0
     From r v' l' m' = (ran r ≡ resume_reply c image) × (buffers_of v' l' m' ≡ resume_buffers c image)
 
-    pub resume_refused : {x : Refusal} → Readies s f file bad (Refused x) → From (Ran.Refused x) v l m
+    pub resume_refused : {x : Refusal} → Readies s f file bad (Err x) → From (Err x) v l m
     unfolding resume_reply resume_buffers taken_up
     resume_refused {x} R =
         let e = replied cause h R (again_rows file (settings_of s) ins (image_of image)) in
         let new = taken_buffers c (image_of image) in
         (e, ap (λ (y : Verdict). kept y new (buffers_of v l m)) e)
 
-    pub resume_finished : {σ : Settings} → Readies s f file bad (Valid σ) → {v' l' m' : List ℕ} {r : Ran} → Resumes file σ ins v l m image v' l' m' r → From r v' l' m'
+    pub resume_finished : {σ : Settings} → Readies s f file bad (Ok σ) → {v' l' m' : List ℕ} {r : Result Ran Refusal} → Resumes file σ ins v l m image v' l' m' r → From r v' l' m'
     unfolding resume_reply resume_buffers taken_up taken_buffers
     resume_finished {σ} R {v'} {l'} {m'} {r} S =
         let S' = subst (λ (τ : Settings). Resumes file τ ins v l m image v' l' m' r) (R.settings σ refl) S in

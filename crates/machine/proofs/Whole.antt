@@ -5,30 +5,32 @@ use mathlib.Core.Path.{◌≡◌, refl, ap, ap₂, sym, subst, ◌∙◌}
 use mathlib.Core.Bool.{Bool, true, false, not, ◌||◌, or-true, false≢true}
 use mathlib.Core.List.{List, [], ◌∷◌}
 use lib.Dec.{eqb, ltb}
-use lib.ListN.{length, get_or, take, drop, replicate}
-use borrow.Author.Tests.{not-true, not-false, eqb-true, ltb-true, ltb-false, lt-ltb, le-ltb, le-leb, lt-leb}
-use Rattle.model.specs.declared.{Settings.Settings, Stopped.Stopped, Ran.Ran, Refusal.Refusal}
+use lib.ListN.{length, get_or-eq_default, replicate}
+use borrow.Author.Tests.{not-true, not-false, eqb-true, ltb-true, ltb-false, lt-ltb, le-ltb, le-leb, lt-leb, ne_eqb}
+use Rattle.model.specs.declared.{Settings.Settings, Ran.Ran, Refusal.Refusal}
 use Rattle.model.specs.Trees.{Block, nil, ◌⧺◌, size, file_tree}
 use Rattle.model.specs.Runs.{Step, duration, variables_after, outputs_after, level, mark, overran, Buffers, leave, cleared, run}
-use Rattle.model.specs.Stopping.{upto, Image, Saved, none, last_image, words_from, image_of, rest, take_up}
+use Rattle.model.specs.Stopping.{upto, Image, Saved, none, last_image, image_of, rest, take_up}
 use Rattle.model.specs.Replies.{ended, bad_lengths, is_saved, stop_rows, image_over, after_save, stray_image, buffers_of}
 use Rattle.model.specs.Answers.{Verdict, finished, refused, bit, kept}
 use Rattle.laws.proofs.{Trees.⧺-nil}
-use Rattle.model.specs.{Placement.LoopFree, Records.Bytes}
+use Rattle.model.specs.{Placement.LoopFree}
 use Rattle.laws.proofs.Shapes.{neither}
 use Rattle.theory.proofs.{Sequences.⊳-nil, Reached.rest_reached, Stops.upto_all, Within.run_within}
 use Rattle.reading.proofs.Walking.{whole_file}
-use Rattle.stepping.specs.declared.progress.Progress.{Progress}
-use Rattle.stepping.specs.Machines.{Held, held, Machine, machine, does, runs}
+use Rattle.std.specs.Prelude.{Result, Ok, Err}
+use Rattle.stepping.specs.declared.progress.{Place.Place, Halt.Halt, Halt.TheVariants.Cut, Halt.TheVariants.Overran}
+use Rattle.stepping.specs.declared.store.{Image.Image as Kept, Store.Store}
+use Rattle.stepping.specs.Machines.{Held, pictured, held, empty, Machine, machine, does, runs}
 use Rattle.stepping.specs.Steps.{going, reached}
 use Rattle.stepping.specs.Buffers.{with_variables, with_outputs, Stored, StoredImage}
-use Rattle.stepping.proofs.ImageLaws.{beyond}
 use Rattle.running.specs.Promises.{at_end, Chain, along, Started, RecordsRan}
 use Rattle.running.proofs.{Files.file_sound, Files.file_size, Doing.held_after, Doing.does_upto, Running.runs_same}
 use Rattle.running.proofs.Positions.{joined, Position, position, rest_shorter}
 use Rattle.running.proofs.Bare.{bare, ahead_joined, runs_bare}
-use Rattle.machine.specs.Calls.{ReadyToRun, steps, RunWhole, StopsSound, again_rows, Resumes}
+use Rattle.model.specs.Records.{Bytes}
 use Rattle.machine.proofs.Marks.{marks_bytes}
+use Rattle.machine.specs.Calls.{told, was_cut, ReadyToRun, steps, RunWhole, StopsSound, again_rows, Resumes}
 
 -- LENGTHS
 
@@ -52,24 +54,40 @@ good_lengths v i l m e =
 -- WHAT STEPS LEAVE
 
 -- the steps us are done from tick t on, from b on
-pub record Left (us : List Step) (t : ℕ) (b : Buffers) (e : Progress) (new : List ℕ) : Type 0 where
+pub record Left (us : List Step) (t : ℕ) (b : Buffers) (e : Ran) (new : Store) : Type 0 where
   pub tick : e.tick ≡ t + duration us
   pub overran_too : e.overran ≡ overran us
   pub variables : (held new).variables ≡ variables_after us b.variables
   pub levels : (held new).levels ≡ outputs_after level us b.levels
   pub marks : (held new).marks ≡ outputs_after mark us b.marks
 
-module _ {us : List Step} {t : ℕ} {b : Buffers} {e : Progress} {new : List ℕ} (L : Left us t b e new) where
+module _ {us : List Step} {t : ℕ} {b : Buffers} {e : Ran} {new : Store} (L : Left us t b e new) where
   pub left_bytes : Bytes b.marks → Bytes (held new).marks
   left_bytes h = subst Bytes (sym L.marks) (marks_bytes us b.marks h)
 
   left_stored : {v l m : List ℕ} → Stored (held new) v l m → buffers_of v l m ≡ leave us b
   left_stored S = rw (S.variables ∙ L.variables, S.levels ∙ L.levels, S.marks ∙ L.marks)
 
--- the outputs and the image before the first step
-cleared_cells : (v : List ℕ) → with_variables v (held (replicate 50 0)) ≡ record { variables = v; levels = replicate 8 0; marks = replicate 8 0; image = none }
-unfolding held
-cleared_cells v = refl
+-- what is answered of where a run ended
+told_tick : (r : Result Place Halt) (new : Store) → (told r).tick ≡ (reached r new).tick
+told_tick (Ok p) new = refl
+told_tick (Err (Cut t)) new = refl
+told_tick (Err (Overran t)) new = refl
+
+reached_holds : (r : Result Place Halt) (new : Store) → held new ≡ (reached r new).holds
+reached_holds (Ok p) new = refl
+reached_holds (Err (Cut t)) new = refl
+reached_holds (Err (Overran t)) new = refl
+
+cut_is : (r : Result Place Halt) (new : Store) → was_cut r ≡ (reached r new).cut
+cut_is (Ok p) new = refl
+cut_is (Err (Cut t)) new = refl
+cut_is (Err (Overran t)) new = refl
+
+told_overran : (r : Result Place Halt) (new : Store) → (told r).overran ≡ (reached r new).overran
+told_overran (Ok p) new = refl
+told_overran (Err (Cut t)) new = refl
+told_overran (Err (Overran t)) new = refl
 
 -- THE WHOLE FILE
 
@@ -80,18 +98,18 @@ module _ {file : List ℕ} {σ : Settings} {v ins l m : List ℕ} (R : ReadyToRu
   abbrev whole_chain : Chain R.form file 0 (length file / 12)
   whole_chain = record { file = whole_file R.sound; pending = []; follows = at_end {k = 0 + size (file_tree file)} (omega (arith, file_size R.sound)) }
 
-  pub whole_started : {w : List ℕ} {limit : ℕ} → length w ≡ 50 → Started file 0 ins w limit 0
-  whole_started k = record { form = R.form; sound = R.sound; lent = record { inputs = lent.inputs; cells = k }; early = omega arith; chain = whole_chain }
+  pub whole_started : {limit : ℕ} → Started file 0 ins limit 0
+  whole_started = record { form = R.form; sound = R.sound; inputs = lent.inputs; early = omega arith; chain = whole_chain }
 
   -- run from what h holds, up to a limit
-  module _ {limit : ℕ} {w new : List ℕ} {e : Progress} {h : Held} (B : RecordsRan file 0 (length file / 12) σ ins limit 0 w new e) (k : held w ≡ h) (same : h.variables ≡ v) where
+  module _ {limit : ℕ} {w new : Store} {r : Result Place Halt} {h : Held} (B : RecordsRan file 0 (length file / 12) σ ins limit 0 w new r) (k : held w ≡ h) (same : h.variables ≡ v) where
     abbrev done : List Step
     done = upto limit (steps file σ ins v)
 
     abbrev outcome : List Step → ℕ → Machine
     outcome es c = machine (0 + duration (upto c es)) (ltb c (duration es)) (overran (upto c es)) (held_after (upto c es) 0 h)
 
-    whole_reaches : reached e new ≡ outcome (steps file σ ins v) limit
+    whole_reaches : reached r new ≡ outcome (steps file σ ins v) limit
     unfolding runs
     whole_reaches =
         (B.right R.form whole_chain).reaches
@@ -101,52 +119,52 @@ module _ {file : List ℕ} {σ : Settings} {v ins l m : List ℕ} (R : ReadyToRu
         ∙ does_upto limit (steps file σ ins v) 0 false h (omega arith)
         ∙ ap (outcome (steps file σ ins v)) (sub-zero limit)
 
-    whole_left : Left done 0 (buffers_of v h.levels h.marks) e new
+    whole_holds : held new ≡ held_after done 0 h
+    whole_holds = reached_holds r new ∙ ap (λ (x : Machine). x.holds) whole_reaches
+
+    whole_left : Left done 0 (buffers_of v h.levels h.marks) (told r) new
     whole_left = record {
-      tick = ap (λ (x : Machine). x.tick) whole_reaches;
-      overran_too = ap (λ (x : Machine). x.overran) whole_reaches;
-      variables = ap (λ (x : Machine). x.holds.variables) whole_reaches ∙ ap (variables_after done) same;
-      levels = ap (λ (x : Machine). x.holds.levels) whole_reaches;
-      marks = ap (λ (x : Machine). x.holds.marks) whole_reaches;
+      tick = told_tick r new ∙ ap (λ (x : Machine). x.tick) whole_reaches;
+      overran_too = told_overran r new ∙ ap (λ (x : Machine). x.overran) whole_reaches;
+      variables = ap (λ (x : Held). x.variables) whole_holds ∙ ap (variables_after done) same;
+      levels = ap (λ (x : Held). x.levels) whole_holds;
+      marks = ap (λ (x : Held). x.marks) whole_holds;
     }
 
-    whole_cut : e.cut ≡ ltb limit (duration (steps file σ ins v))
-    whole_cut = ap (λ (x : Machine). x.cut) whole_reaches
+    whole_cut : was_cut r ≡ ltb limit (duration (steps file σ ins v))
+    whole_cut = cut_is r new ∙ ap (λ (x : Machine). x.cut) whole_reaches
 
     whole_image : (held new).image ≡ last_image done 0 v h.image
-    whole_image = ap (λ (x : Machine). x.holds.image) whole_reaches ∙ ap (λ (x : List ℕ). last_image done 0 x h.image) same
+    whole_image = ap (λ (x : Held). x.image) whole_holds ∙ ap (λ (x : List ℕ). last_image done 0 x h.image) same
 
   -- WHOLE: it ends within the period
 
-  module _ {w new : List ℕ} {e : Progress} (B : RecordsRan file 0 (length file / 12) σ ins σ.period 0 w new e)
-      (k : held w ≡ with_outputs l m (with_variables v (held (replicate 50 0)))) where
+  module _ {w new : Store} {r : Result Place Halt} (B : RecordsRan file 0 (length file / 12) σ ins σ.period 0 w new r)
+      (k : held w ≡ with_outputs l m (with_variables v empty)) where
     all_done : upto σ.period (steps file σ ins v) ≡ steps file σ ins v
     all_done = upto_all σ.period (steps file σ ins v) (omega (arith, (run_within σ ins (file_tree file) 0).in_all v, R.in_time))
 
-    pub run_left : Left (steps file σ ins v) 0 (buffers_of v l m) e new
-    run_left = subst (λ (us : List Step). Left us 0 (buffers_of v l m) e new) all_done (whole_left B k refl)
+    pub run_left : Left (steps file σ ins v) 0 (buffers_of v l m) (told r) new
+    run_left = subst (λ (us : List Step). Left us 0 (buffers_of v l m) (told r) new) all_done (whole_left B k refl)
 
-    pub run_ran : {v' l' m' : List ℕ} → Stored (held new) v' l' m' → RunWhole file σ ins v l m v' l' m' e
+    pub run_ran : {v' l' m' : List ℕ} → Stored (held new) v' l' m' → RunWhole file σ ins v l m v' l' m' (told r)
     run_ran S = record { tick = omega (arith, run_left.tick); overran_too = run_left.overran_too; leaves = left_stored run_left S }
 
   -- UP TO A STOP TICK
 
-  module _ {stop : ℕ} {w new : List ℕ} {e : Progress} (B : RecordsRan file 0 (length file / 12) σ ins stop 0 w new e) (a : held w ≡ with_variables v (held (replicate 50 0))) where
+  module _ {stop : ℕ} {w new : Store} {r : Result Place Halt} (B : RecordsRan file 0 (length file / 12) σ ins stop 0 w new r) (a : held w ≡ with_variables v empty) where
     abbrev es : List Step
     es = steps file σ ins v
 
-    start_cells : held w ≡ record { variables = v; levels = replicate 8 0; marks = replicate 8 0; image = none }
-    start_cells = a ∙ cleared_cells v
-
-    pub stop_left : Left (upto stop es) 0 (cleared v) e new
-    stop_left = whole_left B start_cells refl
+    pub stop_left : Left (upto stop es) 0 (cleared v) (told r) new
+    stop_left = whole_left B a refl
 
     abbrev result : Saved
     result = last_image (upto stop es) 0 v none
 
-    pub stop_late : {image : List ℕ} → not e.cut ≡ true → StopsSound file σ ins stop v l m image v l m image (Stopped.Refused Refusal.LateStop)
-    stop_late {image} n =
-        let c = ltb-false stop (duration es) (sym (whole_cut B start_cells refl) ∙ not-true e.cut n) in
+    pub stop_late : {image : List ℕ} {o : Bool} → o ≡ was_cut r → not o ≡ true → StopsSound file σ ins stop v l m image v l m image (Err Refusal.LateStop)
+    stop_late {image} {o} w n =
+        let c = ltb-false stop (duration es) (sym (whole_cut B a refl) ∙ sym w ∙ not-true o n) in
         let r : refused 12 [] ≡ stop_rows es v stop = rw (le-leb (duration es) stop c) in
         record {
           reply = r;
@@ -154,11 +172,11 @@ module _ {file : List ℕ} {σ : Settings} {v ins l m : List ℕ} (R : ReadyToRu
           saves = ap (λ (x : Verdict). kept x (image_over result image) image) r;
         }
 
-    pub stop_done : {image v' l' m' image' : List ℕ} {o : Bool} → not e.cut ≡ false → Stored (held new) v' l' m' → StoredImage (held new).image image image' o
-        → StopsSound file σ ins stop v l m image v' l' m' image' (Stopped.At stop o)
-    stop_done {image} {v'} {l'} {m'} {image'} {o} n S I =
-        let c = ltb-true stop (duration es) (sym (whole_cut B start_cells refl) ∙ not-false e.cut n) in
-        let i = whole_image B start_cells refl in
+    pub stop_done : {image v' l' m' image' : List ℕ} {o k : Bool} → k ≡ was_cut r → not k ≡ false → Stored (held new) v' l' m' → StoredImage (held new).image image image' o
+        → StopsSound file σ ins stop v l m image v' l' m' image' (Ok (record { tick = stop; saved = o }))
+    stop_done {image} {v'} {l'} {m'} {image'} {o} {k} w n S I =
+        let c = ltb-true stop (duration es) (sym (whole_cut B a refl) ∙ sym w ∙ not-false k n) in
+        let i = whole_image B a refl in
         let r : finished (stop ∷ 0 ∷ bit (is_saved result) ∷ []) ≡ stop_rows es v stop = rw (lt-leb (duration es) stop c) in
         record {
           reply = ap (λ (b : Bool). finished (stop ∷ 0 ∷ bit b ∷ [])) (I.told ∙ ap is_saved i) ∙ r;
@@ -178,19 +196,23 @@ module _ {file : List ℕ} {σ : Settings} {v ins l₀ m₀ : List ℕ} where
     lengths = rw (e, k, (lent R).variables, (lent R).inputs);
   }
 
-  pub cleared_run : {v' l' m' : List ℕ} {p : Progress} → l₀ ≡ replicate 8 0 → m₀ ≡ replicate 8 0 → RunWhole file σ ins v l₀ m₀ v' l' m' p
+  pub cleared_run : {v' l' m' : List ℕ} {p : Ran} → l₀ ≡ replicate 8 0 → m₀ ≡ replicate 8 0 → RunWhole file σ ins v l₀ m₀ v' l' m' p
       → RunWhole file σ ins v (replicate 8 0) (replicate 8 0) v' l' m' p
   cleared_run {v'} {l'} {m'} {p} e k W =
       subst (λ (x : List ℕ). RunWhole file σ ins v (replicate 8 0) x v' l' m' p) k (subst (λ (x : List ℕ). RunWhole file σ ins v x m₀ v' l' m' p) e W)
 
 -- FROM AN IMAGE ON
 
+-- no record is there
+beyond : (file : List ℕ) {j : ℕ} → (j ≡ 0 → ⊥) → length file ≤ 12 * (j - 1) → false ≡ after_save file j
+beyond file {j} h l = ap (λ (k : ℕ). eqb k 12) (sym (get_or-eq_default file 0 l)) ∙ rw (ne_eqb j 0 h)
+
 module _ {file : List ℕ} {σ : Settings} {v ins l m : List ℕ} (R : ReadyToRun file σ v ins l m) (M : Image) where
   abbrev leaving : Image → Buffers
   leaving x = kept (again_rows file σ ins x) (leave (take_up σ ins (file_tree file) x) (buffers_of x.variables l m)) (buffers_of v l m)
 
   -- row 11
-  resume_stray : {image : List ℕ} → M ≡ image_of image → stray_image σ file M ≡ true → Resumes file σ ins v l m image v l m (Ran.Refused Refusal.BadImage)
+  resume_stray : {image : List ℕ} → M ≡ image_of image → stray_image σ file M ≡ true → Resumes file σ ins v l m image v l m (Err Refusal.BadImage)
   resume_stray is e =
       let r : refused 11 [] ≡ again_rows file σ ins M = rw e in
       record {
@@ -225,11 +247,11 @@ module _ {file : List ℕ} {σ : Settings} {v ins l m : List ℕ} (R : ReadyToRu
     place_is : place.chain.file.block ⧺ joined place.chain.pending ≡ rest (file_tree file) j
     place_is = place.is ∙ ⧺-nil (rest (file_tree file) (j - 0)) ∙ ap (rest (file_tree file)) (sub-zero j)
 
-    resume_started : {w : List ℕ} → length w ≡ 50 → Started file j ins w (t + σ.period) t
-    resume_started k = record {
+    resume_started : Started file j ins (t + σ.period) t
+    resume_started = record {
       form = R.form;
       sound = R.sound;
-      lent = record { inputs = (lent R).inputs; cells = k };
+      inputs = (lent R).inputs;
       early = omega arith;
       chain = place.chain;
     }
@@ -237,10 +259,10 @@ module _ {file : List ℕ} {σ : Settings} {v ins l m : List ℕ} (R : ReadyToRu
     abbrev again : List Step
     again = take_up σ ins (file_tree file) M
 
-    module _ {w new : List ℕ} {e : Progress} (T : RecordsRan file j (length file / 12) σ ins (t + σ.period) t w new e)
-        (k : held w ≡ with_outputs l m (with_variables M.variables (held (replicate 50 0)))) where
+    module _ {w new : Store} {r : Result Place Halt} (T : RecordsRan file j (length file / 12) σ ins (t + σ.period) t w new r)
+        (k : held w ≡ with_outputs l m (with_variables M.variables empty)) where
       abbrev from : Held
-      from = with_outputs l m (with_variables M.variables (held (replicate 50 0)))
+      from = with_outputs l m (with_variables M.variables empty)
 
       within_period : duration again ≤ σ.period
       unfolding take_up
@@ -249,7 +271,7 @@ module _ {file : List ℕ} {σ : Settings} {v ins l m : List ℕ} (R : ReadyToRu
       abbrev outcome_from : List Step → ℕ → Machine
       outcome_from es c = machine (t + duration (upto c es)) (ltb c (duration es)) (overran (upto c es)) (held_after (upto c es) t from)
 
-      resume_reaches : bare (reached e new) ≡ bare (outcome_from again (t + σ.period - t))
+      resume_reaches : bare (reached r new) ≡ bare (outcome_from again (t + σ.period - t))
       unfolding runs take_up
       resume_reaches =
           let C = place.chain in
@@ -263,20 +285,20 @@ module _ {file : List ℕ} {σ : Settings} {v ins l m : List ℕ} (R : ReadyToRu
       resume_done : upto (t + σ.period - t) again ≡ again
       resume_done = upto_all (t + σ.period - t) again (omega (arith, within_period))
 
-      resume_left : Left again t (buffers_of M.variables l m) e new
+      resume_left : Left again t (buffers_of M.variables l m) (told r) new
       resume_left =
           let q = resume_reaches in
-          subst (λ (us : List Step). Left us t (buffers_of M.variables l m) e new) resume_done
+          subst (λ (us : List Step). Left us t (buffers_of M.variables l m) (told r) new) resume_done
           (record {
-            tick = ap (λ (x : Machine). x.tick) q;
-            overran_too = ap (λ (x : Machine). x.overran) q;
-            variables = ap (λ (x : Machine). x.holds.variables) q;
-            levels = ap (λ (x : Machine). x.holds.levels) q;
-            marks = ap (λ (x : Machine). x.holds.marks) q;
+            tick = told_tick r new ∙ ap (λ (x : Machine). x.tick) q;
+            overran_too = told_overran r new ∙ ap (λ (x : Machine). x.overran) q;
+            variables = ap (λ (x : Held). x.variables) (reached_holds r new) ∙ ap (λ (x : Machine). x.holds.variables) q;
+            levels = ap (λ (x : Held). x.levels) (reached_holds r new) ∙ ap (λ (x : Machine). x.holds.levels) q;
+            marks = ap (λ (x : Held). x.marks) (reached_holds r new) ∙ ap (λ (x : Machine). x.holds.marks) q;
           })
 
       resume_ran : {image v' l' m' : List ℕ} → M ≡ image_of image → Stored (held new) v' l' m'
-          → Resumes file σ ins v l m image v' l' m' (Ran.Ended e.tick e.overran)
+          → Resumes file σ ins v l m image v' l' m' (Ok (told r))
       resume_ran is S =
           let r : ended t again ≡ again_rows file σ ins M = rw (a, le-ltb σ.period t p) in
           record {
@@ -284,43 +306,30 @@ module _ {file : List ℕ} {σ : Settings} {v ins l m : List ℕ} (R : ReadyToRu
             leaves = left_stored resume_left S ∙ ap (λ (x : Verdict). kept x (leave again (buffers_of M.variables l m)) (buffers_of v l m)) r ∙ ap leaving is;
           }
 
--- the image in 18 words that were read
-abbrev image_from : List ℕ → Image
-image_from w = record { index = get_or w 0 0; tick = get_or w 1 0; variables = take 16 (drop 2 w) }
+-- THE IMAGE THAT WAS READ
 
-image_is : (w image : List ℕ) → w ≡ words_from image 0 18 → image_from w ≡ image_of image
-unfolding image_of
-image_is w image e = rw e
+-- whether it can be taken up, as it was tried
+tried : (file : List ℕ) (i : ℕ) {o : Bool} → o ≡ after_save file i → not o ≡ false → after_save file i ≡ true
+tried file i {o} s n = sym s ∙ not-false o n
 
-pub index_small : (w image : List ℕ) → w ≡ words_from image 0 18 → Bytes image → get_or w 0 0 < 4294967296
-index_small w image e h = rw e (omega (arith, h 0, h 1, h 2, h 3))
+module _ {file : List ℕ} {σ : Settings} {v ins l m : List ℕ} (R : ReadyToRun file σ v ins l m) (M : Kept) {o : Bool} (s : o ≡ after_save file M.index) where
+  pub image_started : not o ≡ false → M.tick ≤ σ.period → Started file M.index ins (M.tick + σ.period) M.tick
+  image_started n p = resume_started R (pictured M) (tried file M.index s n) p
 
-module _ {file : List ℕ} {σ : Settings} {v ins l m : List ℕ} (R : ReadyToRun file σ v ins l m) (w : List ℕ) where
-  module _ {o : Bool} (s : o ≡ after_save file (get_or w 0 0)) where
-    pub words_stray : {image : List ℕ} → w ≡ words_from image 0 18 → not o ≡ true → Resumes file σ ins v l m image v l m (Ran.Refused Refusal.BadImage)
-    words_stray {image} e n = resume_stray R (image_from w) (image_is w image e) (rw (sym s ∙ not-true o n))
+  pub image_bytes : not o ≡ false → M.tick ≤ σ.period → {w new : Store} {r : Result Place Halt}
+      → RecordsRan file M.index (length file / 12) σ ins (M.tick + σ.period) M.tick w new r
+      → held w ≡ with_outputs l m (with_variables M.variables empty) → Bytes m → Bytes (held new).marks
+  image_bytes n p T k h = left_bytes (resume_left R (pictured M) (tried file M.index s n) p T k) h
 
-    module _ (n : not o ≡ false) (p : get_or w 1 0 ≤ σ.period) where
-      abbrev index : ℕ
-      index = get_or w 0 0
+  module _ {image : List ℕ} (is : pictured M ≡ image_of image) where
+    pub image_stray : not o ≡ true → Resumes file σ ins v l m image v l m (Err Refusal.BadImage)
+    image_stray n = resume_stray R (pictured M) is (rw (sym s ∙ not-true o n))
 
-      abbrev tick : ℕ
-      tick = get_or w 1 0
+    pub image_late : σ.period < M.tick → Resumes file σ ins v l m image v l m (Err Refusal.BadImage)
+    image_late p = resume_stray R (pictured M) is (rw (lt-ltb σ.period M.tick p) (or-true (not (after_save file M.index))))
 
-      there : after_save file index ≡ true
-      there = sym s ∙ not-false o n
-
-      pub words_started : {cells : List ℕ} → length cells ≡ 50 → Started file index ins cells (tick + σ.period) tick
-      words_started k = resume_started R (image_from w) there p k
-
-      module _ {cells new : List ℕ} {e : Progress} (T : RecordsRan file index (length file / 12) σ ins (tick + σ.period) tick cells new e)
-          (k : held cells ≡ with_outputs l m (with_variables (take 16 (drop 2 w)) (held (replicate 50 0)))) where
-        pub words_bytes : Bytes m → Bytes (held new).marks
-        words_bytes h = left_bytes (resume_left R (image_from w) there p T k) h
-
-        pub words_ran : {image v' l' m' : List ℕ} → w ≡ words_from image 0 18 → Stored (held new) v' l' m'
-            → Resumes file σ ins v l m image v' l' m' (Ran.Ended e.tick e.overran)
-        words_ran {image} e S = resume_ran R (image_from w) there p T k (image_is w image e) S
-
-  pub words_late : {image : List ℕ} → w ≡ words_from image 0 18 → σ.period < get_or w 1 0 → Resumes file σ ins v l m image v l m (Ran.Refused Refusal.BadImage)
-  words_late {image} e p = resume_stray R (image_from w) (image_is w image e) (rw (lt-ltb σ.period (get_or w 1 0) p) (or-true (not (after_save file (get_or w 0 0)))))
+    pub image_ran : not o ≡ false → M.tick ≤ σ.period → {w new : Store} {r : Result Place Halt}
+        → RecordsRan file M.index (length file / 12) σ ins (M.tick + σ.period) M.tick w new r
+        → held w ≡ with_outputs l m (with_variables M.variables empty) → {v' l' m' : List ℕ} → Stored (held new) v' l' m'
+        → Resumes file σ ins v l m image v' l' m' (Ok (told r))
+    image_ran n p T k S = resume_ran R (pictured M) (tried file M.index s n) p T k is S

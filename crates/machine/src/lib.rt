@@ -1,4 +1,4 @@
-// Runs of files of all three forms: whole, up to a tick, and taken up.
+// Runs of files of all three forms: whole, up to a tick, and taken up. Each buffer is a parameter of its own, as C lends it.
 #![tactic(auto)]
 
 mod ready;
@@ -8,27 +8,52 @@ ghost use Rattle.model.specs.Limits.{image_length, port_count};
 ghost use Rattle.model.specs.Answers.{ran, stopped};
 ghost use Rattle.model.specs.Replies.{run_reply, run_buffers, stop_reply, stop_buffers, stop_image, resume_reply, resume_buffers, restart_reply, restart_buffers};
 ghost use Rattle.model.specs.Replies.{buffers_of, loan};
-ghost use Rattle.machine.specs.Calls.{ReadyToRun, RunWhole, StopsSound, Resumes};
+ghost use Rattle.machine.specs.Calls.{told, was_cut, ReadyToRun, RunWhole, StopsSound, Resumes};
 
-use model::limits::{IMAGE_LENGTH, PORTS};
+use model::limits::IMAGE_LENGTH;
 use model::{Form, Ran, Refusal, Settings, Stopped};
-use reading::Checked;
 use ready::{bad_buffers, ready};
-use records::words::copy;
 use running::tables::run_from;
-use stepping::buffers::{load_outputs, load_variables, load_words, store, store_marks};
-use stepping::cells::CELLS;
-use stepping::images::{after_save, store_image};
-use stepping::progress::Progress;
+use stepping::images::after_save;
+use stepping::progress::{Halt, Place};
+use stepping::store::{Image, Store};
 
 // All levels and marks set to 0.
 fn clear(levels: &mut [u32], marks: &mut [u8])
     requires { (length levels.old ≡ port_count) × (length marks.old ≡ port_count) }
     ensures { (levels.new ≡ replicate port_count 0) × (marks.new ≡ replicate port_count 0) }
 {
-    let zeros: [u32; PORTS] = [0; PORTS];
-    copy(&zeros, levels);
-    store_marks(&zeros, marks);
+    levels.fill(0);
+    marks.fill(0);
+}
+
+// What a run answers that goes on to its end.
+fn ended(end: Result<Place, Halt>) -> Ran
+    ensures { result ≡ told end }
+{
+    match end {
+        Ok(place) => Ran {
+            tick: place.tick,
+            overran: false,
+        },
+        Err(Halt::Cut(tick)) => Ran {
+            tick,
+            overran: false,
+        },
+        Err(Halt::Overran(tick)) => Ran {
+            tick,
+            overran: true,
+        },
+    }
+}
+
+fn was_cut(end: Result<Place, Halt>) -> bool
+    ensures { result ≡ was_cut end }
+{
+    match end {
+        Err(Halt::Cut(_)) => true,
+        Err(Halt::Overran(_)) | Ok(_) => false,
+    }
 }
 
 // The whole file, from the lent variables and outputs on.
@@ -39,17 +64,17 @@ fn run_whole(
     inputs: &[u32],
     levels: &mut [u32],
     marks: &mut [u8],
-) -> Progress
+) -> Ran
     requires { ReadyToRun file.now rack variables.old inputs.now levels.old marks.old }
     ensures { RunWhole file.now rack inputs.now variables.old levels.old marks.old
         variables.new levels.new marks.new result }
 {
-    let mut cells: [u32; CELLS] = [0; CELLS];
-    load_variables(&mut cells, variables);
-    load_outputs(&mut cells, levels, marks);
-    let e = run_from(file, 0, rack, inputs, rack.period, 0, &mut cells);
-    store(&cells, variables, levels, marks);
-    e
+    let mut store = Store::new();
+    store.load_variables(variables);
+    store.load_outputs(levels, marks);
+    let end = run_from(file, 0, &rack, inputs, rack.period, 0, &mut store);
+    store.leave(variables, levels, marks);
+    ended(end)
 }
 
 // A whole run: its end tick and whether it overran, or the first refusal of 6, 1 to 5, 8 and 10.
@@ -61,7 +86,7 @@ pub fn run(
     inputs: &[u32],
     levels: &mut [u32],
     marks: &mut [u8],
-) -> Ran
+) -> Result<Ran, Refusal>
     ensures { let c = loan settings.now form file.now variables.old inputs.now levels.old
         marks.old in
         ((ran result ≡ run_reply c) × (buffers_of variables.new levels.new marks.new ≡ run_buffers c)) }
@@ -73,18 +98,10 @@ pub fn run(
         marks.len(),
         false,
     );
-    let r = ready(settings, form, file, bad);
-    match r {
-        Checked::Refused(x) => Ran::Refused(x),
-        Checked::Valid(rack) => {
-            clear(levels, marks);
-            let end = run_whole(file, rack, variables, inputs, levels, marks);
-            Ran::Ended {
-                tick: end.tick,
-                overran: end.overran,
-            }
-        }
-    }
+    let rack = ready(settings, form, file, bad)?;
+    clear(levels, marks);
+    let end = run_whole(file, rack, variables, inputs, levels, marks);
+    Ok(end)
 }
 
 // Up to the stop tick, with a file that was read: refusal 12 where the run ends by then.
@@ -97,21 +114,21 @@ fn run_until_ready(
     marks: &mut [u8],
     image: &mut [u8],
     stop: u32,
-) -> Stopped
+) -> Result<Stopped, Refusal>
     requires { (ReadyToRun file.now rack variables.old inputs.now levels.old marks.old) × (length image.old ≡ image_length) }
     ensures { StopsSound file.now rack inputs.now stop variables.old levels.old marks.old
         image.old
         variables.new levels.new marks.new image.new result }
 {
-    let mut cells: [u32; CELLS] = [0; CELLS];
-    load_variables(&mut cells, variables);
-    let e = run_from(file, 0, rack, inputs, stop, 0, &mut cells);
-    if !e.cut {
-        return Stopped::Refused(Refusal::LateStop);
+    let mut store = Store::new();
+    store.load_variables(variables);
+    let end = run_from(file, 0, &rack, inputs, stop, 0, &mut store);
+    if !was_cut(end) {
+        return Err(Refusal::LateStop);
     }
-    store(&cells, variables, levels, marks);
-    let saved = store_image(&cells, image);
-    Stopped::At { tick: stop, saved }
+    store.leave(variables, levels, marks);
+    let saved = store.leave_image(image);
+    Ok(Stopped { tick: stop, saved })
 }
 
 // A run stopped at a tick: whether there is an image, or the first refusal of 6, 1 to 5, 8, 10 and 12.
@@ -125,7 +142,7 @@ pub fn run_until(
     marks: &mut [u8],
     image: &mut [u8],
     stop: u32,
-) -> Stopped
+) -> Result<Stopped, Refusal>
     ensures { let c = loan settings.now form file.now variables.old inputs.now levels.old
         marks.old in
         ((stopped result ≡ stop_reply c image.old stop)
@@ -139,13 +156,8 @@ pub fn run_until(
         marks.len(),
         image.len() != IMAGE_LENGTH,
     );
-    let r = ready(settings, form, file, bad);
-    match r {
-        Checked::Refused(x) => Stopped::Refused(x),
-        Checked::Valid(rack) => {
-            run_until_ready(file, rack, variables, inputs, levels, marks, image, stop)
-        }
-    }
+    let rack = ready(settings, form, file, bad)?;
+    run_until_ready(file, rack, variables, inputs, levels, marks, image, stop)
 }
 
 // From an image on, with a file that was read: refusal 11 where it cannot be taken up.
@@ -157,32 +169,28 @@ fn resume_ready(
     levels: &mut [u32],
     marks: &mut [u8],
     image: &[u8],
-) -> Ran
+) -> Result<Ran, Refusal>
     requires { (ReadyToRun file.now rack variables.old inputs.now levels.old marks.old) × (length image.now ≡ image_length) }
     ensures { Resumes file.now rack inputs.now variables.old levels.old marks.old
         image.now
         variables.new levels.new marks.new result }
 {
-    let mut words: [u32; 18] = [0; 18];
-    load_words(image, &mut words);
-    let index = words[0] as usize;
-    let tick = words[1];
+    let last = Image::read(image);
+    let index = last.index as usize;
+    let tick = last.tick;
     if !after_save(file, index) {
-        return Ran::Refused(Refusal::BadImage);
+        return Err(Refusal::BadImage);
     }
     if rack.period < tick {
-        return Ran::Refused(Refusal::BadImage);
+        return Err(Refusal::BadImage);
     }
-    let mut cells: [u32; CELLS] = [0; CELLS];
-    load_variables(&mut cells, &words[2..]);
-    load_outputs(&mut cells, levels, marks);
+    let mut store = Store::new();
+    store.load_variables(&last.variables);
+    store.load_outputs(levels, marks);
     let limit = tick + rack.period;
-    let last = run_from(file, index, rack, inputs, limit, tick, &mut cells);
-    store(&cells, variables, levels, marks);
-    Ran::Ended {
-        tick: last.tick,
-        overran: last.overran,
-    }
+    let end = run_from(file, index, &rack, inputs, limit, tick, &mut store);
+    store.leave(variables, levels, marks);
+    Ok(ended(end))
 }
 
 // A run taken up from an image: its end tick and whether it overran, or the first refusal of 6, 1 to 5, 8, 10 and 11.
@@ -195,7 +203,7 @@ pub fn resume(
     levels: &mut [u32],
     marks: &mut [u8],
     image: &[u8],
-) -> Ran
+) -> Result<Ran, Refusal>
     ensures { let c = loan settings.now form file.now variables.old inputs.now levels.old
         marks.old in
         ((ran result ≡ resume_reply c image.now)
@@ -208,11 +216,8 @@ pub fn resume(
         marks.len(),
         image.len() != IMAGE_LENGTH,
     );
-    let r = ready(settings, form, file, bad);
-    match r {
-        Checked::Refused(x) => Ran::Refused(x),
-        Checked::Valid(rack) => resume_ready(file, rack, variables, inputs, levels, marks, image),
-    }
+    let rack = ready(settings, form, file, bad)?;
+    resume_ready(file, rack, variables, inputs, levels, marks, image)
 }
 
 // A run taken up with no finished SAVE: from the first record and the first variables on, with the outputs as the stop left them.
@@ -224,7 +229,7 @@ pub fn restart(
     inputs: &[u32],
     levels: &mut [u32],
     marks: &mut [u8],
-) -> Ran
+) -> Result<Ran, Refusal>
     ensures { let c = loan settings.now form file.now variables.old inputs.now levels.old
         marks.old in
         ((ran result ≡ restart_reply c) × (buffers_of variables.new levels.new marks.new ≡ restart_buffers c)) }
@@ -236,15 +241,7 @@ pub fn restart(
         marks.len(),
         false,
     );
-    let r = ready(settings, form, file, bad);
-    match r {
-        Checked::Refused(x) => Ran::Refused(x),
-        Checked::Valid(rack) => {
-            let e = run_whole(file, rack, variables, inputs, levels, marks);
-            Ran::Ended {
-                tick: e.tick,
-                overran: e.overran,
-            }
-        }
-    }
+    let rack = ready(settings, form, file, bad)?;
+    let e = run_whole(file, rack, variables, inputs, levels, marks);
+    Ok(e)
 }

@@ -4,10 +4,8 @@ ghost use Rattle.model.specs.Replies.{bad_lengths};
 ghost use Rattle.machine.specs.Calls.{Readies};
 
 use model::limits::{FILE_DEPTH, PORTS, VARIABLES};
-use model::{Form, Refusal};
-use reading::Checked;
+use model::{Form, Refusal, Settings};
 use timing::blocks::block_time;
-use timing::ticks::Time;
 
 // Whether a length is not the table's, or another cause of row 10 holds.
 pub fn bad_buffers(
@@ -23,19 +21,15 @@ pub fn bad_buffers(
 }
 
 // The settings, or the first refusal of the rows. bad is row 10's cause.
-pub fn ready(settings: &[u8], form: Form, file: &[u8], bad: bool) -> Checked
+pub fn ready(settings: &[u8], form: Form, file: &[u8], bad: bool) -> Result<Settings, Refusal>
     ensures { Readies settings.now form file.now bad result }
 {
-    let read = reading::read(settings, form, file);
-    let Checked::Valid(rack) = read else {
-        return read;
-    };
-    let time = block_time(file, 0, file.len() / 12, FILE_DEPTH, rack);
-    let Time::Ticks(_) = time else {
-        return Checked::Refused(Refusal::OverPeriod);
+    let rack = reading::read(settings, form, file)?;
+    let Some(_) = block_time(file, 0, file.len() / 12, FILE_DEPTH, rack) else {
+        return Err(Refusal::OverPeriod);
     };
     if bad {
-        return Checked::Refused(Refusal::BadBuffers);
+        return Err(Refusal::BadBuffers);
     }
-    Checked::Valid(rack)
+    Ok(rack)
 }

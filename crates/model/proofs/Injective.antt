@@ -2,11 +2,13 @@
 use Prim.Native.Nat.{ℕ}
 use mathlib.Core.Path.{◌≡◌, refl, ap, ap₂, sym, ◌∙◌}
 use mathlib.Core.Bool.{Bool, true, false, cond}
-use mathlib.Core.List.{List}
+use mathlib.Core.List.{List, [], ◌∷◌}
 use lib.{Dec.eqb, ListN.length, ListN.get_or}
-use Rattle.model.specs.declared.{Refusal.Refusal, Timed.Timed, Equalised.Equalised, LaidOut.LaidOut, Ran.Ran, Stopped.Stopped}
-use Rattle.model.specs.declared.{Rehearsed.Rehearsed, Health.Health, Watched.Watched}
-use Rattle.model.specs.Answers.{Verdict, finished, refused, bit, refusal, timed, equalised, laid_out, ran, stopped, health_number, watched, rehearsed}
+use Rattle.std.specs.Prelude.{Option, None, Some, Result, Ok, Err}
+use Rattle.model.specs.declared.{Refusal.Refusal, Equalised.Equalised, LaidOut.LaidOut, Ran.Ran, Stopped.Stopped}
+use Rattle.model.specs.declared.{Rehearsed.Rehearsed, TakenUp.TakenUp, Health.Health, Watched.Watched}
+use Rattle.model.specs.Answers.{Verdict, finished, refused, bit, refusal, answered, timed, equalised, laid_out, ran, stopped, health_number, watched}
+use Rattle.model.specs.Answers.{taken_up_values, rehearsed}
 
 -- a function that can be undone is injective
 undone : {A : Type 0} (f : A → Verdict) (g : Verdict → A) → ((a : A) → g (f a) ≡ a) → (a b : A) → f a ≡ f b → a ≡ b
@@ -55,60 +57,39 @@ bit_back false = refl
 pub refusal_injective : (a b : Refusal) → refusal a ≡ refusal b → a ≡ b
 refusal_injective = undone refusal (read_back (λ xs. Refusal.BadSettings) (λ r. r)) (turned_back (λ xs. Refusal.BadSettings) (λ r. r))
 
-pub timed_injective : (a b : Timed) → timed a ≡ timed b → a ≡ b
+-- an answer whose values can be read back
+answered_injective : {A : Type 0} (values : A → List ℕ) (done : List ℕ → A) → ((x : A) → done (values x) ≡ x)
+    → (a b : Result A Refusal) → answered values a ≡ answered values b → a ≡ b
 unfolding read_back
-timed_injective = undone timed (read_back done Timed.Refused) back
+answered_injective {A} values done again = undone (answered values) (read_back ok Err) back
   where
-    done : List ℕ → Timed
-    done xs = Timed.Ticks (get_or xs 0 0)
+    ok : List ℕ → Result A Refusal
+    ok xs = Ok (done xs)
 
-    back : (a : Timed) → read_back done Timed.Refused (timed a) ≡ a
-    back (Timed.Ticks t) = refl
-    back (Timed.Refused r) = turned_back done Timed.Refused r
+    back : (a : Result A Refusal) → read_back ok Err (answered values a) ≡ a
+    back (Ok x) = ap Ok (again x)
+    back (Err r) = turned_back ok Err r
 
-pub equalised_injective : (a b : Equalised) → equalised a ≡ equalised b → a ≡ b
-unfolding read_back
-equalised_injective = undone equalised (read_back done Equalised.Refused) back
-  where
-    done : List ℕ → Equalised
-    done xs = Equalised.Written (get_or xs 0 0) (get_or xs 1 0)
+pub timed_injective : (a b : Result ℕ Refusal) → timed a ≡ timed b → a ≡ b
+timed_injective = answered_injective (λ t. t ∷ []) (λ xs. get_or xs 0 0) (λ t. refl)
 
-    back : (a : Equalised) → read_back done Equalised.Refused (equalised a) ≡ a
-    back (Equalised.Written n t) = refl
-    back (Equalised.Refused r) = turned_back done Equalised.Refused r
+pub equalised_injective : (a b : Result Equalised Refusal) → equalised a ≡ equalised b → a ≡ b
+equalised_injective =
+    answered_injective (λ x. x.bytes ∷ x.time ∷ []) (λ xs. record { bytes = get_or xs 0 0; time = get_or xs 1 0 }) (λ x. refl)
 
-pub laid_out_injective : (a b : LaidOut) → laid_out a ≡ laid_out b → a ≡ b
-unfolding read_back
-laid_out_injective = undone laid_out (read_back done LaidOut.Refused) back
-  where
-    done : List ℕ → LaidOut
-    done xs = LaidOut.Written (get_or xs 0 0) (get_or xs 1 0)
+pub laid_out_injective : (a b : Result LaidOut Refusal) → laid_out a ≡ laid_out b → a ≡ b
+laid_out_injective =
+    answered_injective (λ x. x.bytes ∷ x.total ∷ []) (λ xs. record { bytes = get_or xs 0 0; total = get_or xs 1 0 }) (λ x. refl)
 
-    back : (a : LaidOut) → read_back done LaidOut.Refused (laid_out a) ≡ a
-    back (LaidOut.Written n t) = refl
-    back (LaidOut.Refused r) = turned_back done LaidOut.Refused r
+pub ran_injective : (a b : Result Ran Refusal) → ran a ≡ ran b → a ≡ b
+ran_injective =
+    answered_injective (λ x. x.tick ∷ bit x.overran ∷ []) (λ xs. record { tick = get_or xs 0 0; overran = eqb (get_or xs 1 0) 1 })
+    (λ x. ap (λ (o : Bool). let r : Ran = record { tick = x.tick; overran = o } in r) (bit_back x.overran))
 
-pub ran_injective : (a b : Ran) → ran a ≡ ran b → a ≡ b
-unfolding read_back
-ran_injective = undone ran (read_back done Ran.Refused) back
-  where
-    done : List ℕ → Ran
-    done xs = Ran.Ended (get_or xs 0 0) (eqb (get_or xs 1 0) 1)
-
-    back : (a : Ran) → read_back done Ran.Refused (ran a) ≡ a
-    back (Ran.Ended t o) = ap (Ran.Ended t) (bit_back o)
-    back (Ran.Refused r) = turned_back done Ran.Refused r
-
-pub stopped_injective : (a b : Stopped) → stopped a ≡ stopped b → a ≡ b
-unfolding read_back
-stopped_injective = undone stopped (read_back done Stopped.Refused) back
-  where
-    done : List ℕ → Stopped
-    done xs = Stopped.At (get_or xs 0 0) (eqb (get_or xs 2 0) 1)
-
-    back : (a : Stopped) → read_back done Stopped.Refused (stopped a) ≡ a
-    back (Stopped.At t m) = ap (Stopped.At t) (bit_back m)
-    back (Stopped.Refused r) = turned_back done Stopped.Refused r
+pub stopped_injective : (a b : Result Stopped Refusal) → stopped a ≡ stopped b → a ≡ b
+stopped_injective =
+    answered_injective (λ x. x.tick ∷ 0 ∷ bit x.saved ∷ []) (λ xs. record { tick = get_or xs 0 0; saved = eqb (get_or xs 2 0) 1 })
+    (λ x. ap (λ (m : Bool). let r : Stopped = record { tick = x.tick; saved = m } in r) (bit_back x.saved))
 
 health_from : ℕ → Health
 health_from n = cond (eqb n 0) Health.Waiting (cond (eqb n 1) Health.Well (cond (eqb n 2) Health.Suspect Health.Failed))
@@ -120,28 +101,37 @@ health_back Health.Well = refl
 health_back Health.Suspect = refl
 health_back Health.Failed = refl
 
-pub watched_injective : (a b : Watched) → watched a ≡ watched b → a ≡ b
-unfolding read_back
-watched_injective = undone watched (read_back done Watched.Refused) back
+pub watched_injective : (a b : Result Watched Refusal) → watched a ≡ watched b → a ≡ b
+watched_injective =
+    answered_injective (λ x. health_number x.health ∷ x.left ∷ [])
+    (λ xs. record { health = health_from (get_or xs 0 0); left = get_or xs 1 0 })
+    (λ x. ap (λ (h : Health). let r : Watched = record { health = h; left = x.left } in r) (health_back x.health))
+
+taken : ℕ → Option ℕ → ℕ → TakenUp
+taken c i x = record { stop = c; image = i; twice = x }
+
+-- how it was taken up, where there are more values than four
+taken_up_from : List ℕ → Option TakenUp
+taken_up_from xs =
+    cond (eqb (length xs) 4) None (Some (taken (get_or xs 4 0) (cond (eqb (get_or xs 5 0) 1) (Some (get_or xs 6 0)) None) (get_or xs 7 0)))
+
+taken_up_back : (a n t e c x : ℕ) (i : Option ℕ) → taken_up_from (a ∷ n ∷ t ∷ e ∷ taken_up_values (Some (taken c i x))) ≡ Some (taken c i x)
+unfolding taken taken_up_from
+taken_up_back a n t e c x None = refl
+taken_up_back a n t e c x (Some m) = refl
+
+pub rehearsed_injective : (a b : Result Rehearsed Refusal) → rehearsed a ≡ rehearsed b → a ≡ b
+unfolding taken taken_up_from
+rehearsed_injective =
+    answered_injective (λ x. bit x.alike ∷ x.bytes ∷ x.total ∷ x.end ∷ taken_up_values x.taken_up)
+    (λ xs. of (eqb (get_or xs 0 0) 1) (get_or xs 1 0) (get_or xs 2 0) (get_or xs 3 0) (taken_up_from xs))
+    (λ x. again x.alike x.bytes x.total x.end x.taken_up)
   where
-    done : List ℕ → Watched
-    done xs = Watched.Is (health_from (get_or xs 0 0)) (get_or xs 1 0)
+    of : Bool → ℕ → ℕ → ℕ → Option TakenUp → Rehearsed
+    of a n t e u = record { alike = a; bytes = n; total = t; end = e; taken_up = u }
 
-    back : (a : Watched) → read_back done Watched.Refused (watched a) ≡ a
-    back (Watched.Is h l) = ap (λ (x : Health). Watched.Is x l) (health_back h)
-    back (Watched.Refused r) = turned_back done Watched.Refused r
-
-pub rehearsed_injective : (a b : Rehearsed) → rehearsed a ≡ rehearsed b → a ≡ b
-unfolding read_back
-rehearsed_injective = undone rehearsed (read_back done Rehearsed.Refused) back
-  where
-    done : List ℕ → Rehearsed
-    done xs =
-        let a = eqb (get_or xs 0 0) 1 in
-        cond (eqb (length xs) 4) (Rehearsed.Whole a (get_or xs 1 0) (get_or xs 2 0) (get_or xs 3 0))
-        (Rehearsed.Stopped a (get_or xs 1 0) (get_or xs 2 0) (get_or xs 3 0) (get_or xs 4 0) (eqb (get_or xs 5 0) 1) (get_or xs 6 0) (get_or xs 7 0))
-
-    back : (a : Rehearsed) → read_back done Rehearsed.Refused (rehearsed a) ≡ a
-    back (Rehearsed.Whole a n t e) = ap (λ (o : Bool). Rehearsed.Whole o n t e) (bit_back a)
-    back (Rehearsed.Stopped a n t e c i u x) = ap₂ (λ (o p : Bool). Rehearsed.Stopped o n t e c p u x) (bit_back a) (bit_back i)
-    back (Rehearsed.Refused r) = turned_back done Rehearsed.Refused r
+    again : (a : Bool) (n t e : ℕ) (u : Option TakenUp)
+        → of (eqb (bit a) 1) n t e (taken_up_from (bit a ∷ n ∷ t ∷ e ∷ taken_up_values u)) ≡ of a n t e u
+    again a n t e None = ap (λ (o : Bool). of o n t e None) (bit_back a)
+    again a n t e (Some u) =
+        ap₂ (λ (o : Bool) (v : Option TakenUp). of o n t e v) (bit_back a) (taken_up_back (bit a) n t e u.stop u.twice u.image)

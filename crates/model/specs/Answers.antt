@@ -1,8 +1,7 @@
 -- Document 01, "Forms and where they belong": "Where an answer is an enum, a definition gives this paper's number and values for each of
 -- the enum's cases."
-use Rattle.std.specs.Prelude.{ℕ, Bool, true, false, List, [], ◌∷◌, get_or}
+use Rattle.std.specs.Prelude.{ℕ, Bool, true, false, List, [], ◌∷◌, ◌++◌, get_or, Option, None, Some, Result, Ok, Err}
 use Rattle.model.specs.declared.Refusal.{Refusal}
-use Rattle.model.specs.declared.Timed.{Timed}
 use Rattle.model.specs.declared.Equalised.{Equalised}
 use Rattle.model.specs.declared.LaidOut.{LaidOut}
 use Rattle.model.specs.declared.Ran.{Ran}
@@ -10,6 +9,7 @@ use Rattle.model.specs.declared.Stopped.{Stopped}
 use Rattle.model.specs.declared.Health.{Health}
 use Rattle.model.specs.declared.Watched.{Watched}
 use Rattle.model.specs.declared.Rehearsed.{Rehearsed}
+use Rattle.model.specs.declared.TakenUp.{TakenUp}
 
 -- what a call answers: the values of a finished result, or a refusal's number and the value returned with it, if any
 pub data Verdict : Type 0 where
@@ -58,28 +58,28 @@ row Refusal.BadEntry = (13, [])
 abbrev pub refusal : Refusal → Verdict
 refusal x = refused (row x).0 (row x).1
 
+-- a call's answer: the values of a finished result, or a refusal
+abbrev pub answered : {A : Type 0} → (A → List ℕ) → Result A Refusal → Verdict
+answered values (Ok x) = finished (values x)
+answered values (Err r) = refusal r
+
 -- "Timing a file answers its time; equalising answers the bytes written and the time, laying out the bytes written and the total."
-abbrev pub timed : Timed → Verdict
-timed (Timed.Ticks t) = finished (t ∷ [])
-timed (Timed.Refused r) = refusal r
+abbrev pub timed : Result ℕ Refusal → Verdict
+timed r = answered (λ (t : ℕ). t ∷ []) r
 
-abbrev pub equalised : Equalised → Verdict
-equalised (Equalised.Written n t) = finished (n ∷ t ∷ [])
-equalised (Equalised.Refused r) = refusal r
+abbrev pub equalised : Result Equalised Refusal → Verdict
+equalised r = answered (λ (x : Equalised). x.bytes ∷ x.time ∷ []) r
 
-abbrev pub laid_out : LaidOut → Verdict
-laid_out (LaidOut.Written n t) = finished (n ∷ t ∷ [])
-laid_out (LaidOut.Refused r) = refusal r
+abbrev pub laid_out : Result LaidOut Refusal → Verdict
+laid_out r = answered (λ (x : LaidOut). x.bytes ∷ x.total ∷ []) r
 
 -- "A run answers its end tick, or the stop tick, and whether it overran." A stopped run has not overrun; its answer also says whether
 -- there is a finished SAVE.
-abbrev pub ran : Ran → Verdict
-ran (Ran.Ended t o) = finished (t ∷ bit o ∷ [])
-ran (Ran.Refused r) = refusal r
+abbrev pub ran : Result Ran Refusal → Verdict
+ran r = answered (λ (x : Ran). x.tick ∷ bit x.overran ∷ []) r
 
-abbrev pub stopped : Stopped → Verdict
-stopped (Stopped.At t m) = finished (t ∷ 0 ∷ bit m ∷ [])
-stopped (Stopped.Refused r) = refusal r
+abbrev pub stopped : Result Stopped Refusal → Verdict
+stopped r = answered (λ (x : Stopped). x.tick ∷ 0 ∷ bit x.saved ∷ []) r
 
 -- W-201: "waiting, well, suspect or failed", by their numbers. The watcher's calls answer how the entry then is, and its count and 2 more.
 abbrev pub health_number : Health → ℕ
@@ -88,13 +88,18 @@ health_number Health.Well = 1
 health_number Health.Suspect = 2
 health_number Health.Failed = 3
 
-abbrev pub watched : Watched → Verdict
-watched (Watched.Is h l) = finished (health_number h ∷ l ∷ [])
-watched (Watched.Refused r) = refusal r
+abbrev pub watched : Result Watched Refusal → Verdict
+watched r = answered (λ (x : Watched). health_number x.health ∷ x.left ∷ []) r
 
 -- `rehearse` answers whether the ends are alike, the laid length and total, and the end tick; of a stopped run also the stop
 -- tick, whether there is an image and its tick, and the ticks run twice.
-abbrev pub rehearsed : Rehearsed → Verdict
-rehearsed (Rehearsed.Whole a n t e) = finished (bit a ∷ n ∷ t ∷ e ∷ [])
-rehearsed (Rehearsed.Stopped a n t e c i u x) = finished (bit a ∷ n ∷ t ∷ e ∷ c ∷ bit i ∷ u ∷ x ∷ [])
-rehearsed (Rehearsed.Refused x) = refusal x
+abbrev pub image_values : Option ℕ → List ℕ
+image_values None = 0 ∷ 0 ∷ []
+image_values (Some t) = 1 ∷ t ∷ []
+
+abbrev pub taken_up_values : Option TakenUp → List ℕ
+taken_up_values None = []
+taken_up_values (Some x) = x.stop ∷ image_values x.image ++ x.twice ∷ []
+
+abbrev pub rehearsed : Result Rehearsed Refusal → Verdict
+rehearsed r = answered (λ (x : Rehearsed). bit x.alike ∷ x.bytes ∷ x.total ∷ x.end ∷ taken_up_values x.taken_up) r

@@ -1,10 +1,10 @@
 -- Document 01, "The list program".
-use Rattle.std.specs.Prelude.{ℕ, zero, suc, ◌+◌, ◌/◌, ◌%◌, max, cond, ◌||◌, ◌&&◌, List, [], ◌∷◌, ◌++◌, eqb, ltb, length, get_or, take}
+use Rattle.std.specs.Prelude.{ℕ, zero, suc, ◌+◌, ◌/◌, ◌%◌, max, cond, ◌||◌, ◌&&◌, List, [], ◌∷◌, ◌++◌, eqb, ltb, length, get_or, Option, None, Some}
 use Prim.Native.Char.{code}
 use Prim.Native.String.{String, [] as []ᵗ, ◌∷◌ as ◌∷ᵗ◌}
 use Rattle.model.specs.declared.Settings.{Settings}
 use Rattle.model.specs.declared.Line.{Line}
-use Rattle.model.specs.declared.Shown.{Shown}
+use Rattle.model.specs.declared.Numbers.{Numbers}
 use Rattle.model.specs.Records.{Rec, record_at, SKIP, SET, READ, WRITE, IF, ELSE, END, CHECK, BEAT, over}
 use Rattle.model.specs.Settings.{settings_of}
 use Rattle.model.specs.Trees.{Block, nil, skip, act, branch, while, times, linearise}
@@ -17,27 +17,17 @@ use Rattle.model.specs.Replies.{laid_tree, laid_total, equalised_of, prepare_rep
 
 -- "for BEAT and SKIP, the number; READ and WRITE print variable and port; SET and tests print bytes 1, 2, 3 and the value of
 -- bytes 4 to 7; ELSE, END and SAVE nothing more"
-abbrev pub numbers_of : Rec → List ℕ
+abbrev pub numbers_of : Rec → Numbers
 numbers_of r =
-    cond (eqb r.kind SKIP) (r.count ∷ [])
-    (cond (eqb r.kind BEAT) (r.value ∷ [])
-    (cond (eqb r.kind READ || eqb r.kind WRITE) (r.target ∷ r.left ∷ [])
-    (cond (eqb r.kind SET || (eqb r.kind IF || eqb r.kind CHECK)) (r.op ∷ r.target ∷ r.left ∷ r.value ∷ [])
-    [])))
+    cond (eqb r.kind SKIP) (Numbers.One r.count)
+    (cond (eqb r.kind BEAT) (Numbers.One r.value)
+    (cond (eqb r.kind READ || eqb r.kind WRITE) (Numbers.Two r.target r.left)
+    (cond (eqb r.kind SET || (eqb r.kind IF || eqb r.kind CHECK)) (Numbers.Four r.op r.target r.left r.value)
+    Numbers.None)))
 
--- "for each laid record .. its start tick, name and" these numbers; a line holds four, of which so many count and the others are 0
+-- "for each laid record .. its start tick, name and" these numbers
 abbrev pub line_of : ℕ → Rec → Line
-line_of t r =
-    let ns = numbers_of r in
-    record {
-      tick = t;
-      kind = r.kind;
-      count = length ns;
-      first = get_or ns 0 0;
-      second = get_or ns 1 0;
-      third = get_or ns 2 0;
-      fourth = get_or ns 3 0;
-    }
+line_of t r = record { tick = t; kind = r.kind; numbers = numbers_of r }
 
 -- the tick at which each record starts: "An IF's two sides both start from its tick plus 1, which ELSE prints too; END prints the tick
 -- where they meet." A laid file has no loop.
@@ -66,9 +56,9 @@ unfoldable pub list_starts : List ℕ → List ℕ → List ℕ → List ℕ
 list_starts s task table = kept (prepare_reply s task file_length) (over (start_ticks (settings_of s) (laid_from s task) 0) table) table
 
 -- `line_at`: the line of record i; there is none where the file or the table ends before it
-abbrev pub line_at : List ℕ → List ℕ → ℕ → Shown
+abbrev pub line_at : List ℕ → List ℕ → ℕ → Option Line
 line_at laid table i =
-    cond (ltb i (length laid / 12) && ltb i (length table)) (Shown.Line (line_of (get_or table i 0) (record_at laid i))) Shown.Absent
+    cond (ltb i (length laid / 12) && ltb i (length table)) (Some (line_of (get_or table i 0) (record_at laid i))) None
 
 -- WHAT IS PRINTED
 
@@ -113,11 +103,15 @@ abbrev pub spaced : List ℕ → List ℕ
 spaced [] = []
 spaced (n ∷ ns) = ascii " " ++ decimal n ++ spaced ns
 
-abbrev pub counted : Line → List ℕ
-counted l = take l.count (l.first ∷ l.second ∷ l.third ∷ l.fourth ∷ [])
+abbrev pub listed_numbers : Numbers → List ℕ
+listed_numbers Numbers.None = []
+listed_numbers (Numbers.One a) = a ∷ []
+listed_numbers (Numbers.Two a b) = a ∷ b ∷ []
+listed_numbers (Numbers.Three a b c) = a ∷ b ∷ c ∷ []
+listed_numbers (Numbers.Four a b c d) = a ∷ b ∷ c ∷ d ∷ []
 
 abbrev pub line_text : Line → List ℕ
-line_text l = decimal l.tick ++ ascii " " ++ ascii (name l.kind) ++ spaced (counted l) ++ ascii "\n"
+line_text l = decimal l.tick ++ ascii " " ++ ascii (name l.kind) ++ spaced (listed_numbers l.numbers) ++ ascii "\n"
 
 abbrev pub lines_text : List Line → List ℕ
 lines_text [] = []

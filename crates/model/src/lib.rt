@@ -55,42 +55,36 @@ pub struct Row {
     pub value: usize,
 }
 
-// time_file
-#[derive(Clone, Copy)]
-pub enum Timed {
-    Ticks(u32),
-    Refused(Refusal),
-}
-
 // equalise
 #[derive(Clone, Copy)]
-pub enum Equalised {
-    Written { bytes: usize, time: u32 },
-    Refused(Refusal),
+pub struct Equalised {
+    pub bytes: usize,
+    pub time: u32,
 }
 
-// lay_out
+// lay_out and prepare
 #[derive(Clone, Copy)]
-pub enum LaidOut {
-    Written { bytes: usize, total: u32 },
-    Refused(Refusal),
+pub struct LaidOut {
+    pub bytes: usize,
+    pub total: u32,
 }
 
 // run, resume and restart
 #[derive(Clone, Copy)]
-pub enum Ran {
-    Ended { tick: u32, overran: bool },
-    Refused(Refusal),
+pub struct Ran {
+    pub tick: u32,
+    pub overran: bool,
 }
 
 // run_until: the stop tick, and whether an image was written
 #[derive(Clone, Copy)]
-pub enum Stopped {
-    At { tick: u32, saved: bool },
-    Refused(Refusal),
+pub struct Stopped {
+    pub tick: u32,
+    pub saved: bool,
 }
 
-// An entry of the watcher's table: the count and 2 more, the window, and whether it waits for its next beat.
+// An entry of the watcher's table: the count and 2 more, the window, and whether it waits for its next beat. The count is told of an entry
+// that waits too (`told` of specs/Watching.antt), so the flag is no Option.
 #[derive(Clone, Copy)]
 pub struct Entry {
     pub left: u32,
@@ -117,56 +111,44 @@ pub enum Health {
 
 // beat, look, reset and status: how the entry is afterwards, and its count and 2 more
 #[derive(Clone, Copy)]
-pub enum Watched {
-    Is { health: Health, left: u32 },
-    Refused(Refusal),
+pub struct Watched {
+    pub health: Health,
+    pub left: u32,
 }
 
-// A line of a listing: the start tick and the kind of a record, and four numbers after its name, of which the first `count` are printed.
+// The numbers that a line of a listing has after a record's name.
+// No record has three; a line may, since what puts a line takes any count up to four.
+#[derive(Clone, Copy)]
+pub enum Numbers {
+    None,
+    One(u32),
+    Two(u32, u32),
+    Three(u32, u32, u32),
+    Four(u32, u32, u32, u32),
+}
+
+// A line of a listing: the start tick and the kind of a record, and its numbers.
 #[derive(Clone, Copy)]
 pub struct Line {
     pub tick: u32,
     pub kind: u8,
-    pub count: usize,
-    pub first: u32,
-    pub second: u32,
-    pub third: u32,
-    pub fourth: u32,
+    pub numbers: Numbers,
 }
 
-// line_at
+// rehearse: whether the ends are alike, the laid file's bytes and total, the end tick, and, of a run that was stopped, how it was taken up.
 #[derive(Clone, Copy)]
-pub enum Shown {
-    Line(Line),
-    Absent,
+pub struct Rehearsed {
+    pub alike: bool,
+    pub bytes: usize,
+    pub total: u32,
+    pub end: u32,
+    pub taken_up: Option<TakenUp>,
 }
 
-// rehearse: where the prepared form is stopped
+// The stop tick, the tick of the image, if there was one, and the ticks run twice.
 #[derive(Clone, Copy)]
-pub enum Stop {
-    Never,
-    At(u32),
-}
-
-// rehearse: whether the ends are alike, the laid file's bytes and total, and the end tick; of a run that was stopped also the stop tick, whether
-// there was an image, its tick (0 with none) and the ticks run twice.
-#[derive(Clone, Copy)]
-pub enum Rehearsed {
-    Whole {
-        alike: bool,
-        bytes: usize,
-        total: u32,
-        end: u32,
-    },
-    Stopped {
-        alike: bool,
-        bytes: usize,
-        total: u32,
-        end: u32,
-        stop: u32,
-        saved: bool,
-        image: u32,
-        twice: u32,
-    },
-    Refused(Refusal),
+pub struct TakenUp {
+    pub stop: u32,
+    pub image: Option<u32>,
+    pub twice: u32,
 }

@@ -3,14 +3,14 @@ ghost use Rattle.std.specs.Prelude.{◌≡◌, get_or};
 ghost use Rattle.model.specs.Answers.{row};
 ghost use Rattle.packing.specs.Words.{form_of, refused_word};
 
-use model::refusals::row_of;
-use model::{Form, Refusal};
+use model::{Form, Refusal, Row};
 
 // Where a refusal's mark and its number stand.
 const REFUSED: u64 = 1 << 63;
 
 const NUMBER: u64 = 1 << 56;
 
+// C hands a form over as a number. A `From` would have to stand in `model`, which knows nothing of C.
 pub fn form_of(x: u8) -> Form
     ensures { result ≡ form_of x }
 {
@@ -25,11 +25,7 @@ pub fn form_of(x: u8) -> Form
 pub fn refused(x: Refusal) -> u64
     ensures { result ≡ refused_word (row x).0 (get_or (row x).1 0 0) }
 {
-    let row = row_of(x);
-    let head = REFUSED + NUMBER * row.number;
+    let row = Row::from(x);
     let value = row.value as u64;
-    if value < NUMBER {
-        return head + value;
-    }
-    head + (NUMBER - 1)
+    REFUSED + NUMBER * row.number + value.min(NUMBER - 1)
 }

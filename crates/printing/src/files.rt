@@ -21,6 +21,7 @@ pub fn read_all<R: Read>(reader: &mut R, buf: &mut [u8]) -> io::Result<usize>
     ensures bytes { IfOk result (λ n. IfSome (R.remaining reader.old) (λ bytes. take n buf.new ≡ take (length buf.old) bytes)) }
 {
     let mut done: usize = 0;
+    // `read_to_end` would need the heap.
     while done < buf.len() {
         let n = read_once(reader, &mut buf[done..])?;
         if n == 0 {

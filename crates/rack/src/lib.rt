@@ -1,4 +1,4 @@
-// The calls as C makes them, by `rack_c`. Each answers one number, in which `packing` puts what the paper returns.
+// The calls as C makes them, by `rack_c`, with each buffer lent on its own. Each answers one number, in which `packing` puts what the paper returns.
 #![tactic(auto)]
 
 ghost use Rattle.std.specs.Prelude.{◌≡◌, length};

@@ -17,18 +17,17 @@ use Rattle.records.specs.Records.{record_of}
 use Rattle.reading.specs.Nesting.{bits, blocks, nested}
 use Rattle.reading.specs.Scanning.{Scans, ScansRecords, TurnsTo, Turns}
 use Rattle.reading.specs.declared.nesting.Blocks.{Blocks}
-use Rattle.reading.specs.declared.nesting.Nested.TheVariants.{Misplaced, Inside}
-use Rattle.reading.specs.declared.scan.{Scanned.Scanned, Turn.Turn}
+use Rattle.std.specs.Prelude.{None, Some, Result, Ok, Err}
 use Rattle.reading.proofs.OpenBlocks.{two, depth_is, waiting_is, bits_small}
 
 -- AT A RECORD
 
 -- what the open blocks after it decide
-misplaced_faults : (n : Nesting) → Misplaced ≡ nested n → (d i : ℕ) (go : List Open → Fault) → deeper d i n go ≡ faulty 4 i
+misplaced_faults : (n : Nesting) → None ≡ nested n → (d i : ℕ) (go : List Open → Fault) → deeper d i n go ≡ faulty 4 i
 misplaced_faults misplaced h d i go = refl
 misplaced_faults (inside os) h d i go = let z : ◌≡◌ {A = ℕ} 0 1 = cc in absurd (omega arith)
 
-deep_faults : (b : Blocks) (n : Nesting) → Inside b ≡ nested n → (d i : ℕ) (go : List Open → Fault) → d < b.depth → deeper d i n go ≡ faulty 5 i
+deep_faults : (b : Blocks) (n : Nesting) → Some b ≡ nested n → (d i : ℕ) (go : List Open → Fault) → d < b.depth → deeper d i n go ≡ faulty 5 i
 deep_faults b misplaced h d i go l = let z : ◌≡◌ {A = ℕ} 0 1 = cc in absurd (omega arith)
 deep_faults b (inside os) h d i go l =
     let e : b ≡ blocks os = cc in
@@ -41,7 +40,7 @@ record Onward (b : Blocks) (d : ℕ) (n : Nesting) : Type 0 where
   shallow : length after ≤ d
   goes : (i : ℕ) (go : List Open → Fault) → deeper d i n go ≡ go after
 
-onward : (b : Blocks) (n : Nesting) → Inside b ≡ nested n → (d : ℕ) → b.depth ≤ d → Onward b d n
+onward : (b : Blocks) (n : Nesting) → Some b ≡ nested n → (d : ℕ) → b.depth ≤ d → Onward b d n
 onward b misplaced h d l = let z : ◌≡◌ {A = ℕ} 0 1 = cc in absurd (omega arith)
 onward b (inside os) h d l =
     let e : b ≡ blocks os = cc in
@@ -54,30 +53,30 @@ unfolding scan
 passes f i os r rs k x = rw (k, x)
 
 module _ {f : Form} {r : Record} {i : ℕ} {b : Blocks} where
-  pub kind_refused : not (kind_fits f r.kind) ≡ true → Turns f r i b (Turn.Refused (Refusal.BadKind i))
+  pub kind_refused : not (kind_fits f r.kind) ≡ true → Turns f r i b (Err (Refusal.BadKind i))
   unfolding scan
   kind_refused k = record { to = λ os e rs next. rw k }
 
   module _ (k : not (kind_fits f r.kind) ≡ false) where
-    pub field_refused : not (fields_fit (record_of r)) ≡ true → Turns f r i b (Turn.Refused (Refusal.BadField i))
+    pub field_refused : not (fields_fit (record_of r)) ≡ true → Turns f r i b (Err (Refusal.BadField i))
     unfolding scan
     field_refused x = record { to = λ os e rs next. rw (k, x) }
 
     module _ (x : not (fields_fit (record_of r)) ≡ false) where
-      pub structure_refused : ((os : List Open) → b ≡ blocks os → Misplaced ≡ nested (nest r.kind os)) → Turns f r i b (Turn.Refused (Refusal.BadStructure i))
+      pub structure_refused : ((os : List Open) → b ≡ blocks os → None ≡ nested (nest r.kind os)) → Turns f r i b (Err (Refusal.BadStructure i))
       structure_refused n = record {
         to = λ os e rs next.
             rw (passes f i os (record_of r) rs k x, misplaced_faults (nest r.kind os) (n os e) (max_depth f) i (λ after. scan f (i + 1) after rs));
       }
 
-      module _ {b' : Blocks} (n : (os : List Open) → b ≡ blocks os → Inside b' ≡ nested (nest r.kind os)) where
-        pub deep_refused : max_depth f < b'.depth → Turns f r i b (Turn.Refused (Refusal.TooDeep i))
+      module _ {b' : Blocks} (n : (os : List Open) → b ≡ blocks os → Some b' ≡ nested (nest r.kind os)) where
+        pub deep_refused : max_depth f < b'.depth → Turns f r i b (Err (Refusal.TooDeep i))
         deep_refused l = record {
           to = λ os e rs next.
               rw (passes f i os (record_of r) rs k x, deep_faults b' (nest r.kind os) (n os e) (max_depth f) i (λ after. scan f (i + 1) after rs) l);
         }
 
-        pub goes_on : b'.depth ≤ max_depth f → Turns f r i b (Turn.Goes b')
+        pub goes_on : b'.depth ≤ max_depth f → Turns f r i b (Ok b')
         goes_on l = record {
           to = λ os e.
               let o = onward b' (nest r.kind os) (n os e) (max_depth f) l in
@@ -124,7 +123,7 @@ module _ {f : Form} {s : List ℕ} {n i : ℕ} {b : Blocks} (v : Left f s n i b)
       (omega (arith, depth_is b v.os v.held), omega (arith, waiting_is b v.os v.held, bits_small v.os l))
 
   -- a further record
-  module _ {r : Record} {t : Turn} (l : i < n) (e : record_of r ≡ record_at s i) (turns : Turns f r i b t) where
+  module _ {r : Record} {t : Result Blocks Refusal} (l : i < n) (e : record_of r ≡ record_at s i) (turns : Turns f r i b t) where
     -- the records after it
     others : List Rec
     others = records_at s (i + 1) (n - (i + 1))
@@ -136,13 +135,13 @@ module _ {f : Form} {s : List ℕ} {n i : ℕ} {b : Blocks} (v : Left f s n i b)
         v.same ∙ ap (λ (k : ℕ). scan f i v.os (records_at s i k)) m
         ∙ ap (scan f i v.os) (records_at_suc s i (n - (i + 1)) ∙ ap (λ (x : Rec). x ∷ others) (sym e))
 
-    turned : {u : Turn} → t ≡ u → TurnsTo f (record_of r) i v.os u
+    turned : {u : Result Blocks Refusal} → t ≡ u → TurnsTo f (record_of r) i v.os u
     turned h = subst (TurnsTo f (record_of r) i v.os) h (turns.to v.os v.held)
 
-    pub left_refused : {x : Refusal} → t ≡ Turn.Refused x → ScansRecords f s (Scanned.Refused x)
+    pub left_refused : {x : Refusal} → t ≡ Err x → ScansRecords f s (Err x)
     left_refused h = record { reply = λ next. turned h others next ∙ ap (λ (y : Fault). unless y next) (sym here) }
 
-    pub left_next : {b' : Blocks} → t ≡ Turn.Goes b' → Left f s n (i + 1) b'
+    pub left_next : {b' : Blocks} → t ≡ Ok b' → Left f s n (i + 1) b'
     unfolding others
     left_next h =
         let o = turned h in
@@ -157,10 +156,10 @@ module _ {f : Form} {s : List ℕ} {n i : ℕ} {b : Blocks} (v : Left f s n i b)
         let k : i ≡ n = omega (arith, v.low) in
         v.same ∙ ap (λ (x : ℕ). scan f i v.os (records_at s i x)) m ∙ ap (λ (x : ℕ). scan f x v.os []) k
 
-    pub left_sound : b.depth ≡ 0 → ScansRecords f s Scanned.Sound
+    pub left_sound : b.depth ≡ 0 → ScansRecords f s (Ok tt)
     left_sound d = record { reply = λ next. ap (λ (y : Fault). unless y next) (sym (ended ∙ all_closed f n v.os (omega (arith, depth_is b v.os v.held)))) }
 
-    pub left_open : 0 < b.depth → ScansRecords f s (Scanned.Refused (Refusal.BadStructure n))
+    pub left_open : 0 < b.depth → ScansRecords f s (Err (Refusal.BadStructure n))
     left_open d = record { reply = λ next. ap (λ (y : Fault). unless y next) (sym (ended ∙ unclosed f n v.os (omega (arith, depth_is b v.os v.held)))) }
 
 -- THE FILE
@@ -171,14 +170,14 @@ most_records Equalised = omega arith
 most_records Laid = omega arith
 
 module _ {f : Form} {s : List ℕ} where
-  pub uneven_refused : (length s % 12 ≡ 0 → ⊥) → Scans f s (Scanned.Refused (Refusal.BadLength (length s)))
+  pub uneven_refused : (length s % 12 ≡ 0 → ⊥) → Scans f s (Err (Refusal.BadLength (length s)))
   unfolding fault
   uneven_refused h = record { reply = λ next. rw (ne_eqb (length s % 12) 0 h) }
 
-  pub long_refused : 12 * max_records f < length s → Scans f s (Scanned.Refused (Refusal.BadLength (length s)))
+  pub long_refused : 12 * max_records f < length s → Scans f s (Err (Refusal.BadLength (length s)))
   unfolding fault
   long_refused l = record { reply = λ next. rw (lt-ltb (12 * max_records f) (length s) l, or-true (not (eqb (length s % 12) 0))) }
 
-  pub whole_scanned : {r : Scanned} → length s % 12 ≡ 0 → length s ≤ 12 * max_records f → ScansRecords f s r → Scans f s r
+  pub whole_scanned : {r : Result (Unit {0}) Refusal} → length s % 12 ≡ 0 → length s ≤ 12 * max_records f → ScansRecords f s r → Scans f s r
   unfolding fault
   whole_scanned h l p = record { reply = λ next. rw (eq-eqb (length s % 12) 0 h, le-ltb (12 * max_records f) (length s) l) (p.reply next) }

@@ -1,9 +1,7 @@
 -- The open blocks of the model's scan as two numbers.
-use Rattle.std.specs.Prelude.{ℕ, ◌+◌, ◌*◌, List, [], ◌∷◌, length}
+use Rattle.std.specs.Prelude.{ℕ, ◌+◌, ◌*◌, List, [], ◌∷◌, length, Option, None, Some}
 use Rattle.model.specs.Refusals.{Open, first, second, loop, Nesting, misplaced, inside}
 use Rattle.reading.specs.declared.nesting.Blocks.{Blocks}
-use Rattle.reading.specs.declared.nesting.Nested.{Nested}
-use Rattle.reading.specs.declared.nesting.Nested.TheVariants.{Misplaced, Inside}
 
 -- whether a block waits for its ELSE
 abbrev pub waits : Open → ℕ
@@ -19,6 +17,6 @@ bits (o ∷ os) = waits o + 2 * bits os
 abbrev pub blocks : List Open → Blocks
 blocks os = record { depth = length os; waiting = bits os }
 
-abbrev pub nested : Nesting → Nested
-nested misplaced = Misplaced
-nested (inside os) = Inside (blocks os)
+abbrev pub nested : Nesting → Option Blocks
+nested misplaced = None
+nested (inside os) = Some (blocks os)

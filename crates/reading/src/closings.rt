@@ -36,9 +36,7 @@ pub fn fill(file: &[u8], to: usize, ends: &mut [u16])
     requires { Fillable file.now to ends.old }
     ensures { Closings file.now to ends.new }
 {
-    let mut i = to + 1;
-    while 0 < i {
-        i -= 1;
+    for i in (0..to + 1).rev() {
         let c = closing_of(file, i, to, ends);
         ends[i] = c;
     }

@@ -10,29 +10,14 @@ mod scan;
 ghost use Rattle.reading.specs.Answers.{Reads};
 
 use model::{Form, Refusal, Settings};
-use records::settings::Decoded;
-use scan::{Scanned, scan_file};
+use records::settings::decode;
+use scan::scan_file;
 
-// What a call begins with: the settings, where the file has passed too, or why it is turned down.
-#[derive(Clone, Copy)]
-pub enum Checked {
-    Valid(Settings),
-    Refused(Refusal),
-}
-
-// The settings, or the first refusal of the settings and the file.
-pub fn read(settings: &[u8], form: Form, file: &[u8]) -> Checked
+// The settings, where the file has passed too, or the first refusal of the settings and the file.
+pub fn read(settings: &[u8], form: Form, file: &[u8]) -> Result<Settings, Refusal>
     ensures { Reads settings.now form file.now result }
 {
-    let decoded = records::settings::decode(settings);
-    match decoded {
-        Decoded::Refused(x) => Checked::Refused(x),
-        Decoded::Valid(rack) => {
-            let scanned = scan_file(form, file);
-            match scanned {
-                Scanned::Sound => Checked::Valid(rack),
-                Scanned::Refused(x) => Checked::Refused(x),
-            }
-        }
-    }
+    let rack = decode(settings)?;
+    scan_file(form, file)?;
+    Ok(rack)
 }

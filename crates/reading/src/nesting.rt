@@ -12,55 +12,50 @@ pub struct Blocks {
     pub waiting: u32,
 }
 
-#[derive(Clone, Copy)]
-pub enum Nested {
-    Misplaced,
-    Inside(Blocks),
-}
-
-fn after_else(around: Blocks) -> Nested
+// The open blocks after an ELSE, unless it stands where none may.
+fn after_else(around: Blocks) -> Option<Blocks>
     ensures { (os : List Open) → around ≡ blocks os → result ≡ nested (after_else os) }
 {
     if around.waiting % 2 == 0 {
-        return Nested::Misplaced;
+        return None;
     }
-    Nested::Inside(Blocks {
+    Some(Blocks {
         depth: around.depth,
         waiting: around.waiting - 1,
     })
 }
 
-fn after_end(around: Blocks) -> Nested
+fn after_end(around: Blocks) -> Option<Blocks>
     ensures { (os : List Open) → around ≡ blocks os → result ≡ nested (after_end os) }
 {
     if around.depth == 0 {
-        return Nested::Misplaced;
+        return None;
     }
     if around.waiting % 2 == 1 {
-        return Nested::Misplaced;
+        return None;
     }
-    Nested::Inside(Blocks {
+    Some(Blocks {
         depth: around.depth - 1,
         waiting: around.waiting / 2,
     })
 }
 
-// The open blocks after a record of that kind.
-pub fn nest(kind: u8, around: Blocks) -> Nested
+// The open blocks after a record of that kind, unless it stands where none may.
+pub fn nest(kind: u8, around: Blocks) -> Option<Blocks>
     requires { (around.depth < 17) × (around.waiting < 65536) }
     ensures { (os : List Open) → around ≡ blocks os → result ≡ nested (nest kind os) }
 {
     match kind {
-        kinds::IF => Nested::Inside(Blocks {
+        kinds::IF => Some(Blocks {
             depth: around.depth + 1,
             waiting: 2 * around.waiting + 1,
         }),
-        kinds::WHILE | kinds::TIMES => Nested::Inside(Blocks {
+        kinds::WHILE | kinds::TIMES => Some(Blocks {
             depth: around.depth + 1,
             waiting: 2 * around.waiting,
         }),
         kinds::ELSE => after_else(around),
         kinds::END => after_end(around),
-        _ => Nested::Inside(around),
+        _ => Some(around),
     }
 }

@@ -1,4 +1,5 @@
-// The kinds of records, byte 0 of each.
+// The kinds of records, byte 0 of each. Numbers, since any byte may stand there, and `kind_at` of the definitions compares bytes: an enum
+// would carry a case for all others through every match behind the scan.
 pub const SKIP: u8 = 1;
 
 pub const SET: u8 = 2;

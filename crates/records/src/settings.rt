@@ -4,16 +4,9 @@ ghost use Rattle.model.specs.Limits.{narrow_length, wide_length};
 ghost use Rattle.model.specs.Settings.{narrow_settings, wide_settings, settings_of, out_of_range, bad_settings_length};
 ghost use Rattle.records.specs.Decoded.{Decodes};
 
-use crate::words::{half_at, wide, word_at};
+use crate::words::{half_at, word_at};
 use model::limits::{MOST_MULTIPLY, MOST_TICKS, NARROW_LENGTH, WIDE_LENGTH};
 use model::{Refusal, Settings};
-
-// The settings, or why a call that is handed them is turned down.
-#[derive(Clone, Copy)]
-pub enum Decoded {
-    Valid(Settings),
-    Refused(Refusal),
-}
 
 fn bad_length(n: usize) -> bool
     ensures { result ≡ bad_settings_length n }
@@ -27,13 +20,13 @@ fn narrow_numbers(settings: &[u8]) -> Settings
     ensures { result ≡ narrow_settings settings.now }
 {
     Settings {
-        set: wide(settings[0]),
-        read: wide(settings[1]),
-        write: wide(settings[2]),
-        beat: wide(settings[3]),
-        save: wide(settings[4]),
-        multiply: wide(settings[0]),
-        spacing: wide(settings[5]),
+        set: u32::from(settings[0]),
+        read: u32::from(settings[1]),
+        write: u32::from(settings[2]),
+        beat: u32::from(settings[3]),
+        save: u32::from(settings[4]),
+        multiply: u32::from(settings[0]),
+        spacing: u32::from(settings[5]),
         window: half_at(settings, 6),
         period: word_at(settings, 8),
     }
@@ -87,15 +80,15 @@ fn out_of_range(rack: Settings) -> bool
 }
 
 // Refusal 6, or the settings.
-pub fn decode(settings: &[u8]) -> Decoded
+pub fn decode(settings: &[u8]) -> Result<Settings, Refusal>
     ensures { Decodes settings.now result }
 {
     if bad_length(settings.len()) {
-        return Decoded::Refused(Refusal::BadSettings);
+        return Err(Refusal::BadSettings);
     }
     let rack = numbers(settings);
     if out_of_range(rack) {
-        return Decoded::Refused(Refusal::BadSettings);
+        return Err(Refusal::BadSettings);
     }
-    Decoded::Valid(rack)
+    Ok(rack)
 }

@@ -1,4 +1,4 @@
--- Two ends, compared: what the comparisons compute, and that they hold exactly of equals.
+-- Two ends are alike exactly when they are equal.
 use Prim.Native.Nat.{ℕ, suc, ◌+◌, ◌≤◌, ◌<◌}
 use mathlib.Core.Path.{◌≡◌, refl, sym, ap₂, subst, ◌∙◌}
 use mathlib.Core.{Logic.◌↔◌, List.List, List.[], List.◌∷◌}
@@ -10,53 +10,6 @@ use borrow.Author.Tests.{eqb-true, eq-eqb, ne_eqb, not-true, not-false}
 use Rattle.model.specs.{Answers.bit, Chain.End, Rehearsal.same_list, Rehearsal.same_end}
 use Rattle.rehearsal.specs.declared.ends.Final.{Final}
 use Rattle.rehearsal.specs.Promises.{end_in}
-
--- ELEMENT BY ELEMENT
-
--- no difference before index i: what stands from there on decides
-pub record Equal (xs ys : List ℕ) (i : ℕ) : Type 0 where
-  pub upto : i ≤ length xs
-  pub decides : same_list xs ys ≡ same_list (drop i xs) (drop i ys)
-
-pub equal_start : (xs ys : List ℕ) → Equal xs ys 0
-equal_start xs ys = record { upto = omega arith; decides = refl }
-
-module _ {xs ys : List ℕ} {i : ℕ} (l : length xs ≡ length ys) (p : Equal xs ys i) where
-  next : i < length xs → same_list xs ys ≡ (eqb (get_or xs i 0) (get_or ys i 0) && same_list (drop (suc i) xs) (drop (suc i) ys))
-  next h = p.decides ∙ ap₂ same_list (drop-cons xs i 0 h) (drop-cons ys i 0 (omega arith))
-
-  pub equal_differ : i < length xs → (get_or xs i 0 ≡ get_or ys i 0 → ⊥) → false ≡ same_list xs ys
-  equal_differ h d = sym (next h ∙ rw (ne_eqb (get_or xs i 0) (get_or ys i 0) d))
-
-  pub equal_step : i < length xs → get_or xs i 0 ≡ get_or ys i 0 → Equal xs ys (i + 1)
-  equal_step h e = record { upto = omega arith; decides = rw add-one (next h ∙ rw (eq-eqb (get_or xs i 0) (get_or ys i 0) e)) }
-
-  pub equal_end : length xs ≤ i → true ≡ same_list xs ys
-  equal_end h = sym (p.decides ∙ ap₂ same_list (drop_of_length-le xs {i = i} h) (drop_of_length-le ys {i = i} (omega arith)))
-
--- PART BY PART
-
--- the answers on overrun, as numbers
-bit_eqb : (o p : Bool) → beq o p ≡ eqb (bit o) (bit p)
-bit_eqb true true = refl
-bit_eqb true false = refl
-bit_eqb false true = refl
-bit_eqb false false = refl
-
-module _ (a b : Final) {v : Bool} (variables : v ≡ same_list a.variables b.variables) where
-  pub other_variables : not v ≡ true → false ≡ same_end (end_in a) (end_in b)
-  other_variables h = rw (sym variables, not-true v h)
-
-  module _ {l : Bool} (levels : l ≡ same_list a.levels b.levels) where
-    pub other_levels : not l ≡ true → false ≡ same_end (end_in a) (end_in b)
-    other_levels h = rw (sym variables, sym levels, not-true l h, and-false v)
-
-    module _ {m : Bool} (marks : m ≡ same_list a.marks b.marks) where
-      pub other_marks : not m ≡ true → false ≡ same_end (end_in a) (end_in b)
-      other_marks h = rw (sym variables, sym levels, sym marks, not-true m h, and-false (v && l))
-
-      pub overrun_decides : not v ≡ false → not l ≡ false → not m ≡ false → beq a.overran b.overran ≡ same_end (end_in a) (end_in b)
-      overrun_decides hv hl hm = rw (sym variables, sym levels, sym marks, not-false v hv, not-false l hl, not-false m hm) (bit_eqb a.overran b.overran)
 
 -- EXACTLY OF EQUALS
 

@@ -7,7 +7,8 @@ use mathlib.Core.List.{List, [], ◌∷◌}
 use lib.Dec.{eqb}
 use borrow.Author.Tests.{eqb-true}
 use lib.ListN.{length, get_or, take, replicate}
-use Rattle.model.specs.declared.{Refusal.Refusal, Stop.Stop, Rehearsed.Rehearsed}
+use Rattle.std.specs.Prelude.{Option, None, Some, Result, Ok, Err}
+use Rattle.model.specs.declared.{Refusal.Refusal, LaidOut.LaidOut, Rehearsed.Rehearsed}
 use Rattle.model.specs.Answers.{Verdict, finished, refusal, rehearsed, and_then, value_at}
 use Rattle.model.specs.Replies.{prepare_reply, prepare_out, turn_down, lay_out_out, run_reply}
 use Rattle.model.specs.Chain.{Set, Chain, equalising, equalised_file, laying_out, laid_file, plain_loan, plain_end_one}
@@ -28,12 +29,12 @@ good_sets {x} {y} {o} e h = go (eqb x 16) refl (eqb y 16) refl (sym e ∙ h)
 
 -- THE WHOLE CHAIN
 
-module _ (s task : List ℕ) (x y : Set) (stop : Stop) where
+module _ (s task : List ℕ) (x y : Set) (stop : Option ℕ) where
   abbrev k : Chain
   k = chain s task x y stop
 
   -- what the reply says holds of the answer
-  rehearses : {r : Rehearsed} → rehearsed r ≡ rehearsal stop k → Rehearses s task x y stop r
+  rehearses : {r : Result Rehearsed Refusal} → rehearsed r ≡ rehearsal stop k → Rehearses s task x y stop r
   rehearses e = record { reply = e; confirms = λ P. subst (Confirms stop k) (sym e) (confirms s task x y stop P) }
 
   -- what preparing the task answers, as the two calls
@@ -41,7 +42,7 @@ module _ (s task : List ℕ) (x y : Set) (stop : Stop) where
   unfolding room
   both e = e ∙ prepares_both k refl
 
-  pub rehearse_refused : (z : Refusal) → refusal z ≡ prepare_reply s task (length (replicate {A = ℕ} 65532 0)) → Rehearses s task x y stop (Rehearsed.Refused z)
+  pub rehearse_refused : (z : Refusal) → refusal z ≡ prepare_reply s task (length (replicate {A = ℕ} 65532 0)) → Rehearses s task x y stop (Err z)
   unfolding rehearsal
   rehearse_refused z e = rehearses (refused_second z (equalising k) (laying_out k) _ (both e))
 
@@ -78,14 +79,14 @@ module _ (s task : List ℕ) (x y : Set) (stop : Stop) where
         ∙ ap (λ (m : ℕ). second_of stop (plain_end_one k) m (laid_loan s (laid_file k) y.variables y.inputs)) total_is
         ∙ go stop
       where
-        go : (c : Stop) → second_of c (plain_end_one k) (value_at 1 (laying_out k)) (laid_loan s (laid_file k) y.variables y.inputs) ≡ second c (chain s task x y c)
-        go Stop.Never = refl
-        go (Stop.At c) = refl
+        go : (c : Option ℕ) → second_of c (plain_end_one k) (value_at 1 (laying_out k)) (laid_loan s (laid_file k) y.variables y.inputs) ≡ second c (chain s task x y c)
+        go None = refl
+        go (Some c) = refl
 
-    pub rehearse_bad : {o : Bool} → o ≡ bad_sets (length x.variables) (length y.variables) → o ≡ true → Rehearses s task x y stop (Rehearsed.Refused Refusal.BadBuffers)
+    pub rehearse_bad : {o : Bool} → o ≡ bad_sets (length x.variables) (length y.variables) → o ≡ true → Rehearses s task x y stop (Err Refusal.BadBuffers)
     rehearse_bad p h = rehearses (sym (prepared ∙ rw (sym p ∙ h)))
 
-    pub rehearse_done : {o : Bool} → o ≡ bad_sets (length x.variables) (length y.variables) → o ≡ false → {r : Rehearsed}
+    pub rehearse_done : {o : Bool} → o ≡ bad_sets (length x.variables) (length y.variables) → o ≡ false → {r : Result Rehearsed Refusal}
         → rehearsed r ≡ and_then (run_reply (plain_loan k x zero_outputs)) (second_of stop (plain_end_one k) t (laid_loan s (take n laid') y.variables y.inputs))
         → Rehearses s task x y stop r
     rehearse_done p h a = rehearses (a ∙ ap (and_then (run_reply (plain_loan k x zero_outputs))) second_same ∙ sym (prepared ∙ rw (sym p ∙ h)))

@@ -10,7 +10,7 @@ use Rattle.model.specs.Replies.{run_reply, stop_reply}
 use Rattle.model.specs.Chain.{Set, Chain, LentOutputs, Lent, equalising, laying_out, plain_loan, whole_loan, stopped_loan, taking_up, End, plain_end_one, whole_end, stopped_end}
 use Rattle.theory.proofs.Demand3.{demand3}
 use Rattle.theory.specs.Demand3.{Unseen}
-use Rattle.model.specs.declared.Stop.{Stop}
+use Rattle.std.specs.Prelude.{Option, None, Some}
 use Rattle.model.specs.Rehearsal.{same_end, zero_outputs, chain, second, rehearsal, Admitted, Confirms}
 use Rattle.rehearsal.proofs.Alike.{same_end_is, bit_one}
 
@@ -26,7 +26,7 @@ told_alike a b = (λ e. (same_end_is a b).0 ((bit_one (same_end a b)).0 e), λ e
 both : {A B C : Type 0} → A ↔ B → B ↔ C → A ↔ C
 both p q = (λ a. q.0 (p.0 a), λ c. p.1 (q.1 c))
 
-module _ (s task : List ℕ) (x y : Set) (stop : Stop) (P : Admitted stop (chain s task x y stop)) where
+module _ (s task : List ℕ) (x y : Set) (stop : Option ℕ) (P : Admitted stop (chain s task x y stop)) where
   abbrev k : Chain
   k = chain s task x y stop
 
@@ -59,29 +59,29 @@ module _ (s task : List ℕ) (x y : Set) (stop : Stop) (P : Admitted stop (chain
 
 -- WHOLE
 
-whole_confirms : (s task : List ℕ) (x y : Set) → Admitted Stop.Never (chain s task x y Stop.Never)
-    → Confirms Stop.Never (chain s task x y Stop.Never) (rehearsal Stop.Never (chain s task x y Stop.Never))
+whole_confirms : (s task : List ℕ) (x y : Set) → Admitted None (chain s task x y None)
+    → Confirms None (chain s task x y None) (rehearsal None (chain s task x y None))
 whole_confirms s task x y P =
-    let k = chain s task x y Stop.Never in
-    let D = chained s task x y Stop.Never P in
-    let e = reaches s task x y Stop.Never P ∙ goes_on (run_reply (whole_loan k)) _ D.whole_runs in
-    subst (Confirms Stop.Never k) (sym e)
+    let k = chain s task x y None in
+    let D = chained s task x y None P in
+    let e = reaches s task x y None P ∙ goes_on (run_reply (whole_loan k)) _ D.whole_runs in
+    subst (Confirms None k) (sym e)
     (record { finishes = refl; alike = both (told_alike (plain_end_one k) (whole_end k)) D.alike; twice = tt })
 
 -- STOPPED AND TAKEN UP
 
-stopped_confirms : (s task : List ℕ) (x y : Set) (c : ℕ) → Admitted (Stop.At c) (chain s task x y (Stop.At c))
-    → Confirms (Stop.At c) (chain s task x y (Stop.At c)) (rehearsal (Stop.At c) (chain s task x y (Stop.At c)))
+stopped_confirms : (s task : List ℕ) (x y : Set) (c : ℕ) → Admitted (Some c) (chain s task x y (Some c))
+    → Confirms (Some c) (chain s task x y (Some c)) (rehearsal (Some c) (chain s task x y (Some c)))
 stopped_confirms s task x y c P =
-    let k = chain s task x y (Stop.At c) in
-    let D = (chained s task x y (Stop.At c) P).stopped P.early in
+    let k = chain s task x y (Some c) in
+    let D = (chained s task x y (Some c) P).stopped P.early in
     let e =
-    reaches s task x y (Stop.At c) P
+    reaches s task x y (Some c) P
     ∙ goes_on (stop_reply (stopped_loan k) k.image c) _ D.stop_runs
     ∙ goes_on (taking_up (stopped_loan k) k.image k.spare c) _ D.take_up_runs in
-    subst (Confirms (Stop.At c) k) (sym e)
+    subst (Confirms (Some c) k) (sym e)
     (record { finishes = refl; alike = both (told_alike (plain_end_one k) (stopped_end k)) D.alike; twice = (D.twice, D.few) })
 
-pub confirms : (s task : List ℕ) (x y : Set) (stop : Stop) → Admitted stop (chain s task x y stop) → Confirms stop (chain s task x y stop) (rehearsal stop (chain s task x y stop))
-confirms s task x y Stop.Never P = whole_confirms s task x y P
-confirms s task x y (Stop.At c) P = stopped_confirms s task x y c P
+pub confirms : (s task : List ℕ) (x y : Set) (stop : Option ℕ) → Admitted stop (chain s task x y stop) → Confirms stop (chain s task x y stop) (rehearsal stop (chain s task x y stop))
+confirms s task x y None P = whole_confirms s task x y P
+confirms s task x y (Some c) P = stopped_confirms s task x y c P

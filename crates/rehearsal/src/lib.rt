@@ -3,6 +3,7 @@
 #![tactic(auto)]
 
 mod ends;
+mod runs;
 mod second;
 
 ghost use Rattle.std.specs.Prelude.{◌≡◌, length};
@@ -14,13 +15,11 @@ ghost use Rattle.model.specs.Answers.{rehearsed, and_then};
 ghost use Rattle.model.specs.Rehearsal.{zero_outputs, set_of, bad_sets, Rehearses};
 ghost use Rattle.rehearsal.specs.Promises.{laid_loan, second_of};
 
-use ends::Final;
-use machine::run;
-use model::limits::{FILE_LENGTH, PORTS, VARIABLES};
-use model::{Form, LaidOut, Ran, Refusal, Rehearsed, Stop};
+use model::limits::{FILE_LENGTH, VARIABLES};
+use model::{Form, Refusal, Rehearsed};
 use preparation::prepare;
-use records::words::copy;
-use second::{stopped, whole};
+use runs::run_set;
+use second::Second;
 
 // The task on the first set and the laid file on the second.
 fn rehearse_laid(
@@ -32,40 +31,25 @@ fn rehearse_laid(
     one_inputs: &[u32],
     two: &[u32],
     two_inputs: &[u32],
-    stop: Stop,
-) -> Rehearsed
+    stop: Option<u32>,
+) -> Result<Rehearsed, Refusal>
     requires { (length one.now ≡ variable_count) × (length two.now ≡ variable_count) }
     ensures { let c = lend settings.now Task task.now one_inputs.now one.now zero_outputs in
         rehearsed result ≡ and_then (run_reply c) (second_of stop (run_end c) total
         (laid_loan settings.now file.now two.now two_inputs.now)) }
 {
-    let mut variables: [u32; VARIABLES] = [0; VARIABLES];
-    copy(one, &mut variables);
-    let mut levels: [u32; PORTS] = [0; PORTS];
-    let mut marks: [u8; PORTS] = [0; PORTS];
-    let r = run(
+    let first = run_set(settings, Form::Task, task, one, one_inputs)?;
+    let second = Second {
         settings,
-        Form::Task,
-        task,
-        &mut variables,
-        one_inputs,
-        &mut levels,
-        &mut marks,
-    );
-    match r {
-        Ran::Refused(x) => Rehearsed::Refused(x),
-        Ran::Ended { tick: _, overran } => {
-            let first = Final {
-                variables,
-                levels,
-                marks,
-                overran,
-            };
-            match stop {
-                Stop::Never => whole(settings, file, total, first, two, two_inputs),
-                Stop::At(c) => stopped(settings, file, total, first, two, two_inputs, c),
-            }
-        }
+        file,
+        total,
+        first: first.end,
+        set: two,
+        inputs: two_inputs,
+    };
+    match stop {
+        None => second.whole(),
+        Some(tick) => second.stopped(tick),
     }
 }
 
@@ -75,7 +59,8 @@ fn bad_sets(one: usize, two: usize) -> bool
     (one != VARIABLES) | (two != VARIABLES)
 }
 
-// The whole chain: the first refusal in it, or whether the ends are alike.
+// The whole chain, with both sets as slices, as the calls of a run take them: the first refusal in it, or whether the ends are alike. The
+// prepared form is stopped at that tick, if there is one.
 pub fn rehearse(
     settings: &[u8],
     task: &[u8],
@@ -83,30 +68,25 @@ pub fn rehearse(
     one_inputs: &[u32],
     two: &[u32],
     two_inputs: &[u32],
-    stop: Stop,
-) -> Rehearsed
+    stop: Option<u32>,
+) -> Result<Rehearsed, Refusal>
     ensures { Rehearses settings.now task.now (set_of one.now one_inputs.now)
         (set_of two.now two_inputs.now) stop result }
 {
     let mut laid: [u8; FILE_LENGTH] = [0; FILE_LENGTH];
-    let r = prepare(settings, task, &mut laid);
-    match r {
-        LaidOut::Refused(x) => Rehearsed::Refused(x),
-        LaidOut::Written { bytes, total } => {
-            if bad_sets(one.len(), two.len()) {
-                return Rehearsed::Refused(Refusal::BadBuffers);
-            }
-            rehearse_laid(
-                settings,
-                task,
-                &laid[..bytes],
-                total,
-                one,
-                one_inputs,
-                two,
-                two_inputs,
-                stop,
-            )
-        }
+    let made = prepare(settings, task, &mut laid)?;
+    if bad_sets(one.len(), two.len()) {
+        return Err(Refusal::BadBuffers);
     }
+    rehearse_laid(
+        settings,
+        task,
+        &laid[..made.bytes],
+        made.total,
+        one,
+        one_inputs,
+        two,
+        two_inputs,
+        stop,
+    )
 }

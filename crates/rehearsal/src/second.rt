@@ -7,14 +7,25 @@ ghost use Rattle.model.specs.Replies.{resume_reply, resume_buffers, restart_repl
 ghost use Rattle.model.specs.Chain.{lend};
 ghost use Rattle.model.specs.Answers.{rehearsed};
 ghost use Rattle.model.specs.Rehearsal.{whole_of, taken_of, stopped_of};
-ghost use Rattle.rehearsal.specs.Promises.{end_in, Full, laid_loan, outputs_in, FullLeft};
+ghost use Rattle.rehearsal.specs.Promises.{end_in, told_of, laid_loan, outputs_in};
 
 use crate::ends::{Final, alike};
-use machine::{restart, resume, run, run_until};
+use crate::runs::{Finished, run_set};
+use machine::{restart, resume, run_until};
 use model::limits::{IMAGE_LENGTH, PORTS, VARIABLES};
-use model::{Form, Ran, Rehearsed, Stopped};
-use records::words::{copy, word_at};
-use timing::ticks::excess;
+use model::{Form, Refusal, Rehearsed, TakenUp};
+use records::words::word_at;
+
+// The laid file, its total, the end of the task as written, and the second set.
+#[derive(Clone, Copy)]
+pub struct Second<'a> {
+    pub settings: &'a [u8],
+    pub file: &'a [u8],
+    pub total: u32,
+    pub first: Final,
+    pub set: &'a [u32],
+    pub inputs: &'a [u32],
+}
 
 // What a stop left for the run that is taken up.
 #[derive(Clone, Copy)]
@@ -24,196 +35,125 @@ pub struct Left {
     pub image: [u8; IMAGE_LENGTH],
 }
 
-// Whole.
-pub fn whole(
-    settings: &[u8],
-    file: &[u8],
-    total: u32,
-    first: Final,
-    two: &[u32],
-    inputs: &[u32],
-) -> Rehearsed
-    requires { (Full first) × (length two.now ≡ variable_count) }
-    ensures { rehearsed result ≡ whole_of (end_in first) total
-        (laid_loan settings.now file.now two.now inputs.now) }
-{
-    let mut variables: [u32; VARIABLES] = [0; VARIABLES];
-    copy(two, &mut variables);
-    let mut levels: [u32; PORTS] = [0; PORTS];
-    let mut marks: [u8; PORTS] = [0; PORTS];
-    let r = run(
-        settings,
-        Form::Laid,
-        file,
-        &mut variables,
-        inputs,
-        &mut levels,
-        &mut marks,
-    );
-    match r {
-        Ran::Refused(x) => Rehearsed::Refused(x),
-        Ran::Ended { tick, overran } => {
-            let end = Final {
-                variables,
-                levels,
-                marks,
-                overran,
-            };
-            Rehearsed::Whole {
-                alike: alike(first, end),
-                bytes: file.len(),
-                total,
-                end: tick,
-            }
+impl<'a> Second<'a> {
+    // What is told of the prepared form's end.
+    fn told(self, last: Finished, taken_up: Option<TakenUp>) -> Rehearsed
+        ensures { rehearsed (Ok result) ≡ told_of (end_in self.entry.first) self.entry.total (length self.entry.file.now) last taken_up }
+    {
+        Rehearsed {
+            alike: alike(self.first, last.end),
+            bytes: self.file.len(),
+            total: self.total,
+            end: last.tick,
+            taken_up,
         }
     }
-}
 
-// Taken up from the image that the stop left.
-fn resumed(
-    settings: &[u8],
-    file: &[u8],
-    total: u32,
-    first: Final,
-    inputs: &[u32],
-    left: Left,
-    stop: u32,
-) -> Rehearsed
-    requires { (Full first) × (FullLeft left) }
-    ensures { let c = lend settings.now Laid file.now inputs.now (replicate variable_count 0) (outputs_in left) in
-        rehearsed result ≡ taken_of (end_in first) total c stop true (image_of left.image).tick (resume_reply c left.image) (resume_buffers c left.image) }
-{
-    let mut variables: [u32; VARIABLES] = [0; VARIABLES];
-    let mut levels = left.levels;
-    let mut marks = left.marks;
-    let image = left.image;
-    let tick = word_at(&image, 4);
-    let r = resume(
-        settings,
-        Form::Laid,
-        file,
-        &mut variables,
-        inputs,
-        &mut levels,
-        &mut marks,
-        &image,
-    );
-    match r {
-        Ran::Refused(x) => Rehearsed::Refused(x),
-        Ran::Ended { tick: end, overran } => {
-            let last = Final {
-                variables,
-                levels,
-                marks,
-                overran,
-            };
-            Rehearsed::Stopped {
-                alike: alike(first, last),
-                bytes: file.len(),
-                total,
-                end,
-                stop,
-                saved: true,
-                image: tick,
-                twice: excess(stop, tick),
-            }
-        }
+    // Whole.
+    pub fn whole(self) -> Result<Rehearsed, Refusal>
+        requires { length self.set.now ≡ variable_count }
+        ensures { rehearsed result ≡ whole_of (end_in self.entry.first) self.entry.total
+            (laid_loan self.entry.settings.now self.entry.file.now self.entry.set.now self.entry.inputs.now) }
+    {
+        let last = run_set(self.settings, Form::Laid, self.file, self.set, self.inputs)?;
+        Ok(self.told(last, None))
     }
-}
 
-// Taken up from the start, since no SAVE was finished.
-fn restarted(
-    settings: &[u8],
-    file: &[u8],
-    total: u32,
-    first: Final,
-    two: &[u32],
-    inputs: &[u32],
-    left: Left,
-    stop: u32,
-) -> Rehearsed
-    requires { (Full first) × (FullLeft left) × (length two.now ≡ variable_count) }
-    ensures { let c = lend settings.now Laid file.now inputs.now two.now (outputs_in left) in
-        rehearsed result ≡ taken_of (end_in first) total c stop false 0 (restart_reply c) (restart_buffers c) }
-{
-    let mut variables: [u32; VARIABLES] = [0; VARIABLES];
-    copy(two, &mut variables);
-    let mut levels = left.levels;
-    let mut marks = left.marks;
-    let r = restart(
-        settings,
-        Form::Laid,
-        file,
-        &mut variables,
-        inputs,
-        &mut levels,
-        &mut marks,
-    );
-    match r {
-        Ran::Refused(x) => Rehearsed::Refused(x),
-        Ran::Ended { tick: end, overran } => {
-            let last = Final {
-                variables,
-                levels,
-                marks,
-                overran,
-            };
-            Rehearsed::Stopped {
-                alike: alike(first, last),
-                bytes: file.len(),
-                total,
-                end,
+    // Taken up from the image that the stop left.
+    #[tactic(auto, unfolding(model::specs::Stopping::image_of))]
+    fn resumed(self, left: Left, stop: u32) -> Result<Rehearsed, Refusal>
+        ensures { let c = lend self.entry.settings.now Laid self.entry.file.now self.entry.inputs.now (replicate variable_count 0) (outputs_in left) in
+            rehearsed result ≡ taken_of (end_in self.entry.first) self.entry.total c stop true (image_of left.image).tick
+            (resume_reply c left.image) (resume_buffers c left.image) }
+    {
+        let mut variables: [u32; VARIABLES] = [0; VARIABLES];
+        let mut levels = left.levels;
+        let mut marks = left.marks;
+        let image = left.image;
+        let tick = word_at(&image, 4);
+        let ran = resume(
+            self.settings,
+            Form::Laid,
+            self.file,
+            &mut variables,
+            self.inputs,
+            &mut levels,
+            &mut marks,
+            &image,
+        )?;
+        let last = Finished::new(ran, variables, levels, marks);
+        let twice = stop.saturating_sub(tick);
+        Ok(self.told(
+            last,
+            Some(TakenUp {
                 stop,
-                saved: false,
-                image: 0,
+                image: Some(tick),
+                twice,
+            }),
+        ))
+    }
+
+    // Taken up from the start, since no SAVE was finished.
+    fn restarted(self, left: Left, stop: u32) -> Result<Rehearsed, Refusal>
+        requires { length self.set.now ≡ variable_count }
+        ensures { let c = lend self.entry.settings.now Laid self.entry.file.now self.entry.inputs.now self.entry.set.now (outputs_in left) in
+            rehearsed result ≡ taken_of (end_in self.entry.first) self.entry.total c stop false 0 (restart_reply c) (restart_buffers c) }
+    {
+        let mut variables: [u32; VARIABLES] = [0; VARIABLES];
+        variables.copy_from_slice(self.set);
+        let mut levels = left.levels;
+        let mut marks = left.marks;
+        let ran = restart(
+            self.settings,
+            Form::Laid,
+            self.file,
+            &mut variables,
+            self.inputs,
+            &mut levels,
+            &mut marks,
+        )?;
+        let last = Finished::new(ran, variables, levels, marks);
+        Ok(self.told(
+            last,
+            Some(TakenUp {
+                stop,
+                image: None,
                 twice: stop,
-            }
-        }
+            }),
+        ))
     }
-}
 
-// Stopped at a tick, and taken up.
-pub fn stopped(
-    settings: &[u8],
-    file: &[u8],
-    total: u32,
-    first: Final,
-    two: &[u32],
-    inputs: &[u32],
-    stop: u32,
-) -> Rehearsed
-    requires { (Full first) × (length two.now ≡ variable_count) }
-    ensures { rehearsed result ≡ stopped_of (end_in first) total (laid_loan settings.now file.now two.now inputs.now)
-        (replicate image_length 0) (replicate variable_count 0) stop }
-{
-    let mut variables: [u32; VARIABLES] = [0; VARIABLES];
-    copy(two, &mut variables);
-    let mut levels: [u32; PORTS] = [0; PORTS];
-    let mut marks: [u8; PORTS] = [0; PORTS];
-    let mut image: [u8; IMAGE_LENGTH] = [0; IMAGE_LENGTH];
-    let r = run_until(
-        settings,
-        Form::Laid,
-        file,
-        &mut variables,
-        inputs,
-        &mut levels,
-        &mut marks,
-        &mut image,
-        stop,
-    );
-    match r {
-        Stopped::Refused(x) => Rehearsed::Refused(x),
-        Stopped::At { tick: _, saved } => {
-            let left = Left {
-                levels,
-                marks,
-                image,
-            };
-            if saved {
-                return resumed(settings, file, total, first, inputs, left, stop);
-            }
-            restarted(settings, file, total, first, two, inputs, left, stop)
+    // Stopped at a tick, and taken up.
+    pub fn stopped(self, stop: u32) -> Result<Rehearsed, Refusal>
+        requires { length self.set.now ≡ variable_count }
+        ensures { rehearsed result ≡ stopped_of (end_in self.entry.first) self.entry.total
+            (laid_loan self.entry.settings.now self.entry.file.now self.entry.set.now self.entry.inputs.now)
+            (replicate image_length 0) (replicate variable_count 0) stop }
+    {
+        let mut variables: [u32; VARIABLES] = [0; VARIABLES];
+        variables.copy_from_slice(self.set);
+        let mut levels: [u32; PORTS] = [0; PORTS];
+        let mut marks: [u8; PORTS] = [0; PORTS];
+        let mut image: [u8; IMAGE_LENGTH] = [0; IMAGE_LENGTH];
+        let stopped = run_until(
+            self.settings,
+            Form::Laid,
+            self.file,
+            &mut variables,
+            self.inputs,
+            &mut levels,
+            &mut marks,
+            &mut image,
+            stop,
+        )?;
+        let left = Left {
+            levels,
+            marks,
+            image,
+        };
+        if stopped.saved {
+            return self.resumed(left, stop);
         }
+        self.restarted(left, stop)
     }
 }

@@ -20,9 +20,9 @@ module _ {f : Form} {s : List ℕ} (S : SoundFile f s) where
   pub file_size : size (file_tree s) ≡ extent s
   file_size = omega (arith, file_sound.whole_records)
 
-module _ {s : List ℕ} {i : ℕ} {ins w : List ℕ} {limit t : ℕ} (S : Started s i ins w limit t) where
+module _ {s : List ℕ} {i : ℕ} {ins : List ℕ} {limit t : ℕ} (S : Started s i ins limit t) where
   pub table_fills : {ends : List ℕ} → extent s < length ends → Fillable s (extent s) ends
   table_fills k = record { form = S.form; file = whole_file S.sound; ends = file_size S.sound; few = file_few S.sound; room = k }
 
-  pub started_begun : {ends : List ℕ} → Closings s (extent s) ends → Begun s i (extent s) ends ins w limit t
-  started_begun T = record { given = record { few = file_few S.sound; table = T; lent = S.lent; early = S.early }; form = S.form; chain = S.chain }
+  pub started_begun : {ends : List ℕ} → Closings s (extent s) ends → Begun s i (extent s) ends ins limit t
+  started_begun T = record { given = record { few = file_few S.sound; table = T; inputs = S.inputs; early = S.early }; form = S.form; chain = S.chain }

@@ -2,20 +2,19 @@
 use Prim.Native.Nat.{ℕ, ◌+◌, ◌≤◌, ◌<◌}
 use native.Mathlib.{Omega.arith, Nat.add-zero}
 use mathlib.Core.Path.{◌≡◌, refl, ap, sym, subst, ◌∙◌}
-use mathlib.Core.Bool.{Bool, true, false, cond, ◌||◌, false≢true}
+use mathlib.Core.Bool.{Bool, true, false, cond, ◌||◌}
+use Rattle.std.proofs.Common.{Result, Ok, Err}
 use mathlib.Core.List.{List, [], ◌++◌}
-use lib.ListN.{length}
 use Rattle.model.specs.declared.Settings.{Settings}
 use Rattle.model.specs.Records.{kind_at}
 use Rattle.model.specs.Trees.{Block, nil, skip, act, branch, while, times, size}
 use Rattle.model.specs.Runs.{Step, overran, variables_after, Run, ◌⊳◌, run}
-use Rattle.laws.proofs.Shapes.{neither}
 use Rattle.theory.proofs.{Sequences.⊳-assoc}
 use Rattle.reading.specs.{Closing.closes_block, Ranges.first_size, Ranges.after_first, Walks.StatementAt}
 use Rattle.reading.proofs.{Filled.size_first, Filled.fills_none, Standing.stands_closed, Walking.some, Walking.behind}
-use Rattle.stepping.specs.declared.progress.Progress.{Progress}
+use Rattle.stepping.specs.declared.{progress.Place.Place, progress.Halt.Halt, store.Store.Store}
 use Rattle.stepping.specs.Machines.{Machine, does, runs}
-use Rattle.stepping.specs.Steps.{going, reached, halted, Ran}
+use Rattle.stepping.specs.Steps.{going, reached, Ran}
 use Rattle.running.specs.Promises.{extent, passed, is_loop, Pending, at_end, and_behind, first_run, after, ahead, along}
 use Rattle.running.specs.Promises.{Given, Begun, Statement, RecordsRan, Running, Moved, StepsRan, Past, StatementRan}
 use Rattle.running.proofs.Doing.{runs_within, runs_on, runs_halted}
@@ -28,56 +27,68 @@ unfolding runs
 runs_same limit m h = ap (λ (es : List Step). does limit es m) (h m.holds.variables)
 
 -- an answer that has halted does not go on
-pub never : {A : Type 0} {o : Bool} → o ≡ true → o ≡ false → A
-never e h = absurd (false≢true (sym h ∙ e))
+pub never : {A : Type 0} {r : Result Place Halt} {h : Halt} {p : Place} → r ≡ Err h → r ≡ Ok p → A
+never e g = let x : ⊥ = cc in absurd x
 
--- a machine that has not halted goes on
-reached_going : (r : Progress) (w : List ℕ) → halted r ≡ false → reached r w ≡ going r.tick w
-reached_going r w e = let p = neither r.cut r.overran e in rw (p.0, p.1)
+abbrev halted : Result Place Halt → Bool
+halted (Ok p) = false
+halted (Err h) = true
 
-abbrev pub onward : ℕ → ℕ → Progress
-onward t j = record { tick = t; next = j; cut = false; overran = false }
+reached_halted : (r : Result Place Halt) (w : Store) → ((reached r w).cut || (reached r w).overran) ≡ halted r
+reached_halted (Ok p) w = refl
+reached_halted (Err (Halt.Cut t)) w = refl
+reached_halted (Err (Halt.Overran t)) w = refl
 
-abbrev pub cut_at : ℕ → Progress
-cut_at t = record { tick = t; next = 0; cut = true; overran = false }
+-- what an answer goes on to
+place_is : {p q : Place} → ◌≡◌ {A = Result Place Halt} (Ok p) (Ok q) → p ≡ q
+place_is e = cc
 
-module _ {limit : ℕ} {f : Run} {j t : ℕ} {old new : List ℕ} {r : Progress} (R : Ran limit f j t old new r) where
+pub next_is : {p q : Place} → ◌≡◌ {A = Result Place Halt} (Ok p) (Ok q) → q.next ≡ p.next
+next_is e = ap (λ (x : Place). x.next) (sym (place_is e))
+
+-- the place at tick t, before the record j
+abbrev pub onward : ℕ → ℕ → Result Place Halt
+onward t j = Ok (record { tick = t; next = j })
+
+abbrev pub cut_at : ℕ → Result Place Halt
+cut_at t = Err (Halt.Cut t)
+
+module _ {limit : ℕ} {f : Run} {j t : ℕ} {old new : Store} {r : Result Place Halt} (R : Ran limit f j t old new r) where
   halts : ((runs limit f (going t old)).cut || (runs limit f (going t old)).overran) ≡ halted r
-  halts = ap (λ (m : Machine). m.cut || m.overran) (sym R.reaches)
+  halts = ap (λ (m : Machine). m.cut || m.overran) (sym R.reaches) ∙ reached_halted r new
 
-  pub ran_early : t ≤ limit → r.tick ≤ limit
-  ran_early h = subst (λ (m : Machine). m.tick ≤ limit) (sym R.reaches) (runs_within limit f (going t old) h)
+  reaches_at : {p : Place} → r ≡ Ok p → runs limit f (going t old) ≡ going p.tick new
+  reaches_at e = sym R.reaches ∙ ap (λ (x : Result Place Halt). reached x new) e
+
+  pub ran_early : t ≤ limit → {p : Place} → r ≡ Ok p → p.tick ≤ limit
+  ran_early h e = subst (λ (m : Machine). m.tick ≤ limit) (reaches_at e) (runs_within limit f (going t old) h)
 
   -- what follows is run from where it goes on, or not at all
-  pub ran_on : (g : Run) → halted r ≡ false → runs limit (f ⊳ g) (going t old) ≡ runs limit g (going r.tick new)
-  ran_on g e =
-      runs_on limit f g (going t old) refl (halts ∙ e)
-      ∙ ap (runs limit g) (sym R.reaches ∙ reached_going r new e)
+  pub ran_on : (g : Run) {p : Place} → r ≡ Ok p → runs limit (f ⊳ g) (going t old) ≡ runs limit g (going p.tick new)
+  ran_on g e = runs_on limit f g (going t old) refl (halts ∙ ap halted e) ∙ ap (runs limit g) (reaches_at e)
 
-  pub ran_halted : (g : Run) (k : ℕ) → halted r ≡ true → Ran limit (f ⊳ g) k t old new r
-  ran_halted g k e = record { reaches = R.reaches ∙ sym (runs_halted limit f g (going t old) refl (halts ∙ e)); goes = λ h. never e h }
+  pub ran_halted : (g : Run) (k : ℕ) {h : Halt} → r ≡ Err h → Ran limit (f ⊳ g) k t old new r
+  ran_halted g k e = record {
+    reaches = R.reaches ∙ sym (runs_halted limit f g (going t old) refl (halts ∙ ap halted e));
+    goes = λ p o. never e o;
+  }
 
 -- the same from another start
-pub ran_from : {limit : ℕ} {f g : Run} {j k t u : ℕ} {old mid new : List ℕ} {r : Progress}
-    → runs limit f (going t old) ≡ runs limit g (going u mid) → (halted r ≡ false → k ≡ j) → Ran limit g k u mid new r → Ran limit f j t old new r
-ran_from e h R = record { reaches = R.reaches ∙ sym e; goes = λ o. R.goes o ∙ h o }
-
--- the same settings
-pub ran_settings : {s : List ℕ} {i to : ℕ} {σ τ : Settings} {ins : List ℕ} {limit t : ℕ} {old new : List ℕ} {r : Progress} → σ ≡ τ
-    → RecordsRan s i to σ ins limit t old new r → RecordsRan s i to τ ins limit t old new r
-ran_settings {s} {i} {to} {ins = ins} {limit} {t} {old} {new} {r} e R = subst (λ (x : Settings). RecordsRan s i to x ins limit t old new r) e R
+pub ran_from : {limit : ℕ} {f g : Run} {j k t u : ℕ} {old mid new : Store} {r : Result Place Halt}
+    → runs limit f (going t old) ≡ runs limit g (going u mid) → ((p : Place) → r ≡ Ok p → k ≡ j) → Ran limit g k u mid new r → Ran limit f j t old new r
+ran_from e h R = record { reaches = R.reaches ∙ sym e; goes = λ p o. R.goes p o ∙ h p o }
 
 -- an answer that has halted is one for all that was left
-module _ {s : List ℕ} {i to : ℕ} {ends : List ℕ} {σ : Settings} {ins : List ℕ} {limit t : ℕ} {old new : List ℕ} {r : Progress} (e : halted r ≡ true)
-    (R : RecordsRan s i to σ ins limit t old new r) where
-  moved_halted : Moved s i to ends σ ins limit t old new r
-  moved_halted = record { halts = λ h. R; goes = λ h. never e h }
+module _ {s : List ℕ} {i to : ℕ} {ends : List ℕ} {σ : Settings} {ins : List ℕ} {limit t : ℕ} {old new : Store} {h : Halt}
+    (R : RecordsRan s i to σ ins limit t old new (Err h)) where
+  moved_halted : Moved s i to ends σ ins limit t old new (Err h)
+  moved_halted = record { halts = λ x e. R; goes = λ p e. never refl e }
 
-  pub steps_halted : StepsRan s i to ends σ ins limit t old new r
-  steps_halted = record { moved = moved_halted; stops = λ h l. never e h }
+  pub steps_halted : StepsRan s i to ends σ ins limit t old new (Err h)
+  steps_halted = record { moved = moved_halted; stops = λ p e l. never refl e }
 
-  pub past_halted : Past s i to ends σ ins limit t old new r
-  past_halted = record { moved = moved_halted; on = λ h. never e h }
+  pub past_halted : Past s i to ends σ ins limit t old new (Err h)
+  past_halted = record { moved = moved_halted; on = λ p e. never refl e }
 
 -- THE FIRST STATEMENT, AND WHAT FOLLOWS IT
 
@@ -102,11 +113,11 @@ ahead_first σ ins s b i bs h v =
 
 -- WHAT IS BEGUN
 
--- at another tick, with other cells
-pub given_at : {s ends ins w : List ℕ} {limit t : ℕ} → Given s ends ins w limit t → {new : List ℕ} {u : ℕ} → length new ≡ 50 → u ≤ limit → Given s ends ins new limit u
-given_at G n h = record { few = G.few; table = G.table; lent = record { inputs = G.lent.inputs; cells = n }; early = h }
+-- at another tick
+pub given_at : {s ends ins : List ℕ} {limit t u : ℕ} → Given s ends ins limit t → u ≤ limit → Given s ends ins limit u
+given_at G h = record { few = G.few; table = G.table; inputs = G.inputs; early = h }
 
-module _ {s : List ℕ} {i to : ℕ} {ends ins w : List ℕ} {limit t : ℕ} (B : Begun s i to ends ins w limit t) where
+module _ {s : List ℕ} {i to : ℕ} {ends ins : List ℕ} {limit t : ℕ} (B : Begun s i to ends ins limit t) where
   -- the records up to `to` are the file's
   pub running_inside : to ≤ extent s
   running_inside = pending_inside B.chain.file.stands.ends B.chain.follows
@@ -121,11 +132,11 @@ module _ {s : List ℕ} {i to : ℕ} {ends ins w : List ℕ} {limit t : ℕ} (B 
 
 -- THE TURNS OF THE LOOP
 
-pub running_start : {s : List ℕ} {from to : ℕ} {ends : List ℕ} {σ : Settings} {ins : List ℕ} {limit t : ℕ} {w : List ℕ} → Begun s from to ends ins w limit t
+pub running_start : {s : List ℕ} {from to : ℕ} {ends : List ℕ} {σ : Settings} {ins : List ℕ} {limit t : ℕ} {w : Store} → Begun s from to ends ins limit t
     → Running s from to ends σ ins limit t w w t from
 running_start B = record { all = B; rest = B; on = omega arith; same = refl }
 
-module _ {s : List ℕ} {from to : ℕ} {ends : List ℕ} {σ : Settings} {ins : List ℕ} {limit t₀ : ℕ} {old w : List ℕ} {t next : ℕ} (P : Running s from to ends σ ins limit t₀ old w t next) where
+module _ {s : List ℕ} {from to : ℕ} {ends : List ℕ} {σ : Settings} {ins : List ℕ} {limit t₀ : ℕ} {old w : Store} {t next : ℕ} (P : Running s from to ends σ ins limit t₀ old w t next) where
   abbrev pub whole : Run
   whole = along σ ins P.all.chain
 
@@ -136,7 +147,7 @@ module _ {s : List ℕ} {from to : ℕ} {ends : List ℕ} {σ : Settings} {ins :
   others = P.rest.chain.pending
 
   -- what holds of the blocks that were asked about holds of all at their place
-  pub answered : {new : List ℕ} {r : Progress} → Ran limit whole to t₀ old new r → RecordsRan s from to σ ins limit t₀ old new r
+  pub answered : {new : Store} {r : Result Place Halt} → Ran limit whole to t₀ old new r → RecordsRan s from to σ ins limit t₀ old new r
   answered {new} {r} A = record {
     right = λ f C. every_chain (λ (b : Block) (bs : List Block). Ran limit (ahead σ ins s from b bs) to t₀ old new r) P.all.chain A C;
   }
@@ -161,8 +172,8 @@ module _ {s : List ℕ} {from to : ℕ} {ends : List ℕ} {σ : Settings} {ins :
       let e = fills_none left P.rest.chain.file.stands.fills (omega (arith, pending_within P.rest.chain.follows)) in
       sym (same_here e ∙ ap (λ (bs : List Block). runs limit (after σ ins s next bs) (going t w)) (pending_none (follows_here e) l))
 
-  pub running_ended : {r : Progress} → to ≤ next → r ≡ onward t next → RecordsRan s from to σ ins limit t₀ old w r
-  running_ended {r} l h = answered (subst (Ran limit whole to t₀ old w) (sym h) (record { reaches = all_done l; goes = λ o. omega (arith, running_within) }))
+  pub running_ended : to ≤ next → RecordsRan s from to σ ins limit t₀ old w (onward t next)
+  running_ended l = answered (record { reaches = all_done l; goes = λ p o. next_is o ∙ omega (arith, running_within) })
 
   -- the ELSE or END of an IF: what follows the IF is next
   pub running_closed : {n : ℕ} → next < to → closes_block (kind_at s next) ≡ true → n ≡ passed s next → Running s from to ends σ ins limit t₀ old w t n
@@ -187,10 +198,10 @@ module _ {s : List ℕ} {from to : ℕ} {ends : List ℕ} {σ : Settings} {ins :
 
   -- WHAT IS LEFT IS RUN
 
-  pub running_ran : {new : List ℕ} {r : Progress} → RecordsRan s next to σ ins limit t w new r → RecordsRan s from to σ ins limit t₀ old new r
-  running_ran R = answered (ran_from P.same (λ o. refl) (R.right P.rest.form P.rest.chain))
+  pub running_ran : {new : Store} {r : Result Place Halt} → RecordsRan s next to σ ins limit t w new r → RecordsRan s from to σ ins limit t₀ old new r
+  running_ran R = answered (ran_from P.same (λ p o. refl) (R.right P.rest.form P.rest.chain))
 
-  pub running_then : {new : List ℕ} {u k : ℕ} → Running s next to ends σ ins limit t w new u k → Running s from to ends σ ins limit t₀ old new u k
+  pub running_then : {new : Store} {u k : ℕ} → Running s next to ends σ ins limit t w new u k → Running s from to ends σ ins limit t₀ old new u k
   running_then Q = record {
     all = P.all;
     rest = Q.rest;
@@ -201,13 +212,16 @@ module _ {s : List ℕ} {from to : ℕ} {ends : List ℕ} {σ : Settings} {ins :
 
   -- as an answer
   moved_going : Moved s from to ends σ ins limit t₀ old w (onward t next)
-  moved_going = record { halts = λ h. never h refl; goes = λ h. P }
+  moved_going = record { halts = λ h e. never e refl; goes = λ p e. subst (λ (q : Place). Running s from to ends σ ins limit t₀ old w q.tick q.next) (place_is e) P }
 
-  pub steps_going : {r : Progress} → r ≡ onward t next → (next < to → is_loop (kind_at s next) ≡ true) → StepsRan s from to ends σ ins limit t₀ old w r
-  steps_going e b = subst (StepsRan s from to ends σ ins limit t₀ old w) (sym e) (record { moved = moved_going; stops = λ h l. b l })
+  pub steps_going : (next < to → is_loop (kind_at s next) ≡ true) → StepsRan s from to ends σ ins limit t₀ old w (onward t next)
+  steps_going b = record {
+    moved = moved_going;
+    stops = λ p e. subst (λ (q : Place). q.next < to → is_loop (kind_at s q.next) ≡ true) (place_is e) b;
+  }
 
-  pub past_going : {r : Progress} → r ≡ onward t next → from < next → Past s from to ends σ ins limit t₀ old w r
-  past_going e b = subst (Past s from to ends σ ins limit t₀ old w) (sym e) (record { moved = moved_going; on = λ h. b })
+  pub past_going : from < next → Past s from to ends σ ins limit t₀ old w (onward t next)
+  past_going b = record { moved = moved_going; on = λ p e. subst (λ (q : Place). from < q.next) (place_is e) b }
 
   -- A STATEMENT IS LEFT
 
@@ -215,7 +229,7 @@ module _ {s : List ℕ} {from to : ℕ} {ends : List ℕ} {σ : Settings} {ins :
     abbrev pub here : StatementAt P.rest.form s next (extent s)
     here = record { file = P.rest.chain.file; early = omega (arith, running_inside P.rest); goes_on = k }
 
-    pub statement_next : Statement s next ends ins w limit t
+    pub statement_next : Statement s next ends ins limit t
     statement_next = record { given = P.rest.given; form = P.rest.form; at = here }
 
     abbrev pub onwards : Run
@@ -224,32 +238,32 @@ module _ {s : List ℕ} {from to : ℕ} {ends : List ℕ} {σ : Settings} {ins :
     pub split : runs limit whole (going t₀ old) ≡ runs limit (first_run σ ins left next ⊳ onwards) (going t w)
     split = P.same ∙ runs_same limit (going t w) (ahead_first σ ins s left next others (some here))
 
-    module _ {new : List ℕ} {r : Progress} (S : StatementRan s next σ ins limit t w new r) where
+    module _ {new : Store} {r : Result Place Halt} (S : StatementRan s next σ ins limit t w new r) where
       step : Ran limit (first_run σ ins left next) (next + first_size left) t w new r
       step = S.right P.rest.form here
 
-      running_halted : halted r ≡ true → RecordsRan s from to σ ins limit t₀ old new r
-      running_halted e = answered (ran_from split (λ h. never e h) (ran_halted step onwards 0 e))
+      running_halted : (h : Halt) → r ≡ Err h → RecordsRan s from to σ ins limit t₀ old new r
+      running_halted h e = answered (ran_from split (λ p o. never e o) (ran_halted step onwards 0 e))
 
-      module _ (e : halted r ≡ false) where
-        goes : r.next ≡ next + first_size left
-        goes = step.goes e
+      module _ {p : Place} (e : r ≡ Ok p) where
+        goes : p.next ≡ next + first_size left
+        goes = step.goes p e
 
-        running_on : next < r.next
+        running_on : next < p.next
         running_on = omega (arith, goes, some here)
 
-        running_next : length new ≡ length w → Running s from to ends σ ins limit t₀ old new r.tick r.next
-        running_next n = record {
+        running_next : Running s from to ends σ ins limit t₀ old new p.tick p.next
+        running_next = record {
           all = P.all;
           rest = record {
-            given = given_at P.rest.given (n ∙ P.rest.given.lent.cells) (ran_early step P.rest.given.early);
+            given = given_at P.rest.given (ran_early step P.rest.given.early e);
             form = P.rest.form;
             chain = record { file = behind here goes; pending = others; follows = pending_at (omega (arith, goes, size_first left)) P.rest.chain.follows };
           };
           on = omega (arith, P.on, running_on);
-          same = split ∙ ran_on step onwards e ∙ ap (λ (j : ℕ). runs limit (ahead σ ins s j (after_first left) others) (going r.tick new)) (sym goes);
+          same = split ∙ ran_on step onwards e ∙ ap (λ (j : ℕ). runs limit (ahead σ ins s j (after_first left) others) (going p.tick new)) (sym goes);
         }
 
       -- as an answer
-      pub past_ran : length new ≡ length w → Past s from to ends σ ins limit t₀ old new r
-      past_ran n = record { moved = record { halts = running_halted; goes = λ h. running_next h n }; on = λ h. omega (arith, P.on, running_on h) }
+      pub past_ran : Past s from to ends σ ins limit t₀ old new r
+      past_ran = record { moved = record { halts = running_halted; goes = λ p e. running_next e }; on = λ p e. omega (arith, P.on, running_on e) }

@@ -10,8 +10,8 @@ use Rattle.model.specs.Runs.{holds, Run, ◌⊳◌, choose, run}
 use Rattle.reading.specs.Closing.{closes_block}
 use Rattle.reading.specs.Ranges.{Stands, first_size, first_part, second_part, after_first, test_of}
 use Rattle.reading.proofs.Walking.{if_at}
-use Rattle.stepping.specs.declared.progress.Progress.{Progress}
-use Rattle.stepping.specs.{Machines.held, Machines.runs, Steps.going, Steps.halted, Steps.Ran}
+use Rattle.stepping.specs.declared.store.Store.{Store}
+use Rattle.stepping.specs.{Machines.held, Machines.runs, Steps.going}
 use Rattle.running.specs.Promises.{extent, passed, chosen, first_run, ahead, Begun, Running, Past}
 use Rattle.running.proofs.Doing.{choose_then, choose_cut, choose_first, choose_second}
 use Rattle.running.proofs.Sides.{pending_at, second_at, side, side_there, side_after, side_passed, side_pending}
@@ -20,13 +20,13 @@ use Rattle.running.proofs.Running.{whole, left, others, answered, running_closed
 
 -- AN ELSE OR END
 
-pub closed_past : {s : List ℕ} {i to : ℕ} {ends : List ℕ} {σ : Settings} {ins : List ℕ} {limit t : ℕ} {w : List ℕ} {n : ℕ} {r : Progress} → Begun s i to ends ins w limit t
-    → i < to → closes_block (kind_at s i) ≡ true → n ≡ passed s i → r ≡ onward t n → Past s i to ends σ ins limit t w w r
-closed_past B l k h e = past_going (running_closed (running_start B) l k h) e (running_passed B l k h)
+pub closed_past : {s : List ℕ} {i to : ℕ} {ends : List ℕ} {σ : Settings} {ins : List ℕ} {limit t : ℕ} {w : Store} {n : ℕ} → Begun s i to ends ins limit t
+    → i < to → closes_block (kind_at s i) ≡ true → n ≡ passed s i → Past s i to ends σ ins limit t w w (onward t n)
+closed_past B l k h = past_going (running_closed (running_start B) l k h) (running_passed B l k h)
 
 -- AN IF
 
-module _ {s : List ℕ} {from to : ℕ} {ends : List ℕ} {σ : Settings} {ins : List ℕ} {limit t₀ : ℕ} {old w : List ℕ} {t next : ℕ} (P : Running s from to ends σ ins limit t₀ old w t next)
+module _ {s : List ℕ} {from to : ℕ} {ends : List ℕ} {σ : Settings} {ins : List ℕ} {limit t₀ : ℕ} {old w : Store} {t next : ℕ} (P : Running s from to ends σ ins limit t₀ old w t next)
     (l : next < to) (k : kind_at s next ≡ IF) where
   if_goes_on : closes_block (kind_at s next) ≡ false
   if_goes_on = ap closes_block k
@@ -68,14 +68,13 @@ module _ {s : List ℕ} {from to : ℕ} {ends : List ℕ} {σ : Settings} {ins :
       split P l if_goes_on ∙ ap (λ (b : Block). runs limit (first_run σ ins b next ⊳ g) (going t w)) is_if
       ∙ runs_same limit (going t w) (choose_then next q (run σ ins one (next + 1)) (run σ ins two (next + 2 + size one)) g)
 
-  pub branch_cut : {r : Progress} → limit ≤ t → r ≡ cut_at t → Past s from to ends σ ins limit t₀ old w r
-  branch_cut {r} h e =
-      past_halted (ap halted e)
-      (answered P
-      (subst (Ran limit (whole P) to t₀ old w) (sym e) (record {
+  pub branch_cut : limit ≤ t → Past s from to ends σ ins limit t₀ old w (cut_at t)
+  branch_cut h =
+      past_halted
+      (answered P (record {
         reaches = sym (chooses ∙ choose_cut limit t (held w) next q first second h);
-        goes = λ o. never refl o;
-      })))
+        goes = λ p o. never refl o;
+      }))
 
   module _ (h : t < limit) {x : Rec} (r : x ≡ record_at s next) {o : Bool} (e : o ≡ holds (test_of x) (held w).variables) {n : ℕ} (f : n ≡ chosen s next o) where
     abbrev to_run : Block
@@ -95,7 +94,7 @@ module _ {s : List ℕ} {from to : ℕ} {ends : List ℕ} {σ : Settings} {ins :
     chosen_next = record {
       all = P.all;
       rest = record {
-        given = given_at P.rest.given P.rest.given.lent.cells (omega arith);
+        given = given_at P.rest.given (omega arith);
         form = P.rest.form;
         chain = record {
           file = record { block = to_run; stands = side_there q one two rest there o; inside = omega arith };
@@ -109,6 +108,6 @@ module _ {s : List ℕ} {from to : ℕ} {ends : List ℕ} {σ : Settings} {ins :
           ∙ ap (λ (j : ℕ). runs limit (run σ ins to_run (chosen s next o) ⊳ ahead σ ins s j rest (others P)) (going (t + 1) w)) behind_is;
     }
 
-    pub branch_past : {p : Progress} → p ≡ onward (t + 1) n → Past s from to ends σ ins limit t₀ old w p
-    branch_past e =
-        past_going (subst (Running s from to ends σ ins limit t₀ old w (t + 1)) (sym f) chosen_next) e (omega (arith, P.on, side_after q one two rest there o))
+    pub branch_past : Past s from to ends σ ins limit t₀ old w (onward (t + 1) n)
+    branch_past =
+        past_going (subst (Running s from to ends σ ins limit t₀ old w (t + 1)) (sym f) chosen_next) (omega (arith, P.on, side_after q one two rest there o))

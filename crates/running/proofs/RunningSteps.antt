@@ -17,7 +17,8 @@ use Rattle.reading.specs.{Closing.opens_block, Closing.closes_block, Ranges.Stan
 use Rattle.reading.proofs.{Standing.stands_once, Walking.some, Walking.skip_at, Walking.act_at}
 use Rattle.timing.specs.Times.{step_ticks}
 use Rattle.timing.proofs.Firsts.{act_ticks}
-use Rattle.stepping.specs.declared.progress.Progress.{Progress}
+use Rattle.std.proofs.Common.{Result}
+use Rattle.stepping.specs.declared.{progress.Place.Place, progress.Halt.Halt, store.Store.Store}
 use Rattle.stepping.specs.{Machines.runs, Machines.record_effect, Steps.going, Steps.Ran}
 use Rattle.running.specs.Promises.{extent, first_run, Reached, Statement, StatementRan}
 use Rattle.running.proofs.Running.{runs_same, ran_from}
@@ -61,18 +62,13 @@ act_effect ins (check q) v = refl
 act_effect ins (beat x) v = refl
 act_effect ins (save m) v = refl
 
--- TICKS
-
-pub lasting : {limit c d i j t : ℕ} {f : List ℕ → Effect} {old new : List ℕ} {e : Progress} → d ≡ c → Ran limit (single d i f) j t old new e → Ran limit (single c i f) j t old new e
-lasting {limit} {i = i} {j} {t} {f} {old} {new} {e} h R = subst (λ (n : ℕ). Ran limit (single n i f) j t old new e) h R
-
 -- THE STATEMENT
 
 -- a record that is reached and closes no block
-pub reached_statement : {s : List ℕ} {i : ℕ} {ends ins w : List ℕ} {limit t : ℕ} → Reached s i ends ins w limit t → closes_block (kind_at s i) ≡ false → Statement s i ends ins w limit t
+pub reached_statement : {s : List ℕ} {i : ℕ} {ends ins : List ℕ} {limit t : ℕ} → Reached s i ends ins limit t → closes_block (kind_at s i) ≡ false → Statement s i ends ins limit t
 reached_statement R k = record { given = R.given; form = R.form; at = record { file = R.file; early = R.inside; goes_on = k } }
 
-module _ {s : List ℕ} {i : ℕ} {ends ins w : List ℕ} {limit t : ℕ} (S : Statement s i ends ins w limit t) where
+module _ {s : List ℕ} {i : ℕ} {ends ins : List ℕ} {limit t : ℕ} (S : Statement s i ends ins limit t) where
   abbrev pub block : Block
   block = S.at.file.block
 
@@ -80,9 +76,9 @@ module _ {s : List ℕ} {i : ℕ} {ends ins w : List ℕ} {limit t : ℕ} (S : S
   stands = S.at.file.stands
 
   -- what holds of it holds of every block at its place
-  pub told : {σ : Settings} (b : Block) → block ≡ b → {new : List ℕ} {r : Progress} → Ran limit (first_run σ ins b i) (i + first_size b) t w new r
+  pub told : {σ : Settings} (b : Block) → block ≡ b → {w new : Store} {r : Result Place Halt} → Ran limit (first_run σ ins b i) (i + first_size b) t w new r
       → StatementRan s i σ ins limit t w new r
-  told {σ} b e {new} {r} A = record {
+  told {σ} b e {w} {new} {r} A = record {
     right = λ f B.
         let same = stands_once block B.file.block stands B.file.stands in
         subst (λ (y : Block). Ran limit (first_run σ ins y i) (i + first_size y) t w new r) (sym e ∙ same) A;
@@ -96,7 +92,7 @@ module _ {s : List ℕ} {i : ℕ} {ends ins w : List ℕ} {limit t : ℕ} (S : S
     test_there o = test_fitting r fields_fitting (ap (λ (x : Rec). opens_block x.kind) h ∙ o)
 
     -- a record that opens no block
-    module _ (shut : opens_block (kind_at s i) ≡ false) {σ : Settings} {new : List ℕ} {p : Progress}
+    module _ (shut : opens_block (kind_at s i) ≡ false) {σ : Settings} {w new : Store} {p : Result Place Halt}
         (R : Ran limit (single (step_ticks σ r) i (record_effect ins r)) (i + 1) t w new p) where
       one_step : (b : Block) → block ≡ b → (d : ℕ) (e : List ℕ → Effect) → first_run σ ins b i ≡ single d i e
           → first_size b ≡ 1 → step_ticks σ r ≡ d → ((v : List ℕ) → record_effect ins r v ≡ e v) → StatementRan s i σ ins limit t w new p
@@ -104,7 +100,7 @@ module _ {s : List ℕ} {i : ℕ} {ends ins w : List ℕ} {limit t : ℕ} (S : S
           told b is
           (ran_from
           (ap (λ (g : Run). runs limit g (going t w)) f ∙ runs_same limit (going t w) (λ v. ap₂ (λ (m : ℕ) (c : Effect). step m i c ∷ []) (sym k) (sym (u v))))
-          (λ o. omega (arith, n)) R)
+          (λ x o. omega (arith, n)) R)
 
       skipped : kind_at s i ≡ SKIP → StatementRan s i σ ins limit t w new p
       skipped e =

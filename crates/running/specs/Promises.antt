@@ -1,6 +1,7 @@
 -- What the functions that run a file's records answer, for every block that stands where they start.
-use Rattle.std.specs.Prelude.{ℕ, ◌+◌, ◌-◌, ◌/◌, ◌≤◌, ◌<◌, ◌≡◌, Bool, true, false, cond, ◌||◌, List, [], ◌∷◌, eqb, length}
-use Rattle.model.specs.Limits.{file_records}
+use Rattle.std.specs.Prelude.{ℕ, ◌+◌, ◌-◌, ◌/◌, ◌≤◌, ◌<◌, ◌≡◌, Bool, true, cond, ◌||◌, List, [], ◌∷◌, eqb, length}
+use Rattle.std.specs.Prelude.{Result, Ok, Err}
+use Rattle.model.specs.Limits.{file_records, port_count}
 use Rattle.model.specs.declared.Form.{Form}
 use Rattle.model.specs.declared.Settings.{Settings}
 use Rattle.model.specs.Records.{kind_at, ELSE, WHILE, TIMES}
@@ -10,9 +11,11 @@ use Rattle.model.specs.Runs.{nothing, effect, last_test, Run, ◌⊳◌, single,
 use Rattle.reading.specs.Closing.{closing_in, Closings}
 use Rattle.reading.specs.Ranges.{SoundFile, Stands, InFile, first_size}
 use Rattle.reading.specs.Walks.{StatementAt}
-use Rattle.stepping.specs.declared.progress.Progress.{Progress}
+use Rattle.stepping.specs.declared.progress.Place.{Place}
+use Rattle.stepping.specs.declared.progress.Halt.{Halt}
+use Rattle.stepping.specs.declared.store.Store.{Store}
 use Rattle.stepping.specs.Machines.{runs}
-use Rattle.stepping.specs.Steps.{Lent, going, halted, Ran}
+use Rattle.stepping.specs.Steps.{going, Ran}
 
 -- WHERE A RUN GOES ON
 
@@ -82,70 +85,75 @@ along σ ins {s = s} {i} C = ahead σ ins s i C.file.block C.pending
 
 -- WHAT IS ASKED AND ANSWERED
 
--- a file of at most so many records and the table of its closings, lent to a run at tick t
-pub record Given (s closings ins w : List ℕ) (limit t : ℕ) : Type 0 where
+-- a file of at most so many records, the table of its closings and the inputs, lent to a run at tick t
+pub record Given (s closings ins : List ℕ) (limit t : ℕ) : Type 0 where
   pub few : extent s ≤ file_records
   pub table : Closings s (extent s) closings
-  pub lent : Lent ins w
+  pub inputs : length ins ≡ port_count
   pub early : t ≤ limit
 
 -- a sound file is run from the record i on: a block, and those that are left after it
-pub record Started (s : List ℕ) (i : ℕ) (ins w : List ℕ) (limit t : ℕ) : Type 0 where
+pub record Started (s : List ℕ) (i : ℕ) (ins : List ℕ) (limit t : ℕ) : Type 0 where
   pub form : Form
   pub sound : SoundFile form s
-  pub lent : Lent ins w
+  pub inputs : length ins ≡ port_count
   pub early : t ≤ limit
   pub chain : Chain form s i (extent s)
 
 -- the records from i up to `to` are run: a block, and those that are left after it
-pub record Begun (s : List ℕ) (i to : ℕ) (closings ins w : List ℕ) (limit t : ℕ) : Type 0 where
-  pub given : Given s closings ins w limit t
+pub record Begun (s : List ℕ) (i to : ℕ) (closings ins : List ℕ) (limit t : ℕ) : Type 0 where
+  pub given : Given s closings ins limit t
   pub form : Form
   pub chain : Chain form s i to
 
 -- the record i is reached
-pub record Reached (s : List ℕ) (i : ℕ) (closings ins w : List ℕ) (limit t : ℕ) : Type 0 where
-  pub given : Given s closings ins w limit t
+pub record Reached (s : List ℕ) (i : ℕ) (closings ins : List ℕ) (limit t : ℕ) : Type 0 where
+  pub given : Given s closings ins limit t
   pub form : Form
   pub file : InFile form s i (extent s)
   pub inside : i < extent s
 
 -- the statement at i is run
-pub record Statement (s : List ℕ) (i : ℕ) (closings ins w : List ℕ) (limit t : ℕ) : Type 0 where
-  pub given : Given s closings ins w limit t
+pub record Statement (s : List ℕ) (i : ℕ) (closings ins : List ℕ) (limit t : ℕ) : Type 0 where
+  pub given : Given s closings ins limit t
   pub form : Form
   pub at : StatementAt form s i (extent s)
 
-pub record RecordsRan (s : List ℕ) (i to : ℕ) (σ : Settings) (ins : List ℕ) (limit t : ℕ) (old new : List ℕ) (r : Progress) : Type 0 where
+pub record RecordsRan (s : List ℕ) (i to : ℕ) (σ : Settings) (ins : List ℕ) (limit t : ℕ) (old new : Store) (r : Result Place Halt) : Type 0 where
   pub right : (f : Form) (C : Chain f s i to) → Ran limit (along σ ins C) to t old new r
 
 -- of the records from `from` up to `to`, run from tick t₀ on, those from `next` on are left at tick t
-pub record Running (s : List ℕ) (from to : ℕ) (closings : List ℕ) (σ : Settings) (ins : List ℕ) (limit t₀ : ℕ) (old w : List ℕ) (t next : ℕ) : Type 0 where
-  pub all : Begun s from to closings ins old limit t₀
-  pub rest : Begun s next to closings ins w limit t
+pub record Running (s : List ℕ) (from to : ℕ) (closings : List ℕ) (σ : Settings) (ins : List ℕ) (limit t₀ : ℕ)
+    (old w : Store) (t next : ℕ) : Type 0 where
+  pub all : Begun s from to closings ins limit t₀
+  pub rest : Begun s next to closings ins limit t
   pub on : from ≤ next
   pub same : runs limit (along σ ins all.chain) (going t₀ old) ≡ runs limit (along σ ins rest.chain) (going t w)
 
 -- the records from i on are run up to where r is
-pub record Moved (s : List ℕ) (i to : ℕ) (closings : List ℕ) (σ : Settings) (ins : List ℕ) (limit t : ℕ) (old new : List ℕ) (r : Progress) : Type 0 where
-  pub halts : halted r ≡ true → RecordsRan s i to σ ins limit t old new r
-  pub goes : halted r ≡ false → Running s i to closings σ ins limit t old new r.tick r.next
+pub record Moved (s : List ℕ) (i to : ℕ) (closings : List ℕ) (σ : Settings) (ins : List ℕ) (limit t : ℕ)
+    (old new : Store) (r : Result Place Halt) : Type 0 where
+  pub halts : (h : Halt) → r ≡ Err h → RecordsRan s i to σ ins limit t old new r
+  pub goes : (p : Place) → r ≡ Ok p → Running s i to closings σ ins limit t old new p.tick p.next
 
 -- up to a loop
-pub record StepsRan (s : List ℕ) (i to : ℕ) (closings : List ℕ) (σ : Settings) (ins : List ℕ) (limit t : ℕ) (old new : List ℕ) (r : Progress) : Type 0 where
+pub record StepsRan (s : List ℕ) (i to : ℕ) (closings : List ℕ) (σ : Settings) (ins : List ℕ) (limit t : ℕ)
+    (old new : Store) (r : Result Place Halt) : Type 0 where
   pub moved : Moved s i to closings σ ins limit t old new r
-  pub stops : halted r ≡ false → r.next < to → is_loop (kind_at s r.next) ≡ true
+  pub stops : (p : Place) → r ≡ Ok p → p.next < to → is_loop (kind_at s p.next) ≡ true
 
 -- past the record i
-pub record Past (s : List ℕ) (i to : ℕ) (closings : List ℕ) (σ : Settings) (ins : List ℕ) (limit t : ℕ) (old new : List ℕ) (r : Progress) : Type 0 where
+pub record Past (s : List ℕ) (i to : ℕ) (closings : List ℕ) (σ : Settings) (ins : List ℕ) (limit t : ℕ)
+    (old new : Store) (r : Result Place Halt) : Type 0 where
   pub moved : Moved s i to closings σ ins limit t old new r
-  pub on : halted r ≡ false → i < r.next
+  pub on : (p : Place) → r ≡ Ok p → i < p.next
 
 -- whatever is left after it
-pub record OneRan (s : List ℕ) (i : ℕ) (closings : List ℕ) (σ : Settings) (ins : List ℕ) (limit t : ℕ) (old new : List ℕ) (r : Progress) : Type 0 where
-  pub past : (to : ℕ) → Begun s i to closings ins old limit t → i < to → Past s i to closings σ ins limit t old new r
+pub record OneRan (s : List ℕ) (i : ℕ) (closings : List ℕ) (σ : Settings) (ins : List ℕ) (limit t : ℕ)
+    (old new : Store) (r : Result Place Halt) : Type 0 where
+  pub past : (to : ℕ) → Begun s i to closings ins limit t → i < to → Past s i to closings σ ins limit t old new r
 
-pub record StatementRan (s : List ℕ) (i : ℕ) (σ : Settings) (ins : List ℕ) (limit t : ℕ) (old new : List ℕ) (r : Progress) : Type 0 where
+pub record StatementRan (s : List ℕ) (i : ℕ) (σ : Settings) (ins : List ℕ) (limit t : ℕ) (old new : Store) (r : Result Place Halt) : Type 0 where
   pub right : (f : Form) (A : StatementAt f s i (extent s)) → Ran limit (first_run σ ins A.file.block i) (i + first_size A.file.block) t old new r
 
 -- the record k is one of the file's, whose closings are in the table

@@ -1,38 +1,44 @@
 // A file's records run by a table of their closings, which is made here.
-ghost use Rattle.std.specs.Prelude.{◌<◌, length};
+ghost use Rattle.std.specs.Prelude.{◌+◌, ◌<◌, ◌≤◌};
+ghost use Rattle.model.specs.Limits.{file_records};
 ghost use Rattle.running.specs.Promises.{extent, Started, RecordsRan};
 
-use crate::blocks::run_records;
+use crate::blocks::Program;
 use model::Settings;
 use model::limits::{FILE_RECORDS, TASK_RECORDS};
 use reading::closings::fill;
-use stepping::progress::Progress;
-use timing::ticks::ticks_of;
+use stepping::progress::{Halt, Place};
+use stepping::store::Store;
 
 // A place for each record, and one for the end.
 const TASK_PLACES: usize = TASK_RECORDS + 1;
 
 const FILE_PLACES: usize = FILE_RECORDS + 1;
 
-// The records from `from` on, with room for the table.
-fn run_by(
+// The records from `from` on, with a table of so many places.
+fn run_by<const PLACES: usize>(
     file: &[u8],
     from: usize,
-    ends: &mut [u16],
-    rack: Settings,
+    rack: &Settings,
     inputs: &[u32],
     limit: u32,
     tick: u32,
-    cells: &mut [u32],
-) -> Progress
-    requires { (Started file.now from inputs.now cells.old limit tick) × (extent file.now < length ends.old) }
-    ensures { RecordsRan file.now from (extent file.now) rack inputs.now limit tick cells.old
-        cells.new result }
+    store: &mut Store,
+) -> Result<Place, Halt>
+    requires { (Started file.now from inputs.now limit tick) × (extent file.now < PLACES) × (PLACES ≤ file_records + 1) }
+    ensures { RecordsRan file.now from (extent file.now) rack.now inputs.now limit tick store.old store.new result }
 {
+    let mut ends: [u16; PLACES] = [0; PLACES];
     let to = file.len() / 12;
-    fill(file, to, ends);
-    let table = ticks_of(rack);
-    run_records(file, from, to, ends, &table, inputs, limit, tick, cells)
+    fill(file, to, &mut ends);
+    let program = Program {
+        file,
+        ends: &ends,
+        rack,
+        inputs,
+        limit,
+    };
+    program.run_records(from, to, tick, store)
 }
 
 // The records from `from` on. A file of no more records than a task has a short table, since clearing the longest takes as long as twenty
@@ -40,20 +46,17 @@ fn run_by(
 pub fn run_from(
     file: &[u8],
     from: usize,
-    rack: Settings,
+    rack: &Settings,
     inputs: &[u32],
     limit: u32,
     tick: u32,
-    cells: &mut [u32],
-) -> Progress
-    requires { Started file.now from inputs.now cells.old limit tick }
-    ensures { RecordsRan file.now from (extent file.now) rack inputs.now limit tick cells.old
-        cells.new result }
+    store: &mut Store,
+) -> Result<Place, Halt>
+    requires { Started file.now from inputs.now limit tick }
+    ensures { RecordsRan file.now from (extent file.now) rack.now inputs.now limit tick store.old store.new result }
 {
     if file.len() / 12 <= TASK_RECORDS {
-        let mut ends: [u16; TASK_PLACES] = [0; TASK_PLACES];
-        return run_by(file, from, &mut ends, rack, inputs, limit, tick, cells);
+        return run_by::<TASK_PLACES>(file, from, rack, inputs, limit, tick, store);
     }
-    let mut ends: [u16; FILE_PLACES] = [0; FILE_PLACES];
-    run_by(file, from, &mut ends, rack, inputs, limit, tick, cells)
+    run_by::<FILE_PLACES>(file, from, rack, inputs, limit, tick, store)
 }

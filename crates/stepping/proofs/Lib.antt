@@ -1,6 +1,5 @@
--- The laws of what a run holds and of one step of it.
-pub mod CellLaws
+-- The laws of one step of a run, and of an image's bytes.
 pub mod StepLaws
-pub mod BufferLaws
 pub mod ImageLaws
 pub mod ProgressLaws
+pub mod Relations

@@ -1,11 +1,12 @@
 -- One step of a run, done or cut at the limit: on the machine, and as the functions answer it.
-use Rattle.std.proofs.Common.{◌≡◌, ℕ, ◌+◌, ◌<◌, ◌≤◌, Bool, true, false, cond, List, sym, refl, ◌∙◌, subst, arith, le-leb}
+use Rattle.std.proofs.Common.{◌≡◌, ℕ, ◌+◌, ◌<◌, ◌≤◌, Bool, true, false, cond, List, Result, Ok, Err, sym, refl, ◌∙◌, arith, le-leb}
 use borrow.Author.Tests.{lt-leb}
 use Rattle.model.specs.{Records.Rec, Trees.Test}
 use Rattle.model.specs.Runs.{Effect, nothing, overruns, is_overrun, holds, last_test, single}
-use Rattle.stepping.specs.declared.progress.Progress.{Progress}
+use Rattle.stepping.specs.declared.progress.{Place.Place, Halt.Halt}
+use Rattle.stepping.specs.declared.store.Store.{Store}
 use Rattle.stepping.specs.Machines.{Held, held, affect, Machine, machine, runs, record_effect}
-use Rattle.stepping.specs.Steps.{Acts, Ran}
+use Rattle.stepping.specs.Steps.{reached, Acts, Ran}
 
 -- ON THE MACHINE, from tick t
 
@@ -31,19 +32,36 @@ module _ (limit t : ℕ) (h : Held) where
 
 -- AS IT IS ANSWERED, from tick t
 
+-- the step that ends at tick u, before the record j, overran or goes on
+abbrev pub ended : Bool → ℕ → ℕ → Result Place Halt
+ended true u j = Err (Halt.Overran u)
+ended false u j = Ok (record { tick = u; next = j })
+
+ended_reached : (o : Bool) (u j : ℕ) (w : Store) → reached (ended o u j) w ≡ machine u false o (held w)
+ended_reached true u j w = refl
+ended_reached false u j w = refl
+
+ended_goes : (o : Bool) (u j : ℕ) (p : Place) → ended o u j ≡ Ok p → p.next ≡ j
+ended_goes true u j p e = cc
+ended_goes false u j p e = cc
+
 module _ (limit t : ℕ) where
   -- it does not end by the limit
-  pub step_cut : (d i j : ℕ) (f : List ℕ → Effect) (w : List ℕ) {e : Progress} → e ≡ record { tick = t; next = 0; cut = true; overran = false } → limit < t + d
-      → Ran limit (single d i f) j t w w e
-  step_cut d i j f w p l = subst (Ran limit (single d i f) j t w w) (sym p) (record { reaches = sym (single_cut limit t (held w) d i f l); goes = λ h. cc })
+  pub step_cut : (d i j : ℕ) (f : List ℕ → Effect) (w : Store) → limit < t + d → Ran limit (single d i f) j t w w (Err (Halt.Cut t))
+  step_cut d i j f w l = record { reaches = sym (single_cut limit t (held w) d i f l); goes = λ p e. cc }
 
   -- a record that opens and closes no block acts
-  pub step_acted : (ins : List ℕ) (r : Rec) (i lasts : ℕ) (old new : List ℕ) (o : Bool) → Acts ins r (i + 1) (t + lasts) old new o → t + lasts ≤ limit
-      → Ran limit (single lasts i (record_effect ins r)) (i + 1) t old new (record { tick = t + lasts; next = i + 1; cut = false; overran = o })
-  step_acted ins r i lasts old new o A l =
-      record { reaches = rw (A.holds, A.overran) (sym (single_done limit t (held old) lasts i (record_effect ins r) l)); goes = λ h. refl }
+  pub step_acted : (ins : List ℕ) (r : Rec) (i lasts : ℕ) (old new : Store) (o : Bool) {x : Bool} → Acts ins r (i + 1) (t + lasts) old new x → x ≡ o → t + lasts ≤ limit
+      → Ran limit (single lasts i (record_effect ins r)) (i + 1) t old new (ended o (t + lasts) (i + 1))
+  step_acted ins r i lasts old new o A e l = record {
+    reaches = ended_reached o (t + lasts) (i + 1) new ∙ rw (A.holds, sym e ∙ A.overran) (sym (single_done limit t (held old) lasts i (record_effect ins r) l));
+    goes = ended_goes o (t + lasts) (i + 1);
+  }
 
   -- the last test of a loop is done
-  pub last_tested : (q : Test) (i j : ℕ) (w : List ℕ) {o : Bool} → o ≡ holds q (held w).variables → t < limit
-      → Ran limit (single 1 i (last_test q)) j t w w (record { tick = t + 1; next = j; cut = false; overran = o })
-  last_tested q i j w e l = record { reaches = rw e (sym (test_done limit t (held w) i q l)); goes = λ h. refl }
+  pub last_tested : (q : Test) (i j : ℕ) (w : Store) (o : Bool) {x : Bool} → x ≡ holds q (held w).variables → x ≡ o → t < limit
+      → Ran limit (single 1 i (last_test q)) j t w w (ended o (t + 1) j)
+  last_tested q i j w o e k l = record {
+    reaches = ended_reached o (t + 1) j w ∙ rw (sym k ∙ e) (sym (test_done limit t (held w) i q l));
+    goes = ended_goes o (t + 1) j;
+  }

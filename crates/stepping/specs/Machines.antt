@@ -1,11 +1,13 @@
 -- A run as a machine that does one step after another up to a limit: the form in which the functions of this crate and of `machine` speak of the model's runs.
-use Rattle.std.specs.Prelude.{ℕ, ◌+◌, ◌%◌, Bool, true, cond, ◌||◌, List, [], ◌∷◌, take, drop, ◌==◌, nat_le, slice_index}
+use Rattle.std.specs.Prelude.{ℕ, ◌+◌, ◌%◌, Bool, true, cond, ◌||◌, List, [], ◌∷◌, replicate, ◌==◌, nat_le, slice_index, Option, None, Some}
 use Rattle.model.specs.Limits.{by_variable, port_count, variable_count}
 use Rattle.model.specs.Records.{Rec, SET, READ, WRITE, CHECK, BEAT, SAVE}
 use Rattle.model.specs.Runs.{Effect, nothing, assigns, outputs, beats, saves, is_save, is_overrun, Step, on_variables, on_outputs, level, mark}
 use Rattle.model.specs.Runs.{right_value, result_of, last_test, Run}
-use Rattle.model.specs.Stopping.{Saved, none, saved}
+use Rattle.model.specs.Stopping.{Image, Saved, none, saved}
 use Rattle.reading.specs.Ranges.{test_of}
+use Rattle.stepping.specs.declared.store.Image.{Image as Kept}
+use Rattle.stepping.specs.declared.store.Store.{Store}
 
 -- WHAT A RUN HOLDS
 
@@ -24,20 +26,20 @@ affect next t w h = record {
   image = cond (is_save w) (saved (record { index = next; tick = t; variables = on_variables w h.variables })) h.image;
 }
 
--- It is held in 50 cells: the variables, the levels, the marks, and the last image, whose index is 0 while there is none.
-abbrev pub cell_count : ℕ
-cell_count = 50
+-- an image as the code has it
+abbrev pub pictured : Kept → Image
+pictured m = record { index = m.index; tick = m.tick; variables = m.variables }
 
-abbrev pub image_in : List ℕ → Saved
-image_in xs = cond (slice_index xs 0 == 0) none (saved (record { index = slice_index xs 0; tick = slice_index xs 1; variables = drop 2 xs }))
+abbrev pub image_in : Option Kept → Saved
+image_in None = none
+image_in (Some m) = saved (pictured m)
 
-unfoldable pub held : List ℕ → Held
-held w = record {
-  variables = take variable_count w;
-  levels = take port_count (drop 16 w);
-  marks = take port_count (drop 24 w);
-  image = image_in (drop 32 w);
-}
+unfoldable pub held : Store → Held
+held w = record { variables = w.variables; levels = w.levels; marks = w.marks; image = image_in w.image }
+
+-- all numbers 0, and no image
+abbrev pub empty : Held
+empty = record { variables = replicate variable_count 0; levels = replicate port_count 0; marks = replicate port_count 0; image = none }
 
 -- THE MACHINE
 

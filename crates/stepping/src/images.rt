@@ -1,24 +1,56 @@
-// Images: the last one that a run holds, written to a lent buffer, and whether one can be taken up.
+// Images as bytes: the last one that a run holds, written to a lent buffer, one that is read, and whether it can be taken up.
 ghost use Rattle.std.specs.Prelude.{◌≡◌, length};
 ghost use Rattle.model.specs.Limits.{image_length};
+ghost use Rattle.model.specs.Stopping.{image_bytes, image_of};
 ghost use Rattle.model.specs.Replies.{after_save};
-ghost use Rattle.stepping.specs.Machines.{cell_count, held};
+ghost use Rattle.stepping.specs.Machines.{held, pictured};
 ghost use Rattle.stepping.specs.Buffers.{StoredImage};
 
-use crate::buffers::store_words;
-use crate::cells::INDEX;
+use crate::store::{Image, Store};
 use records::kinds;
+use records::words::{put_word, word_at};
+use std::array;
 
-// The image in the cells, if there is one.
-pub fn store_image(cells: &[u32], image: &mut [u8]) -> bool
-    requires { (length cells.now ≡ cell_count) × (length image.old ≡ image_length) }
-    ensures { StoredImage (held cells.now).image image.old image.new result }
-{
-    if cells[INDEX] == 0 {
-        return false;
+impl Image {
+    // The image in bytes.
+    pub fn read(bytes: &[u8]) -> Image
+        requires { length bytes.now ≡ image_length }
+        ensures { pictured result ≡ image_of bytes.now }
+    {
+        Image {
+            index: word_at(bytes, 0),
+            tick: word_at(bytes, 4),
+            variables: array::from_fn(|i| word_at(bytes, 8 + 4 * i)),
+        }
     }
-    store_words(&cells[INDEX..], image);
-    true
+
+    // Its bytes, over a buffer.
+    fn write(&self, bytes: &mut [u8])
+        requires { length bytes.old ≡ image_length }
+        ensures { bytes.new ≡ image_bytes (pictured self.now) }
+    {
+        put_word(bytes, self.index);
+        put_word(&mut bytes[4..], self.tick);
+        for (i, x) in self.variables.iter().enumerate() {
+            put_word(&mut bytes[8 + 4 * i..], *x);
+        }
+    }
+}
+
+impl Store {
+    // The image that is held, if there is one, over a buffer.
+    pub fn leave_image(&self, image: &mut [u8]) -> bool
+        requires { length image.old ≡ image_length }
+        ensures { StoredImage (held self.now).image image.old image.new result }
+    {
+        match &self.image {
+            None => false,
+            Some(m) => {
+                m.write(image);
+                true
+            }
+        }
+    }
 }
 
 // Whether the record before that index is a SAVE. The first test of the length keeps 12 * i in range.

@@ -1,74 +1,99 @@
-// Text put into a page, each piece after the one before. A function answers where its piece ends.
+// Text put into a page, each piece after the one before.
 #![tactic(auto)]
 
-ghost use Rattle.std.specs.Prelude.{◌+◌, ◌≤◌, ◌≡◌, length, take};
-ghost use Rattle.model.specs.Listing.{ascii, name, decimal, spaced, line_text};
-ghost use Rattle.text.specs.Pieces.{Put};
+ghost use Rattle.std.specs.Prelude.{◌+◌, ◌≤◌, ◌≡◌, length};
+ghost use Rattle.model.specs.Listing.{ascii, name, decimal, spaced, listed_numbers, line_text};
+ghost use Rattle.text.specs.Pieces.{HasRoom, Put, PutWithin};
 
-use model::Line;
+use model::{Line, Numbers};
 use records::kinds;
 
-pub fn put_text(page: &mut [u8], at: usize, text: &[u8]) -> usize
-    requires { at + length text.now ≤ length page.old }
-    ensures { Put text.now at page.old page.new result }
-{
-    let end = at + text.len();
-    page[at..end].copy_from_slice(text);
-    end
-}
-
-// In decimal.
-pub fn put_number(page: &mut [u8], at: usize, n: u32) -> usize
-    requires { at + 10 ≤ length page.old }
-    ensures { (Put (decimal n) at page.old page.new result) × (result ≤ at + 10) }
-{
-    let mut digits = [0u8; 20];
-    let k = io::decimal(n as u64, &mut digits);
-    put_text(page, at, &digits[..k])
+// A buffer, and how much of it is written. Pieces are put by hand: `write!` promises its text where it succeeds, and not that it succeeds,
+// and a listing is promised for every input.
+#[derive(Drop)]
+pub struct Page<'a> {
+    pub bytes: &'a mut [u8],
+    pub len: usize,
 }
 
 // The name of a record of a laid file.
-fn put_name(page: &mut [u8], at: usize, kind: u8) -> usize
-    requires { at + 5 ≤ length page.old }
-    ensures { (Put (ascii (name kind)) at page.old page.new result) × (result ≤ at + 5) }
+fn name(kind: u8) -> &'static str
+    ensures text { result.now ≡ ascii (name kind) }
+    ensures short { length result.now ≤ 5 }
 {
     match kind {
-        kinds::SKIP => put_text(page, at, b"SKIP"),
-        kinds::SET => put_text(page, at, b"SET"),
-        kinds::READ => put_text(page, at, b"READ"),
-        kinds::WRITE => put_text(page, at, b"WRITE"),
-        kinds::IF => put_text(page, at, b"IF"),
-        kinds::ELSE => put_text(page, at, b"ELSE"),
-        kinds::END => put_text(page, at, b"END"),
-        kinds::CHECK => put_text(page, at, b"CHECK"),
-        kinds::BEAT => put_text(page, at, b"BEAT"),
-        _ => put_text(page, at, b"SAVE"),
+        kinds::SKIP => "SKIP",
+        kinds::SET => "SET",
+        kinds::READ => "READ",
+        kinds::WRITE => "WRITE",
+        kinds::IF => "IF",
+        kinds::ELSE => "ELSE",
+        kinds::END => "END",
+        kinds::CHECK => "CHECK",
+        kinds::BEAT => "BEAT",
+        _ => "SAVE",
     }
 }
 
-// A space and each of the first numbers.
-fn put_numbers(page: &mut [u8], at: usize, numbers: [u32; 4], count: usize) -> usize
-    requires { (at + 44 ≤ length page.old) × (count ≤ 4) × (length numbers ≡ 4) }
-    ensures { (Put (spaced (take count numbers)) at page.old page.new result) × (result ≤ at + 44) }
-{
-    let mut to = at;
-    let mut i: usize = 0;
-    while i < count {
-        let spaced = put_text(page, to, b" ");
-        to = put_number(page, spaced, numbers[i]);
-        i += 1;
+impl<'a> Page<'a> {
+    pub fn new(bytes: &'a mut [u8]) -> Page<'a>
+        ensures same_reference { result.bytes.ghost_name ≡ bytes.entry.ghost_name }
+        ensures same { result.bytes.now ≡ bytes.old }
+        ensures empty { result.len ≡ 0 }
+    {
+        Page { bytes, len: 0 }
     }
-    to
-}
 
-pub fn put_line(page: &mut [u8], at: usize, line: Line) -> usize
-    requires { (at + 64 ≤ length page.old) × (line.count ≤ 4) }
-    ensures { (Put (line_text line) at page.old page.new result) × (result ≤ at + 64) }
-{
-    let begun = put_number(page, at, line.tick);
-    let spaced = put_text(page, begun, b" ");
-    let named = put_name(page, spaced, line.kind);
-    let numbers = [line.first, line.second, line.third, line.fourth];
-    let told = put_numbers(page, named, numbers, line.count);
-    put_text(page, told, b"\n")
+    pub fn put_text(&mut self, text: &str)
+        requires { HasRoom (length text.now) self.old }
+        ensures { Put text.now self.old self.new }
+    {
+        let end = self.len + text.len();
+        self.bytes[self.len..end].copy_from_slice(text.as_bytes());
+        self.len = end;
+    }
+
+    // In decimal.
+    pub fn put_number(&mut self, n: u32)
+        requires { HasRoom 10 self.old }
+        ensures { PutWithin 10 (decimal n) self.old self.new }
+    {
+        let mut digits = itoa::Buffer::new();
+        self.put_text(digits.format(n));
+    }
+
+    // A space and each number.
+    fn put_spaced(&mut self, numbers: &[u32])
+        requires { HasRoom 44 self.old × (length numbers.now ≤ 4) }
+        ensures { PutWithin 44 (spaced numbers.now) self.old self.new }
+    {
+        for n in numbers {
+            self.put_text(" ");
+            self.put_number(*n);
+        }
+    }
+
+    fn put_numbers(&mut self, numbers: Numbers)
+        requires { HasRoom 44 self.old }
+        ensures { PutWithin 44 (spaced (listed_numbers numbers)) self.old self.new }
+    {
+        match numbers {
+            Numbers::None => {}
+            Numbers::One(a) => self.put_spaced(&[a]),
+            Numbers::Two(a, b) => self.put_spaced(&[a, b]),
+            Numbers::Three(a, b, c) => self.put_spaced(&[a, b, c]),
+            Numbers::Four(a, b, c, d) => self.put_spaced(&[a, b, c, d]),
+        }
+    }
+
+    pub fn put_line(&mut self, line: Line)
+        requires { HasRoom 64 self.old }
+        ensures { PutWithin 64 (line_text line) self.old self.new }
+    {
+        self.put_number(line.tick);
+        self.put_text(" ");
+        self.put_text(name(line.kind));
+        self.put_numbers(line.numbers);
+        self.put_text("\n");
+    }
 }

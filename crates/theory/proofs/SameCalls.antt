@@ -2,7 +2,8 @@
 use Prim.Native.Nat.{ℕ}
 use mathlib.Core.{Path.◌≡◌, List.List}
 use lib.ListN.{length}
-use Rattle.model.specs.declared.{Form.Form, Stop.Stop}
+use Rattle.std.specs.Prelude.{Option, None, Some}
+use Rattle.model.specs.declared.{Form.Form}
 use Rattle.model.specs.Stopping.{Image}
 use Rattle.model.specs.Replies.{reading, time_reply, equalise_reply, equalised_tree, equalise_out, lay_out_reply, laid_tree, lay_out_out, prepare_reply, prepare_out}
 use Rattle.model.specs.Replies.{Loan, ready, steps_of, run_reply, run_buffers, image_at, stop_reply, stop_buffers, stop_image}
@@ -117,13 +118,13 @@ module _ (s t : List ℕ) (h : Alike s t) where
         restarted (again c c.buffers.variables o),
       )
 
-  rehearse : (task : List ℕ) (x y : Set) (stop : Stop) → rehearsal stop (chain s task x y stop) ≡ rehearsal stop (chain t task x y stop)
+  rehearse : (task : List ℕ) (x y : Set) (stop : Option ℕ) → rehearsal stop (chain s task x y stop) ≡ rehearsal stop (chain t task x y stop)
   unfolding rehearsal
   rehearse task x y stop = go stop
     where
-      go : (z : Stop) → rehearsal z (chain s task x y z) ≡ rehearsal z (chain t task x y z)
-      go Stop.Never =
-          let k = chain t task x y Stop.Never in
+      go : (z : Option ℕ) → rehearsal z (chain s task x y z) ≡ rehearsal z (chain t task x y z)
+      go None =
+          let k = chain t task x y None in
           let one = plain_loan k k.one k.plain_one in
           rw (
             equalise task (length room),
@@ -134,8 +135,8 @@ module _ (s t : List ℕ) (h : Alike s t) where
             ran one,
             whole_alike (plain_end_one k) (value_at 1 (lay_out_reply t (equalised_file k) (length room))) (prepared_loan k k.whole),
           )
-      go (Stop.At c) =
-          let k = chain t task x y (Stop.At c) in
+      go (Some c) =
+          let k = chain t task x y (Some c) in
           let one = plain_loan k k.one k.plain_one in
           rw (
             equalise task (length room),

@@ -1,10 +1,9 @@
 -- W-202, with W-204's last number, over the replies of the calls: each part under the words that it answers. The proof is in proofs/Widened.antt.
 -- "Equalising, layout and taking up are shown for the wide numbers" by `Demand2` and `Demand3`, which are over any settings that are taken.
-use Rattle.std.specs.Prelude.{ℕ, ◌^◌, ◌≤◌, ◌<◌, ◌≡◌, ◌↔◌, ◌⊎◌, false, List, length, get_or, take}
+use Rattle.std.specs.Prelude.{ℕ, ◌^◌, ◌≤◌, ◌<◌, ◌≡◌, ◌↔◌, ◌⊎◌, false, List, length, get_or, take, Option}
 use Rattle.model.specs.Records.{Bytes, half_at, word_at}
 use Rattle.model.specs.declared.Settings.{Settings}
 use Rattle.model.specs.declared.Form.{Form}
-use Rattle.model.specs.declared.Stop.{Stop}
 use Rattle.model.specs.Settings.{settings_of, bad_settings, wide_bytes}
 use Rattle.model.specs.Placement.{Positive}
 use Rattle.model.specs.Replies.{time_reply, equalise_reply, equalise_out, lay_out_reply, lay_out_out, prepare_reply, prepare_out}
@@ -106,7 +105,7 @@ pub record SameCalls (s t : List ℕ) : Type 0 where
   pub restarted : (c : Loan) → restart_buffers (under s c) ≡ restart_buffers (under t c)
   pub steps : (c : Loan) → steps_of (under s c) ≡ steps_of (under t c)
   pub steps_taken_up : (c : Loan) (i : Image) → taken_up (under s c) i ≡ taken_up (under t c) i
-  pub rehearse : (task : List ℕ) (x y : Set) (stop : Stop) → rehearsal stop (chain s task x y stop) ≡ rehearsal stop (chain t task x y stop)
+  pub rehearse : (task : List ℕ) (x y : Set) (stop : Option ℕ) → rehearsal stop (chain s task x y stop) ≡ rehearsal stop (chain t task x y stop)
   pub starts : (task table : List ℕ) → list_starts s task table ≡ list_starts t task table
   pub listing : (task : List ℕ) → printed s task ≡ printed t task
 

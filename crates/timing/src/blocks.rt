@@ -2,101 +2,96 @@
 ghost use Rattle.std.specs.Prelude.{◌<◌};
 ghost use Rattle.reading.specs.Ranges.{Ranged};
 ghost use Rattle.timing.specs.Blocks.{BlockTimes, SequenceTimes, StatementTimes};
-ghost use Rattle.timing.specs.Times.{settings_in};
 
-use crate::ticks::{Time, branch_time, loop_time, settings_in, step_ticks, ticks_of, within};
+use crate::ticks::{branch_time, loop_time, step_ticks, within};
 use model::Settings;
 use reading::blocks::{closes, opens};
 use records::{kind_at, kinds, record_at};
 
-// The time of a statement or of a sequence of them, and the index of the record after it. A time above the period says nothing of the index.
+// The time of a statement or of a sequence of them, and the index of the record after it.
 #[derive(Clone, Copy)]
 pub struct Step {
-    pub time: Time,
+    pub ticks: u32,
     pub next: usize,
 }
 
-// The statement at i. Where the records form no block any answer will do; a sound file never leads there.
-#[cycle(timing_blocks)]
-fn statement_time(file: &[u8], i: usize, to: usize, depth: usize, table: &[u32; 16]) -> Step
-    requires { (Ranged file.now i to) × (i < to) }
-    ensures { StatementTimes file.now i to depth (settings_in table.now) result }
-{
-    let n = settings_in(table);
-    let over = Step {
-        time: Time::OverPeriod,
-        next: to,
-    };
-    let r = record_at(file, i);
-    if !opens(r.kind) {
-        let time = within(n.period, step_ticks(n, r) as u64);
-        let next = i + 1;
-        return Step { time, next };
-    }
-    if depth == 0 {
-        return over;
-    }
-    let first = sequence_time(file, i + 1, to, depth - 1, table);
-    let one = first.time;
-    let mid = first.next;
-    if to <= mid {
-        return over;
-    }
-    if r.kind != kinds::IF {
-        let time = loop_time(n.period, r, one);
-        let next = mid + 1;
-        return Step { time, next };
-    }
-    let second = sequence_time(file, mid + 1, to, depth - 1, table);
-    let two = second.time;
-    let end = second.next;
-    if to <= end {
-        return over;
-    }
-    let time = branch_time(n.period, one, two);
-    let next = end + 1;
-    Step { time, next }
+// A file's records up to `to`, and the settings that they are timed with. Methods stand in the crate of their type, so each pass over a file has
+// such a struct of its own.
+#[derive(Clone, Copy)]
+pub struct Source<'a> {
+    pub file: &'a [u8],
+    pub to: usize,
+    pub rack: &'a Settings,
 }
 
-// The statements from `from` up to the record that closes their block, or to `to`. The sum is given up once it passes the period; the index is then `to`.
-#[cycle(timing_blocks)]
-fn sequence_time(file: &[u8], from: usize, to: usize, depth: usize, table: &[u32; 16]) -> Step
-    requires { Ranged file.now from to }
-    ensures { SequenceTimes file.now from to depth (settings_in table.now) result }
-{
-    let n = settings_in(table);
-    let over = Step {
-        time: Time::OverPeriod,
-        next: to,
-    };
-    let mut sum: u32 = 0;
-    let mut next = from;
-    while next < to {
-        if closes(kind_at(file, next)) {
-            let time = Time::Ticks(sum);
-            return Step { time, next };
+impl Source<'_> {
+    // The statement at i, unless it takes longer than the period. Where the records form no block any answer will do; a sound file never leads there.
+    #[cycle(timing_blocks)]
+    fn statement_time(&self, i: usize, depth: usize) -> Option<Step>
+        requires { (Ranged self.now.file.now i self.now.to) × (i < self.now.to) }
+        ensures { StatementTimes self.now.file.now i self.now.to depth self.now.rack.now result }
+    {
+        let r = record_at(self.file, i);
+        if !opens(r.kind) {
+            let ticks = within(self.rack.period, u64::from(step_ticks(*self.rack, r)))?;
+            let next = i + 1;
+            return Some(Step { ticks, next });
         }
-        let one = statement_time(file, next, to, depth, table);
-        let time = one.time;
-        let Time::Ticks(t) = time else {
-            return over;
-        };
-        if n.period - sum < t {
-            return over;
+        if depth == 0 {
+            return None;
         }
-        sum += t;
-        next = one.next;
+        let first = self.sequence_time(i + 1, depth - 1)?;
+        if self.to <= first.next {
+            return None;
+        }
+        if r.kind != kinds::IF {
+            let ticks = loop_time(self.rack.period, r, Some(first.ticks))?;
+            let next = first.next + 1;
+            return Some(Step { ticks, next });
+        }
+        let second = self.sequence_time(first.next + 1, depth - 1)?;
+        if self.to <= second.next {
+            return None;
+        }
+        let ticks = branch_time(self.rack.period, Some(first.ticks), Some(second.ticks))?;
+        let next = second.next + 1;
+        Some(Step { ticks, next })
     }
-    let time = Time::Ticks(sum);
-    Step { time, next }
+
+    // The statements from `from` up to the record that closes their block, or to `to`. The sum is given up once it passes the period.
+    #[cycle(timing_blocks)]
+    fn sequence_time(&self, from: usize, depth: usize) -> Option<Step>
+        requires { Ranged self.now.file.now from self.now.to }
+        ensures { SequenceTimes self.now.file.now from self.now.to depth self.now.rack.now result }
+    {
+        let mut ticks: u32 = 0;
+        let mut next = from;
+        // The index goes past whole statements, so a `for` over it is no plainer.
+        while next < self.to {
+            if closes(kind_at(self.file, next)) {
+                return Some(Step { ticks, next });
+            }
+            let one = self.statement_time(next, depth)?;
+            if self.rack.period - ticks < one.ticks {
+                return None;
+            }
+            ticks += one.ticks;
+            next = one.next;
+        }
+        Some(Step { ticks, next })
+    }
 }
 
 // The block that fills the records from `from` up to `to`.
-pub fn block_time(file: &[u8], from: usize, to: usize, depth: usize, rack: Settings) -> Time
+pub fn block_time(file: &[u8], from: usize, to: usize, depth: usize, rack: Settings) -> Option<u32>
     requires { Ranged file.now from to }
     ensures { BlockTimes file.now from to depth rack result }
 {
-    let table = ticks_of(rack);
-    let whole = sequence_time(file, from, to, depth, &table);
-    whole.time
+    let source = Source {
+        file,
+        to,
+        rack: &rack,
+    };
+    let whole = source.sequence_time(from, depth)?;
+    Some(whole.ticks)
 }

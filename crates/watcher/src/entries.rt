@@ -1,6 +1,6 @@
 // The rules on one entry, which goes in and out by value.
-ghost use Rattle.std.specs.Prelude.{◌≡◌, false};
-ghost use Rattle.model.specs.declared.Event.TheVariants.{Beat, Look, Reset};
+ghost use Rattle.std.specs.Prelude.{◌≡◌, false, Ok};
+ghost use Rattle.model.specs.declared.Event.TheVariants.{Beat, Look};
 ghost use Rattle.model.specs.Answers.{watched};
 ghost use Rattle.model.specs.Watching as rules;
 ghost use Rattle.model.specs.Watching.{health_of, has_failed, with_left, fresh_of, bad_event};
@@ -23,8 +23,8 @@ fn with_left(e: Entry, left: u32) -> Entry
 {
     Entry {
         left,
-        window: e.window,
         waiting: false,
+        ..e
     }
 }
 
@@ -34,22 +34,17 @@ fn health_of(e: Entry) -> Health
     if e.waiting {
         return Health::Waiting;
     }
-    if e.left == 0 {
-        return Health::Failed;
+    match e.left {
+        0 => Health::Failed,
+        1 => Health::Suspect,
+        _ => Health::Well,
     }
-    if e.left == 1 {
-        return Health::Suspect;
-    }
-    Health::Well
 }
 
 fn has_failed(e: Entry) -> bool
     ensures { result ≡ has_failed (health_of e) }
 {
-    if e.waiting {
-        return false;
-    }
-    e.left == 0
+    !e.waiting && e.left == 0
 }
 
 pub fn beaten(e: Entry, value: u32) -> Entry
@@ -57,14 +52,16 @@ pub fn beaten(e: Entry, value: u32) -> Entry
     ensures { result ≡ rules.after (Beat value) e }
 {
     if has_failed(e) {
-        return e;
+        e
+    } else {
+        with_left(e, value + 2)
     }
-    with_left(e, value + 2)
 }
 
 pub fn looked(e: Entry) -> Entry
     ensures { result ≡ rules.after Look e }
 {
+    // Two returns: by `saturating_sub`, or with `||`, the machine code of a beat or a look is longer.
     if e.waiting {
         return e;
     }
@@ -74,15 +71,7 @@ pub fn looked(e: Entry) -> Entry
     with_left(e, e.left - 1)
 }
 
-// A reset forgets what the entry was.
-pub fn renewed(e: Entry, window: u32) -> Entry
-    requires { bad_event (Reset window) ≡ false }
-    ensures { result ≡ rules.after (Reset window) e }
-{
-    waiting(window)
-}
-
-// What an event makes of an entry.
+// What an event makes of an entry; a reset forgets what the entry was.
 pub fn after(e: Entry, event: Event) -> Entry
     requires { bad_event event ≡ false }
     ensures { result ≡ rules.after event e }
@@ -90,15 +79,15 @@ pub fn after(e: Entry, event: Event) -> Entry
     match event {
         Event::Beat(value) => beaten(e, value),
         Event::Look => looked(e),
-        Event::Reset(window) => renewed(e, window),
+        Event::Reset(window) => waiting(window),
     }
 }
 
 // How an entry is, and what is left.
 pub fn told(e: Entry) -> Watched
-    ensures { watched result ≡ rules.told e }
+    ensures { watched (Ok result) ≡ rules.told e }
 {
-    Watched::Is {
+    Watched {
         health: health_of(e),
         left: e.left,
     }

@@ -9,9 +9,9 @@ ghost use Rattle.model.specs.declared.Event.TheVariants.{Beat, Look, Reset};
 ghost use Rattle.model.specs.Answers.{watched};
 ghost use Rattle.model.specs.Watching.{fresh_of, event_reply, event_table, status_reply};
 
-use checks::{bad_beat, bad_entry, bad_reset, refused};
-use entries::{beaten, looked, renewed, told, waiting};
-use model::{Entry, Watched};
+use checks::{bad_entry, bad_event};
+use entries::{after, told, waiting};
+use model::{Entry, Event, Refusal, Watched};
 
 // An entry that no call has reset yet.
 pub fn fresh() -> Entry
@@ -21,50 +21,45 @@ pub fn fresh() -> Entry
 }
 
 #[tactic(auto, unfolding(model::specs::Watching::event_reply, model::specs::Watching::event_table))]
-pub fn beat(table: &mut [Entry], entry: usize, value: u32) -> Watched
+fn happen(table: &mut [Entry], entry: usize, event: Event) -> Result<Watched, Refusal>
+    ensures { (watched result ≡ event_reply table.old entry event)
+        × (table.new ≡ event_table table.old entry event) }
+{
+    if bad_entry(table.len(), entry) || bad_event(event) {
+        return Err(Refusal::BadEntry);
+    }
+    let e = after(table[entry], event);
+    table[entry] = e;
+    Ok(told(e))
+}
+
+pub fn beat(table: &mut [Entry], entry: usize, value: u32) -> Result<Watched, Refusal>
     ensures { (watched result ≡ event_reply table.old entry (Beat value))
         × (table.new ≡ event_table table.old entry (Beat value)) }
 {
-    if bad_beat(table.len(), entry, value) {
-        return refused();
-    }
-    let e = beaten(table[entry], value);
-    table[entry] = e;
-    told(e)
+    happen(table, entry, Event::Beat(value))
 }
 
-#[tactic(auto, unfolding(model::specs::Watching::event_reply, model::specs::Watching::event_table))]
-pub fn look(table: &mut [Entry], entry: usize) -> Watched
+pub fn look(table: &mut [Entry], entry: usize) -> Result<Watched, Refusal>
     ensures { (watched result ≡ event_reply table.old entry Look)
         × (table.new ≡ event_table table.old entry Look) }
 {
-    if bad_entry(table.len(), entry) {
-        return refused();
-    }
-    let e = looked(table[entry]);
-    table[entry] = e;
-    told(e)
+    happen(table, entry, Event::Look)
 }
 
-#[tactic(auto, unfolding(model::specs::Watching::event_reply, model::specs::Watching::event_table))]
-pub fn reset(table: &mut [Entry], entry: usize, window: u32) -> Watched
+pub fn reset(table: &mut [Entry], entry: usize, window: u32) -> Result<Watched, Refusal>
     ensures { (watched result ≡ event_reply table.old entry (Reset window))
         × (table.new ≡ event_table table.old entry (Reset window)) }
 {
-    if bad_reset(table.len(), entry, window) {
-        return refused();
-    }
-    let e = renewed(table[entry], window);
-    table[entry] = e;
-    told(e)
+    happen(table, entry, Event::Reset(window))
 }
 
 #[tactic(auto, unfolding(model::specs::Watching::status_reply))]
-pub fn status(table: &[Entry], entry: usize) -> Watched
+pub fn status(table: &[Entry], entry: usize) -> Result<Watched, Refusal>
     ensures { watched result ≡ status_reply table.now entry }
 {
     if bad_entry(table.len(), entry) {
-        return refused();
+        return Err(Refusal::BadEntry);
     }
-    told(table[entry])
+    Ok(told(table[entry]))
 }

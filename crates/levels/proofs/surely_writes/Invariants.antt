@@ -3,6 +3,3 @@ use Rattle.levels.proofs.surely_writes.Given as goal
 
 abbrev pub invariant-loop-i : goal.invariant-loop-i
 invariant-loop-i l = Sure l.task l.n l.i l.sure
-
-abbrev pub decreases-loop-i : goal.decreases-loop-i
-decreases-loop-i l = l.i

@@ -1,23 +1,27 @@
-use Rattle.std.proofs.Common.{rules}
-use Rattle.listing.proofs.Listings.{list_refused, list_decoded, list_entered, list_written}
+use Rattle.std.proofs.Common.{refl, rules}
+use Rattle.laws.proofs.Exits.{exits}
+use Rattle.listing.proofs.Listings.{Lists, list_refused, list_decoded, list_entered, list_written}
 use Rattle.listing.proofs.list_task.Goals as goal
 
-pub returns-in_default : goal.returns-in_default
-returns-in_default c =
-    list_refused c.args.settings.now c.args.task.now c.args.laid.now c.prepare-r.new.out c.prepare-r.result (search rules) c.prepare-r.ensures
-    c.args.starts.now c.in_default.is
+pub returns-in_err-done : goal.returns-in_err-done
+returns-in_err-done c =
+    let a = c.args in
+    exits (Lists a.settings.now a.task.now a.laid.now c.prepare.new.out a.starts.now a.starts.now) c.from_residual.ensures.1
+    (list_refused a.settings.now a.task.now a.laid.now c.prepare.new.out (search rules) a.starts.now _ c.in_err-done.ensures)
 
-pub returns-in_default-decoded : goal.returns-in_default-decoded
-returns-in_default-decoded c =
-    list_decoded c.args.settings.now c.args.task.now c.args.laid.now c.prepare-r.new.out c.prepare-r.result (search rules) c.prepare-r.ensures
-    c.in-Written.is _ c.in_default-decoded.ensures
+pub returns-in_err-rack : goal.returns-in_err-rack
+returns-in_err-rack c =
+    let a = c.args in
+    list_decoded a.settings.now a.task.now a.laid.now c.prepare.new.out (search rules) _ c.in_ok-done.ensures _ c.in_err-rack.ensures
 
 pub start_block-requires : goal.start_block-requires
 start_block-requires c =
-    list_entered c.args.settings.now c.args.task.now c.args.laid.now c.prepare-r.new.out c.prepare-r.result (search rules) c.prepare-r.ensures
-    c.in-Written.is (c.decode-decoded.ensures.settings _ c.in-Valid.is) c.args.starts.now (search rules)
+    let a = c.args in
+    list_entered a.settings.now a.task.now a.laid.now c.prepare.new.out (search rules) _ c.in_ok-done.ensures
+    (c.in_ok-rack.ensures.settings _ refl) a.starts.now (search rules)
 
 pub returns : goal.returns
 returns c =
-    list_written c.args.settings.now c.args.task.now c.args.laid.now c.prepare-r.new.out c.prepare-r.result (search rules) c.prepare-r.ensures
-    c.in-Written.is (c.decode-decoded.ensures.settings _ c.in-Valid.is) c.args.starts.now (search rules) c.start_block.ensures
+    let a = c.args in
+    list_written a.settings.now a.task.now a.laid.now c.prepare.new.out (search rules) _ c.in_ok-done.ensures
+    (c.in_ok-rack.ensures.settings _ refl) a.starts.now (search rules) c.start_block.ensures

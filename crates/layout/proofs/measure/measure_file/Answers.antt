@@ -1,22 +1,23 @@
 -- Tick 0 has its commands, and the file's block is measured after them.
-use Rattle.std.proofs.Common.{refl}
-use Rattle.timing.specs.Times.{settings_in}
-use Rattle.layout.proofs.WholeClocked.{clock_late, clock_lent, clock_measured}
+use Rattle.laws.proofs.Exits.{exits_none}
+use Rattle.layout.specs.Clocked.{FileClocked}
+use Rattle.layout.proofs.WholeClocked.{opening_late, file_lent, file_up, file_done}
 use Rattle.layout.proofs.measure.measure_file.Goals as goal
 
-pub returns-then-t-opened : goal.returns-then-t-opened
-unfolding settings_in
-returns-then-t-opened c =
-    clock_late c.args.t.now c.requires.1 c.settings_in.ensures c.start.ensures c.commanded-opened.ensures.0 c.if-t-opened.true
+pub returns-in_err-state : goal.returns-in_err-state
+returns-in_err-state c =
+    exits_none (FileClocked c.args.file.now c.args.rack.now c.args.meets.now c.args.meets.now) c.from_residual.ensures
+    (opening_late c.requires.1 c.commanded.ensures.0 c.args.file.now c.in_err-state.ensures)
 
 pub measure_block-requires : goal.measure_block-requires
-unfolding settings_in
 measure_block-requires c =
-    clock_lent c.args.t.now c.requires.1 c.settings_in.ensures c.start.ensures c.commanded-opened.ensures.0 c.requires.0 c.if-t-opened.false
-    _ refl c.store.ensures
+    file_lent c.requires.1 c.commanded.ensures.0 c.args.file.now c.requires.0 c.in_ok-state.ensures
+
+pub returns-in_err-measure_block : goal.returns-in_err-measure_block
+returns-in_err-measure_block c =
+    exits_none (FileClocked c.args.file.now c.args.rack.now c.args.meets.now c.measure_block.new.meets) c.from_residual-in_err-measure_block.ensures
+    (file_up c.requires.1 c.commanded.ensures.0 c.args.file.now c.requires.0 c.in_ok-state.ensures c.in_err-measure_block.ensures)
 
 pub returns : goal.returns
-unfolding settings_in
 returns c =
-    clock_measured c.args.t.now c.requires.1 c.settings_in.ensures c.start.ensures c.commanded-opened.ensures.0 c.requires.0
-    c.if-t-opened.false _ refl c.store.ensures c.measure_block.ensures c.load.ensures
+    file_done c.requires.1 c.commanded.ensures.0 c.args.file.now c.requires.0 c.in_ok-state.ensures c.in_ok-measure_block.ensures.0

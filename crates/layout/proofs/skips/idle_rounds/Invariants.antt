@@ -1,9 +1,5 @@
-use Rattle.std.proofs.Common.{◌-◌}
 use Rattle.layout.proofs.IdleLoops.{Scanning}
 use Rattle.layout.proofs.skips.idle_rounds.Given as goal
 
 abbrev pub invariant-loop-next : goal.invariant-loop-next
-invariant-loop-next l = Scanning l.file l.i l.to l.period l.ticks l.next
-
-abbrev pub decreases-loop-next : goal.decreases-loop-next
-decreases-loop-next l = l.to - l.next
+invariant-loop-next l = Scanning l.file l.i l.to l.period l.sum l.next

@@ -1,9 +1,9 @@
 -- Three pieces: the buffer is lent whole to the first, and what is left of it to the others.
-use Rattle.std.proofs.Common.{arith, ℕ, ◌+◌, ◌-◌, ◌++◌, sym, subst}
+use Rattle.std.proofs.Common.{ap, ◌∙◌, arith, ℕ, ◌+◌, ◌-◌, ◌++◌, sym, subst}
 use Rattle.model.specs.declared.Settings.{Settings}
 use Rattle.model.specs.Records.{Rec, rec, record_bytes}
 use Rattle.model.specs.{Trees.Block, Layout.fill}
-use Rattle.records.specs.Blocks.{skip_bytes}
+use Rattle.records.specs.Blocks.{skip_bytes, skip_records}
 use Rattle.records.proofs.Over.{Part, back, part_at, part_room, part_fits, part_fits_last, part_last}
 use Rattle.records.proofs.Laying.{wrote_next}
 use Rattle.placing.specs.declared.clock.State.{State}
@@ -22,21 +22,21 @@ filling σ s e = fill σ (e - s.tick) s.tick e
 
 -- they are laid, and their bytes counted
 filled : (c : After-bytes_between-at)
-    → Part (closing_bytes c.args.rack c.args.s c.args.end (bare c.args.kind)) (skip_bytes c.put_filling-f.result.wait ++ record_bytes (bare c.args.kind))
+    → Part (closing_bytes c.args.rack.now c.args.s c.args.end (bare c.args.kind)) (skip_bytes c.put_filling-f.result.wait ++ record_bytes (bare c.args.kind))
     c.args.out.now c.put_filling-f.new.out c.bytes_between-at.result
 filled c =
     let a = c.args in
-    let b = filling a.rack a.s a.end in
+    let b = filling a.rack.now a.s a.end in
     piece_laid a.s b (bare a.kind) a.out.now c.requires.room
     (lays_wrote b c.put_filling-f.ensures (settled_few a.s.records a.s.wait b c.requires.few) c.bytes_between-at.ensures) c.put_filling-f.ensures.after.wait
 
 -- and so are the ticks that wait then
 waited : (c : After-put_skip)
-    → Part (closing_bytes c.args.rack c.args.s c.args.end (bare c.args.kind)) (record_bytes (bare c.args.kind)) c.args.out.now
+    → Part (closing_bytes c.args.rack.now c.args.s c.args.end (bare c.args.kind)) (record_bytes (bare c.args.kind)) c.args.out.now
     (back c.put_filling-f.new.out c.bytes_between-at.result c.put_skip.new.out) (c.bytes_between-at.result + c.put_skip.result)
 waited c =
     let a = c.args in
-    let b = filling a.rack a.s a.end in
+    let b = filling a.rack.now a.s a.end in
     wrote_next (skip_bytes c.put_filling-f.result.wait)
     (piece_laid a.s b (bare a.kind) a.out.now c.requires.room
     (lays_wrote b c.put_filling-f.ensures (settled_few a.s.records a.s.wait b c.requires.few) c.bytes_between-at.ensures)
@@ -48,8 +48,8 @@ put_filling-f-requires c =
     let a = c.args in (
       c.requires.can,
       record {
-        few = settled_few a.s.records a.s.wait (filling a.rack a.s a.end) c.requires.few;
-        room = piece_fits a.s (filling a.rack a.s a.end) (bare a.kind) a.out.now c.requires.room;
+        few = settled_few a.s.records a.s.wait (filling a.rack.now a.s a.end) c.requires.few;
+        room = piece_fits a.s (filling a.rack.now a.s a.end) (bare a.kind) a.out.now c.requires.room;
       },
     )
 
@@ -76,8 +76,8 @@ put_bare-requires c = part_fits_last (waited (goal.at.put_bare-requires c).After
 
 pub returns : goal.returns
 returns c =
-    let b = filling c.args.rack c.args.s c.args.end in
+    let b = filling c.args.rack.now c.args.s c.args.end in
     record {
-      closed = subst (Closed _ _ _) (sym c.back.ensures) (closing b c.put_filling-f.ensures.after c.requires.few c.skip_records.ensures);
+      closed = subst (Closed _ _ _) (sym c.back.ensures) (closing b c.put_filling-f.ensures.after c.requires.few (c.skip_records.ensures ∙ ap skip_records (omega arith)));
       wrote = part_last (waited (goal.at.returns c).After-put_skip) c.put_bare.ensures;
     }

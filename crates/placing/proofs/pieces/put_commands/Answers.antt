@@ -9,20 +9,20 @@ use Rattle.placing.proofs.pieces.put_commands.Goals.{After-put_skip-at, After-pu
 
 -- the SKIP is laid
 skipped : (c : After-put_skip-at)
-    → Part (due_bytes c.args.rack c.args.s) (record_bytes (act_rec (beat 1)) ++ save_bytes c.args.s.windows_left) c.args.out.now
+    → Part (due_bytes c.args.rack.now c.args.s) (record_bytes (act_rec (beat 1)) ++ save_bytes c.args.s.windows_left) c.args.out.now
     c.put_skip-at.new.out c.put_skip-at.result
 skipped c = due_skipped c.requires.0 c.args.out.now c.requires.1 c.put_skip-at.ensures
 
 -- and the BEAT
 beaten : (c : After-put_bare)
-    → Part (due_bytes c.args.rack c.args.s) (save_bytes c.args.s.windows_left) c.args.out.now
+    → Part (due_bytes c.args.rack.now c.args.s) (save_bytes c.args.s.windows_left) c.args.out.now
     (back c.put_skip-at.new.out c.put_skip-at.result c.put_bare.new.out) (c.put_skip-at.result + 12)
 beaten c =
     part_lent (record_bytes (act_rec (beat 1))) (due_skipped c.requires.0 c.args.out.now c.requires.1 c.put_skip-at.ensures) c.put_bare.ensures refl
 
 -- and a SAVE is due
 saving : (c : Else-s-gt0)
-    → Part (due_bytes c.args.rack c.args.s) (record_bytes (act_rec (save 0))) c.args.out.now
+    → Part (due_bytes c.args.rack.now c.args.s) (record_bytes (act_rec (save 0))) c.args.out.now
     (back c.put_skip-at.new.out c.put_skip-at.result c.put_bare.new.out) (c.put_skip-at.result + 12)
 saving c =
     save_due_is _

@@ -9,11 +9,11 @@ pub returns-then-not-fields_fit : goal.returns-then-not-fields_fit
 returns-then-not-fields_fit c = field_refused (cc) (cc)
 
 pub returns-in_default : goal.returns-in_default
-returns-in_default c = structure_refused (cc) (cc) (λ os e. sym c.in_default.is ∙ c.nest-nested.ensures os e)
+returns-in_default c = structure_refused (cc) (cc) (λ os e. sym c.in_default.is ∙ c.nest.ensures os e)
 
-pub returns-then-max_depth-next : goal.returns-then-max_depth-next
-returns-then-max_depth-next c =
-    deep_refused (cc) (cc) (λ os e. sym c.in-Inside.is ∙ c.nest-nested.ensures os e) (omega (arith, c.max_depth.ensures))
+pub returns-then-limits_of-next : goal.returns-then-limits_of-next
+returns-then-limits_of-next c =
+    deep_refused (cc) (cc) (λ os e. sym c.in-Some.is ∙ c.nest.ensures os e) (omega (arith, c.limits_of.ensures.1))
 
 pub returns : goal.returns
-returns c = goes_on (cc) (cc) (λ os e. sym c.in-Inside.is ∙ c.nest-nested.ensures os e) (omega (arith, c.max_depth.ensures))
+returns c = goes_on (cc) (cc) (λ os e. sym c.in-Some.is ∙ c.nest.ensures os e) (omega (arith, c.limits_of.ensures.1))

@@ -1,20 +1,19 @@
 -- Settings of another length are bad, and of 12 or 24 bytes the numbers decide.
-use Rattle.std.proofs.Common.{◌≡◌, ℕ, Bool, true, false, List, length, sym, ◌∙◌, arith}
+use Rattle.std.proofs.Common.{◌≡◌, ℕ, Bool, true, false, List, length, Ok, Err, sym, ◌∙◌, arith}
 use Rattle.model.specs.declared.{Settings.Settings, Refusal.Refusal}
 use Rattle.model.specs.Settings.{settings_of, out_of_range, bad_settings_length, bad_settings}
 use Rattle.records.specs.Decoded.{Decodes}
-use Rattle.records.specs.declared.settings.Decoded.TheVariants.{Valid, Refused}
 use Rattle.records.proofs.settings.decode.Goals as goal
 
 -- refused where row 6 holds
-refused_bad : (s : List ℕ) → bad_settings s ≡ true → Decodes s (Refused Refusal.BadSettings)
+refused_bad : (s : List ℕ) → bad_settings s ≡ true → Decodes s (Err Refusal.BadSettings)
 refused_bad s bad = record { reply = λ next. rw bad; settings = λ σ e. none σ e }
   where
-    none : {A : Type 0} (σ : Settings) → Refused Refusal.BadSettings ≡ Valid σ → A
+    none : {A : Type 0} (σ : Settings) → Err Refusal.BadSettings ≡ Ok σ → A
     none σ e = let z : ◌≡◌ {A = ℕ} 0 1 = cc in absurd (omega arith)
 
 -- valid where it does not
-valid_good : (s : List ℕ) (σ : Settings) → bad_settings s ≡ false → σ ≡ settings_of s → Decodes s (Valid σ)
+valid_good : (s : List ℕ) (σ : Settings) → bad_settings s ≡ false → σ ≡ settings_of s → Decodes s (Ok σ)
 valid_good s σ good is = record { reply = λ next. rw good; settings = λ τ e. cc }
 
 -- of a length that is taken, the numbers decide

@@ -1,8 +1,0 @@
-use Rattle.placing.proofs.Moves.{readied_past, readied_here}
-use Rattle.placing.proofs.clock.readied.Goals as goal
-
-pub returns-then-s-d : goal.returns-then-s-d
-returns-then-s-d c = readied_past c.requires.0 _ c.if-s-d.true c.requires.2 c.commanded.ensures.0 c.commanded.ensures.1
-
-pub returns : goal.returns
-returns c = readied_here c.requires.0 _ c.requires.1 c.if-s-d.false
