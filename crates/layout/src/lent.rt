@@ -8,12 +8,13 @@ use placing::clock::State;
 // The places of the table of meetings: an IF is laid as at least three records, so a file has fewer.
 pub const MEETINGS: usize = 1821;
 
-// The records of an equalised file up to `to`, and the settings. Its methods stand in this crate, so the struct does too.
+// The records of an equalised file up to `to`, and the settings, which are a copy: behind a reference they would be read again after each
+// byte that is written. Its methods stand in this crate, so the struct does too.
 #[derive(Clone, Copy)]
 pub struct Source<'a> {
     pub file: &'a [u8],
     pub to: usize,
-    pub rack: &'a Settings,
+    pub rack: Settings,
 }
 
 // A state, and the next place of the table of meetings. Past the last there is none: a result with so many IFs is too long to be written.

@@ -96,8 +96,8 @@ impl<'a> Source<'a> {
         clock: &mut Clock,
         meets: &mut [u32; MEETINGS],
     ) -> Option<usize>
-        requires { (Entered self.now.file.now i self.now.to self.now.rack.now clock.old.state) × (i < self.now.to) }
-        ensures { BlockClocked self.now.file.now i self.now.to self.now.rack.now clock.old clock.new meets.old meets.new result }
+        requires { (Entered self.now.file.now i self.now.to self.now.rack clock.old.state) × (i < self.now.to) }
+        ensures { BlockClocked self.now.file.now i self.now.to self.now.rack clock.old clock.new meets.old meets.new result }
     {
         if closes(kind_at(self.file, i)) {
             return Some(i);
@@ -113,17 +113,17 @@ impl<'a> Source<'a> {
         clock: &mut Clock,
         meets: &mut [u32; MEETINGS],
     ) -> Option<usize>
-        requires { (Statement self.now.file.now i self.now.to self.now.rack.now clock.old.state) × (kind_at self.now.file.now i ≡ IF) }
-        ensures { StatementClocked self.now.file.now i self.now.to self.now.rack.now clock.old clock.new meets.old meets.new result }
+        requires { (Statement self.now.file.now i self.now.to self.now.rack clock.old.state) × (kind_at self.now.file.now i ≡ IF) }
+        ensures { StatementClocked self.now.file.now i self.now.to self.now.rack clock.old clock.new meets.old meets.new result }
     {
-        let test = in_time(self.rack.period, clock.state.stepped(self.rack, 1))?;
+        let test = in_time(self.rack.period, clock.state.stepped(&self.rack, 1))?;
         let k = clock.take_place();
         clock.state = test;
         let mid = self.measure_side(i + 1, clock, meets)?;
         let one = clock.state;
         clock.state = test.back(0, one.records);
         let end = self.measure_side(mid + 1, clock, meets)?;
-        let state = meet(self.rack, one, clock.state);
+        let state = meet(&self.rack, one, clock.state);
         clock.state = state;
         note(meets, k, state.tick);
         Some(end + 1)
@@ -138,15 +138,15 @@ impl<'a> Source<'a> {
         clock: &mut Clock,
         meets: &mut [u32; MEETINGS],
     ) -> Option<usize>
-        requires { (Statement self.now.file.now i self.now.to self.now.rack.now clock.old.state) × (kind_at self.now.file.now i ≡ TIMES)
+        requires { (Statement self.now.file.now i self.now.to self.now.rack clock.old.state) × (kind_at self.now.file.now i ≡ TIMES)
             × (count ≡ (record_at self.now.file.now i).count) }
-        ensures { StatementClocked self.now.file.now i self.now.to self.now.rack.now clock.old clock.new meets.old meets.new result }
+        ensures { StatementClocked self.now.file.now i self.now.to self.now.rack clock.old clock.new meets.old meets.new result }
     {
         let mut next = i + 1;
         for _round in 0..count {
             next = self.measure_block(i + 1, clock, meets)?;
         }
-        clock.state = in_time(self.rack.period, clock.state.stepped(self.rack, 1))?;
+        clock.state = in_time(self.rack.period, clock.state.stepped(&self.rack, 1))?;
         Some(next + 1)
     }
 
@@ -158,9 +158,9 @@ impl<'a> Source<'a> {
         clock: &mut Clock,
         meets: &mut [u32; MEETINGS],
     ) -> Option<usize>
-        requires { (Statement self.now.file.now i self.now.to self.now.rack.now clock.old.state)
+        requires { (Statement self.now.file.now i self.now.to self.now.rack clock.old.state)
             × ((eqb (kind_at self.now.file.now i) IF || eqb (kind_at self.now.file.now i) TIMES) ≡ true) }
-        ensures { StatementClocked self.now.file.now i self.now.to self.now.rack.now clock.old clock.new meets.old meets.new result }
+        ensures { StatementClocked self.now.file.now i self.now.to self.now.rack clock.old clock.new meets.old meets.new result }
     {
         let r = record_at(self.file, i);
         if r.kind == kinds::IF {
@@ -171,7 +171,7 @@ impl<'a> Source<'a> {
         };
         clock.state = in_time(
             self.rack.period,
-            measure_idle(self.rack, clock.state, idle.ticks),
+            measure_idle(&self.rack, clock.state, idle.ticks),
         )?;
         Some(idle.next + 1)
     }
@@ -184,8 +184,8 @@ impl<'a> Source<'a> {
         clock: &mut Clock,
         meets: &mut [u32; MEETINGS],
     ) -> Option<usize>
-        requires { Entered self.now.file.now i self.now.to self.now.rack.now clock.old.state }
-        ensures { BlockClocked self.now.file.now i self.now.to self.now.rack.now clock.old clock.new meets.old meets.new result }
+        requires { Entered self.now.file.now i self.now.to self.now.rack clock.old.state }
+        ensures { BlockClocked self.now.file.now i self.now.to self.now.rack clock.old clock.new meets.old meets.new result }
     {
         let mut next = i;
         // The index goes past whole blocks, so a `for` over it is no plainer.
@@ -198,7 +198,7 @@ impl<'a> Source<'a> {
                 next = self.measure_inner(next, clock, meets)?;
                 continue;
             }
-            clock.state = in_time(self.rack.period, measure_step(self.rack, r, clock.state))?;
+            clock.state = in_time(self.rack.period, measure_step(&self.rack, r, clock.state))?;
             next += 1;
         }
         Some(next)
@@ -214,7 +214,7 @@ pub fn measure_file(file: &[u8], rack: &Settings, meets: &mut [u32; MEETINGS]) -
     let source = Source {
         file,
         to: file.len() / 12,
-        rack,
+        rack: *rack,
     };
     let mut clock = Clock { state, place: 0 };
     source.measure_block(0, &mut clock, meets)?;

@@ -30,14 +30,14 @@ impl<'a> Source<'a> {
         meets: &[u32; MEETINGS],
         out: &mut [u8],
     ) -> Passage
-        requires { SideFits self.now.file.now i self.now.to self.now.rack.now start end (rec kind 0 0 0 0 0) ifs meets.now out.old }
-        ensures { SideLaid self.now.file.now i self.now.to self.now.rack.now start end (rec kind 0 0 0 0 0) ifs out.old out.new result }
+        requires { SideFits self.now.file.now i self.now.to self.now.rack start end (rec kind 0 0 0 0 0) ifs meets.now out.old }
+        ensures { SideLaid self.now.file.now i self.now.to self.now.rack start end (rec kind 0 0 0 0 0) ifs out.old out.new result }
     {
         let e = self.write_block(i, start, ifs, meets, out);
         let state = e.state;
         let at = bytes_between(start, state);
         Passage {
-            state: close_side(self.rack, state, end, kind, &mut out[at..]),
+            state: close_side(&self.rack, state, end, kind, &mut out[at..]),
             next: e.next,
             ifs: e.ifs,
         }
@@ -54,11 +54,11 @@ impl<'a> Source<'a> {
         meets: &[u32; MEETINGS],
         out: &mut [u8],
     ) -> Passage
-        requires { (StatementFits self.now.file.now i self.now.to self.now.rack.now from ifs meets.now out.old)
+        requires { (StatementFits self.now.file.now i self.now.to self.now.rack from ifs meets.now out.old)
             × (record_of r ≡ record_at self.now.file.now i) × (kind_at self.now.file.now i ≡ IF) }
-        ensures { StatementLaid self.now.file.now i self.now.to self.now.rack.now from ifs out.old out.new result }
+        ensures { StatementLaid self.now.file.now i self.now.to self.now.rack from ifs out.old out.new result }
     {
-        let test = put_step(self.rack, from, 1, r, out);
+        let test = put_step(&self.rack, from, 1, r, out);
         let at = bytes_between(from, test);
         let end = meets[ifs];
         let first = self.write_side(
@@ -100,9 +100,9 @@ impl<'a> Source<'a> {
         meets: &[u32; MEETINGS],
         out: &mut [u8],
     ) -> Passage
-        requires { (StatementFits self.now.file.now i self.now.to self.now.rack.now from ifs meets.now out.old)
+        requires { (StatementFits self.now.file.now i self.now.to self.now.rack from ifs meets.now out.old)
             × (record_of r ≡ record_at self.now.file.now i) × (kind_at self.now.file.now i ≡ TIMES) }
-        ensures { StatementLaid self.now.file.now i self.now.to self.now.rack.now from ifs out.old out.new result }
+        ensures { StatementLaid self.now.file.now i self.now.to self.now.rack from ifs out.old out.new result }
     {
         let mut state = from;
         let mut next = i + 1;
@@ -115,7 +115,7 @@ impl<'a> Source<'a> {
             k = e.ifs;
         }
         let at = bytes_between(from, state);
-        let state = put_step(self.rack, state, 1, check_of(r), &mut out[at..]);
+        let state = put_step(&self.rack, state, 1, check_of(r), &mut out[at..]);
         Passage {
             state,
             next: next + 1,
@@ -133,22 +133,22 @@ impl<'a> Source<'a> {
         meets: &[u32; MEETINGS],
         out: &mut [u8],
     ) -> Passage
-        requires { StatementFits self.now.file.now i self.now.to self.now.rack.now from ifs meets.now out.old }
-        ensures { StatementLaid self.now.file.now i self.now.to self.now.rack.now from ifs out.old out.new result }
+        requires { StatementFits self.now.file.now i self.now.to self.now.rack from ifs meets.now out.old }
+        ensures { StatementLaid self.now.file.now i self.now.to self.now.rack from ifs out.old out.new result }
     {
         let r = record_at(self.file, i);
         if r.kind == kinds::IF {
             return self.write_branch(i, r, from, ifs, meets, out);
         }
         if let Some(idle) = idle_at(self.file, i, self.to, r, self.rack.period) {
-            let state = write_idle(self.rack, from, idle.ticks, r, out);
+            let state = write_idle(&self.rack, from, idle.ticks, r, out);
             let next = idle.next;
             return Passage { state, next, ifs };
         }
         if r.kind == kinds::TIMES {
             return self.write_rounds(i, r, from, ifs, meets, out);
         }
-        let state = put_step(self.rack, from, step_ticks(*self.rack, r), r, out);
+        let state = put_step(&self.rack, from, step_ticks(self.rack, r), r, out);
         let next = i + 1;
         Passage { state, next, ifs }
     }
@@ -163,8 +163,8 @@ impl<'a> Source<'a> {
         meets: &[u32; MEETINGS],
         out: &mut [u8],
     ) -> Passage
-        requires { BlockFits self.now.file.now i self.now.to self.now.rack.now at ifs meets.now out.old }
-        ensures { BlockLaid self.now.file.now i self.now.to self.now.rack.now at ifs out.old out.new result }
+        requires { BlockFits self.now.file.now i self.now.to self.now.rack at ifs meets.now out.old }
+        ensures { BlockLaid self.now.file.now i self.now.to self.now.rack at ifs out.old out.new result }
     {
         let mut state = at;
         let mut next = i;
@@ -202,7 +202,7 @@ pub fn write_file(file: &[u8], rack: &Settings, meets: &[u32; MEETINGS], out: &m
     let source = Source {
         file,
         to: file.len() / 12,
-        rack,
+        rack: *rack,
     };
     let e = source.write_block(0, opened, 0, meets, &mut out[at..]);
     let end = e.state;

@@ -48,7 +48,8 @@ fn put_before(rack: &Settings, s: State, d: u32, out: &mut [u8]) -> usize
     0
 }
 
-// A step of d ticks with the record r, and what stands before it.
+// A step of d ticks with the record r, and what stands before it. Out of line, the state would go through memory at each step.
+#[inline(always)]
 pub fn put_step(rack: &Settings, from: State, d: u32, r: Record, out: &mut [u8]) -> State
     requires { (Laying rack.now from) × (1 ≤ d) × (d ≤ longest rack.now) × (length (step_bytes rack.now from d (record_of r)) ≤ length out.old) }
     ensures { StepLaid rack.now from d (record_of r) out.old out.new result }

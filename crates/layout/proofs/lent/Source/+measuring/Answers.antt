@@ -36,7 +36,7 @@ measure_block-measure_inner-requires t c = (
 
 pub measure_block-returns-in_err-next : goal.measure_block-returns-in_err-next
 measure_block-returns-in_err-next t c =
-    exits_none (BlockClocked c.args.self.now.file.now c.args.i c.args.self.now.to c.args.self.now.rack.now c.args.clock.now c.measure_inner.new.clock c.args.meets.now c.measure_inner.new.meets)
+    exits_none (BlockClocked c.args.self.now.file.now c.args.i c.args.self.now.to c.args.self.now.rack c.args.clock.now c.measure_inner.new.clock c.args.meets.now c.measure_inner.new.meets)
     c.from_residual.ensures
     (inner_gives_up c.loop-next.invariant c.loop-next-test.true
     (told closes_block (ap (λ (y : Rec). y.kind) c.record_at-r.ensures) c.closes.ensures c.if-closes.false) c.in_err-next.ensures)
@@ -62,7 +62,7 @@ measure_block-measure_step-requires t c =
 
 pub measure_block-returns-in_err-clock : goal.measure_block-returns-in_err-clock
 measure_block-returns-in_err-clock t c =
-    exits_none (BlockClocked c.args.self.now.file.now c.args.i c.args.self.now.to c.args.self.now.rack.now c.args.clock.now c.loop-next.clock c.args.meets.now c.loop-next.meets)
+    exits_none (BlockClocked c.args.self.now.file.now c.args.i c.args.self.now.to c.args.self.now.rack c.args.clock.now c.loop-next.clock c.args.meets.now c.loop-next.meets)
     c.from_residual-in_err-clock.ensures
     (step_gives_up c.loop-next.invariant c.loop-next-test.true
     (told closes_block (ap (λ (y : Rec). y.kind) c.record_at-r.ensures) c.closes.ensures c.if-closes.false)
@@ -81,7 +81,7 @@ measure_block-returns t c = (measuring_ended c.loop-next.invariant c.loop-next-t
 
 pub measure_branch-returns-in_err-test : goal.measure_branch-returns-in_err-test
 measure_branch-returns-in_err-test t c =
-    exits_none (StatementClocked c.args.self.now.file.now c.args.i c.args.self.now.to c.args.self.now.rack.now c.args.clock.now c.args.clock.now c.args.meets.now c.args.meets.now)
+    exits_none (StatementClocked c.args.self.now.file.now c.args.i c.args.self.now.to c.args.self.now.rack c.args.clock.now c.args.clock.now c.args.meets.now c.args.meets.now)
     c.from_residual.ensures (test_up c.requires.0 c.requires.1 c.stepped.ensures c.in_err-test.ensures)
 
 pub measure_branch-measure_side-requires : goal.measure_branch-measure_side-requires
@@ -95,7 +95,7 @@ measure_branch-measure_side-requires t c = (
 
 pub measure_branch-returns-in_err-mid : goal.measure_branch-returns-in_err-mid
 measure_branch-returns-in_err-mid t c =
-    exits_none (StatementClocked c.args.self.now.file.now c.args.i c.args.self.now.to c.args.self.now.rack.now c.args.clock.now c.measure_side.new.clock c.args.meets.now c.measure_side.new.meets)
+    exits_none (StatementClocked c.args.self.now.file.now c.args.i c.args.self.now.to c.args.self.now.rack c.args.clock.now c.measure_side.new.clock c.args.meets.now c.measure_side.new.meets)
     c.from_residual-in_err-mid.ensures (one_up c.requires.0 c.requires.1 c.stepped.ensures c.in_ok-test.ensures c.in_err-mid.ensures)
 
 pub measure_branch-overflow_add-mid : goal.measure_branch-overflow_add-mid
@@ -119,7 +119,7 @@ measure_branch-measure_side-requires-2 t c =
 
 pub measure_branch-returns-in_err-end : goal.measure_branch-returns-in_err-end
 measure_branch-returns-in_err-end t c =
-    exits_none (StatementClocked c.args.self.now.file.now c.args.i c.args.self.now.to c.args.self.now.rack.now c.args.clock.now c.measure_side-2.new.clock c.args.meets.now c.measure_side-2.new.meets)
+    exits_none (StatementClocked c.args.self.now.file.now c.args.i c.args.self.now.to c.args.self.now.rack c.args.clock.now c.measure_side-2.new.clock c.args.meets.now c.measure_side-2.new.meets)
     c.from_residual-in_err-end.ensures
     (two_up c.requires.0 c.requires.1 c.stepped.ensures c.in_ok-test.ensures c.in_ok-mid.ensures c.back-clock.ensures c.in_err-end.ensures)
 
@@ -145,7 +145,7 @@ measure_branch-returns t c =
 
 pub measure_inner-returns-in_err-clock : goal.measure_inner-returns-in_err-clock
 measure_inner-returns-in_err-clock t c =
-    exits_none (StatementClocked c.args.self.now.file.now c.args.i c.args.self.now.to c.args.self.now.rack.now c.args.clock.now c.args.clock.now c.args.meets.now c.args.meets.now)
+    exits_none (StatementClocked c.args.self.now.file.now c.args.i c.args.self.now.to c.args.self.now.rack c.args.clock.now c.args.clock.now c.args.meets.now c.args.meets.now)
     c.from_residual.ensures
     (statement_up
     (idle_measured (loop_there c.requires.0 c.requires.1 c.record_at-r.ensures c.if-r-eq-IF.false) c.in-Some.ensures {table = c.args.meets.now}
@@ -179,7 +179,7 @@ measure_rounds-measure_block-requires t c =
 
 pub measure_rounds-returns-in_err-next : goal.measure_rounds-returns-in_err-next
 measure_rounds-returns-in_err-next t c =
-    exits_none (StatementClocked c.args.self.now.file.now c.args.i c.args.self.now.to c.args.self.now.rack.now c.args.clock.now c.measure_block.new.clock c.args.meets.now c.measure_block.new.meets)
+    exits_none (StatementClocked c.args.self.now.file.now c.args.i c.args.self.now.to c.args.self.now.rack c.args.clock.now c.measure_block.new.clock c.args.meets.now c.measure_block.new.meets)
     c.from_residual.ensures (rounds_give_up c.loop-round.invariant c.loop-round-test.true c.in_err-next.ensures)
 
 pub measure_rounds-loop-round-preserved : goal.measure_rounds-loop-round-preserved
@@ -193,7 +193,7 @@ measure_rounds-stepped-requires t c =
 
 pub measure_rounds-returns-in_err-clock : goal.measure_rounds-returns-in_err-clock
 measure_rounds-returns-in_err-clock t c =
-    exits_none (StatementClocked c.args.self.now.file.now c.args.i c.args.self.now.to c.args.self.now.rack.now c.args.clock.now c.loop-round.clock c.args.meets.now c.loop-round.meets)
+    exits_none (StatementClocked c.args.self.now.file.now c.args.i c.args.self.now.to c.args.self.now.rack c.args.clock.now c.loop-round.clock c.args.meets.now c.loop-round.meets)
     c.from_residual-in_err-clock.ensures
     (statement_up (loop_measured c.loop-round.invariant c.loop-round-test.false c.stepped.ensures) c.in_err-clock.ensures)
 

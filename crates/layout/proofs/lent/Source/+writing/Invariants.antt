@@ -19,11 +19,11 @@ abbrev pub decreases-write_statement : goal.decreases-write_statement
 decreases-write_statement l = 5 * (l.self.now.to - l.i) + 2
 
 abbrev pub invariant-write_block-loop-next : goal.invariant-write_block-loop-next
-invariant-write_block-loop-next l = WritingBlock l.self.file.now l.i l.self.to l.self.rack.now l.at l.state l.next l.ifs l.k l.meets l.initial.out l.out
+invariant-write_block-loop-next l = WritingBlock l.self.file.now l.i l.self.to l.self.rack l.at l.state l.next l.ifs l.k l.meets l.initial.out l.out
 
 abbrev pub decreases-write_block-loop-next : goal.decreases-write_block-loop-next
 decreases-write_block-loop-next l = l.self.to - l.next
 
 abbrev pub invariant-write_rounds-loop-round : goal.invariant-write_rounds-loop-round
 invariant-write_rounds-loop-round l =
-    WritingLoop l.self.file.now l.i l.self.to l.self.rack.now l.from l.ifs l.meets l.initial.out l.r.count l.state l.next l._round l.k l.out
+    WritingLoop l.self.file.now l.i l.self.to l.self.rack l.from l.ifs l.meets l.initial.out l.r.count l.state l.next l._round l.k l.out
