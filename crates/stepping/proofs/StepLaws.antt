@@ -1,4 +1,4 @@
--- Tests, operations, fields that fit, and what a record does.
+-- Fields that fit.
 use Rattle.std.proofs.Common.{◌≡◌, ℕ, ◌%◌, ◌<◌, Bool, true, cond, ◌&&◌, [], ◌∷◌}
 use Rattle.std.proofs.Common.{subst, ltb-true}
 use lib.{Dec.eqb}

@@ -1,11 +1,13 @@
 // The lent buffers and the store: what a run starts from, and what it leaves.
-ghost use Rattle.std.specs.Prelude.{◌≡◌, length};
+ghost use Rattle.std.specs.Prelude.{◌≡◌, ◌*◌, length};
 ghost use Rattle.model.specs.Limits.{port_count, variable_count};
+ghost use Rattle.model.specs.Stopping.{words, words_from};
 ghost use Rattle.model.specs.Records.{Bytes};
 ghost use Rattle.stepping.specs.Machines.{held};
 ghost use Rattle.stepping.specs.Buffers.{Sized, Stored, with_variables, with_outputs};
 
 use crate::store::Store;
+use records::words::{put_word, word_at};
 
 fn load_marks(marks: &[u8], to: &mut [u32])
     requires { length marks.now ≡ length to.old }
@@ -16,12 +18,32 @@ fn load_marks(marks: &[u8], to: &mut [u32])
     }
 }
 
-fn store_marks(from: &[u32], marks: &mut [u8])
+pub fn store_marks(from: &[u32], marks: &mut [u8])
     requires { (length from.now ≡ length marks.old) × (Bytes from.now) }
     ensures { marks.new ≡ from.now }
 {
     for (i, mark) in from.iter().enumerate() {
         marks[i] = *mark as u8;
+    }
+}
+
+// Numbers of 4 bytes each, read from bytes.
+pub fn load_words(bytes: &[u8], to: &mut [u32])
+    requires { length bytes.now ≡ 4 * length to.old }
+    ensures { to.new ≡ words_from bytes.now 0 (length to.old) }
+{
+    for (i, x) in to.iter_mut().enumerate() {
+        *x = word_at(bytes, 4 * i);
+    }
+}
+
+// Numbers written over bytes, 4 to each.
+pub fn store_words(from: &[u32], bytes: &mut [u8])
+    requires { length bytes.old ≡ 4 * length from.now }
+    ensures { bytes.new ≡ words from.now }
+{
+    for (i, x) in from.iter().enumerate() {
+        put_word(&mut bytes[4 * i..], *x);
     }
 }
 

@@ -6,10 +6,11 @@ ghost use Rattle.model.specs.Replies.{after_save};
 ghost use Rattle.stepping.specs.Machines.{held, pictured};
 ghost use Rattle.stepping.specs.Buffers.{StoredImage};
 
+use crate::buffers::{load_words, store_words};
 use crate::store::{Image, Store};
+use model::limits::VARIABLES;
 use records::kinds;
 use records::words::{put_word, word_at};
-use std::array;
 
 impl Image {
     // The image in bytes.
@@ -17,10 +18,12 @@ impl Image {
         requires { length bytes.now ≡ image_length }
         ensures { pictured result ≡ image_of bytes.now }
     {
+        let mut variables: [u32; VARIABLES] = [0; VARIABLES];
+        load_words(&bytes[8..], &mut variables);
         Image {
             index: word_at(bytes, 0),
             tick: word_at(bytes, 4),
-            variables: array::from_fn(|i| word_at(bytes, 8 + 4 * i)),
+            variables,
         }
     }
 
@@ -31,9 +34,7 @@ impl Image {
     {
         put_word(bytes, self.index);
         put_word(&mut bytes[4..], self.tick);
-        for (i, x) in self.variables.iter().enumerate() {
-            put_word(&mut bytes[8 + 4 * i..], *x);
-        }
+        store_words(&self.variables, &mut bytes[8..]);
     }
 }
 

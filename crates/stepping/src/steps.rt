@@ -72,7 +72,7 @@ impl Store {
     }
 
     // The result of a SET's operation.
-    fn set_value(&self, r: Record) -> u32
+    pub fn set_value(&self, r: Record) -> u32
         requires { set_fits (record_of r) ≡ true }
         ensures { result ≡ set_result (record_of r) (held self.now).variables }
     {
