@@ -187,20 +187,26 @@ impl<'a> Source<'a> {
         requires { Entered self.now.file.now i self.now.to self.now.rack clock.old.state }
         ensures { BlockClocked self.now.file.now i self.now.to self.now.rack clock.old clock.new meets.old meets.new result }
     {
+        // Not kept on the clock: there each step would write it to memory and read it again.
+        let mut state = clock.state;
         let mut next = i;
         // The index goes past whole blocks, so a `for` over it is no plainer.
         while next < self.to {
             let r = record_at(self.file, next);
             if closes(r.kind) {
+                clock.state = state;
                 return Some(next);
             }
             if nests(r.kind) {
+                clock.state = state;
                 next = self.measure_inner(next, clock, meets)?;
+                state = clock.state;
                 continue;
             }
-            clock.state = in_time(self.rack.period, measure_step(&self.rack, r, clock.state))?;
+            state = in_time(self.rack.period, measure_step(&self.rack, r, state))?;
             next += 1;
         }
+        clock.state = state;
         Some(next)
     }
 }

@@ -15,13 +15,13 @@ pub struct Step {
     pub next: usize,
 }
 
-// A file's records up to `to`, and the settings that they are timed with. Methods stand in the crate of their type, so each pass over a file has
-// such a struct of its own.
+// A file's records up to `to`, and a copy of the settings that they are timed with. Methods stand in the crate of their type, so each pass
+// over a file has such a struct of its own.
 #[derive(Clone, Copy)]
 pub struct Source<'a> {
     pub file: &'a [u8],
     pub to: usize,
-    pub rack: &'a Settings,
+    pub rack: Settings,
 }
 
 impl Source<'_> {
@@ -29,11 +29,13 @@ impl Source<'_> {
     #[cycle(timing_blocks)]
     fn statement_time(&self, i: usize, depth: usize) -> Option<Step>
         requires { (Ranged self.now.file.now i self.now.to) × (i < self.now.to) }
-        ensures { StatementTimes self.now.file.now i self.now.to depth self.now.rack.now result }
+        ensures { StatementTimes self.now.file.now i self.now.to depth self.now.rack result }
     {
+        // Read ahead of the kind: after the test for a block this would keep that test and the match by kind from being one jump.
+        let rack = self.rack;
         let r = record_at(self.file, i);
         if !opens(r.kind) {
-            let ticks = within(self.rack.period, u64::from(step_ticks(*self.rack, r)))?;
+            let ticks = within(rack.period, u64::from(step_ticks(rack, r)))?;
             let next = i + 1;
             return Some(Step { ticks, next });
         }
@@ -45,7 +47,7 @@ impl Source<'_> {
             return None;
         }
         if r.kind != kinds::IF {
-            let ticks = loop_time(self.rack.period, r, Some(first.ticks))?;
+            let ticks = loop_time(rack.period, r, Some(first.ticks))?;
             let next = first.next + 1;
             return Some(Step { ticks, next });
         }
@@ -53,7 +55,7 @@ impl Source<'_> {
         if self.to <= second.next {
             return None;
         }
-        let ticks = branch_time(self.rack.period, Some(first.ticks), Some(second.ticks))?;
+        let ticks = branch_time(rack.period, Some(first.ticks), Some(second.ticks))?;
         let next = second.next + 1;
         Some(Step { ticks, next })
     }
@@ -62,8 +64,9 @@ impl Source<'_> {
     #[cycle(timing_blocks)]
     fn sequence_time(&self, from: usize, depth: usize) -> Option<Step>
         requires { Ranged self.now.file.now from self.now.to }
-        ensures { SequenceTimes self.now.file.now from self.now.to depth self.now.rack.now result }
+        ensures { SequenceTimes self.now.file.now from self.now.to depth self.now.rack result }
     {
+        let period = self.rack.period;
         let mut ticks: u32 = 0;
         let mut next = from;
         // The index goes past whole statements, so a `for` over it is no plainer.
@@ -72,7 +75,7 @@ impl Source<'_> {
                 return Some(Step { ticks, next });
             }
             let one = self.statement_time(next, depth)?;
-            if self.rack.period - ticks < one.ticks {
+            if period - ticks < one.ticks {
                 return None;
             }
             ticks += one.ticks;
@@ -87,11 +90,7 @@ pub fn block_time(file: &[u8], from: usize, to: usize, depth: usize, rack: Setti
     requires { Ranged file.now from to }
     ensures { BlockTimes file.now from to depth rack result }
 {
-    let source = Source {
-        file,
-        to,
-        rack: &rack,
-    };
+    let source = Source { file, to, rack };
     let whole = source.sequence_time(from, depth)?;
     Some(whole.ticks)
 }

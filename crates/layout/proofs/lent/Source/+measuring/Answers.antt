@@ -60,19 +60,19 @@ measure_block-measure_step-requires t c =
     (told closes_block (ap (λ (y : Rec). y.kind) c.record_at-r.ensures) c.closes.ensures c.if-closes.false)
     c.record_at-r.ensures (sym c.nests.ensures ∙ c.if-nests.false)
 
-pub measure_block-returns-in_err-clock : goal.measure_block-returns-in_err-clock
-measure_block-returns-in_err-clock t c =
+pub measure_block-returns-in_err-state : goal.measure_block-returns-in_err-state
+measure_block-returns-in_err-state t c =
     exits_none (BlockClocked c.args.self.now.file.now c.args.i c.args.self.now.to c.args.self.now.rack c.args.clock.now c.loop-next.clock c.args.meets.now c.loop-next.meets)
-    c.from_residual-in_err-clock.ensures
+    c.from_residual-in_err-state.ensures
     (step_gives_up c.loop-next.invariant c.loop-next-test.true
     (told closes_block (ap (λ (y : Rec). y.kind) c.record_at-r.ensures) c.closes.ensures c.if-closes.false)
-    c.record_at-r.ensures (sym c.nests.ensures ∙ c.if-nests.false) c.measure_step.ensures c.in_err-clock.ensures)
+    c.record_at-r.ensures (sym c.nests.ensures ∙ c.if-nests.false) c.measure_step.ensures c.in_err-state.ensures)
 
 pub measure_block-loop-next-preserved : goal.measure_block-loop-next-preserved
 measure_block-loop-next-preserved t c =
     step_next c.loop-next.invariant c.loop-next-test.true
     (told closes_block (ap (λ (y : Rec). y.kind) c.record_at-r.ensures) c.closes.ensures c.if-closes.false)
-    c.record_at-r.ensures (sym c.nests.ensures ∙ c.if-nests.false) c.measure_step.ensures c.in_ok-clock.ensures
+    c.record_at-r.ensures (sym c.nests.ensures ∙ c.if-nests.false) c.measure_step.ensures c.in_ok-state.ensures
 
 pub measure_block-returns : goal.measure_block-returns
 measure_block-returns t c = (measuring_ended c.loop-next.invariant c.loop-next-test.false, within c.loop-next.invariant)

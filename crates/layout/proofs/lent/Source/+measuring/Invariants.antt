@@ -19,7 +19,7 @@ decreases-measure_side l = 6 * (l.self.now.to - l.i) + 5
 
 abbrev pub invariant-measure_block-loop-next : goal.invariant-measure_block-loop-next
 invariant-measure_block-loop-next l =
-    Measuring l.self.file.now l.i l.self.to l.self.rack l.initial.clock.state l.clock.state l.next l.initial.clock.place l.clock.place l.initial.meets l.meets
+    Measuring l.self.file.now l.i l.self.to l.self.rack l.initial.clock.state l.state l.next l.initial.clock.place l.clock.place l.initial.meets l.meets
 
 abbrev pub decreases-measure_block-loop-next : goal.decreases-measure_block-loop-next
 decreases-measure_block-loop-next l = l.self.to - l.next

@@ -18,18 +18,18 @@ sequence_time-returns-then-closes t c = counted_closed c.loop-next.invariant (to
 
 pub sequence_time-returns-in_err-one : goal.sequence_time-returns-in_err-one
 sequence_time-returns-in_err-one t c =
-    exits_none (SequenceTimes c.args.self.now.file.now c.args.from c.args.self.now.to c.args.depth c.args.self.now.rack.now) c.from_residual.ensures
+    exits_none (SequenceTimes c.args.self.now.file.now c.args.from c.args.self.now.to c.args.depth c.args.self.now.rack) c.from_residual.ensures
     (counted_over c.loop-next.invariant c.loop-next-test.true (told closes_block c.kind_at.ensures c.closes.ensures c.if-closes.false) c.in_err-one.ensures)
 
-pub sequence_time-returns-then-self-ticks : goal.sequence_time-returns-then-self-ticks
-sequence_time-returns-then-self-ticks t c =
+pub sequence_time-returns-then-period-ticks : goal.sequence_time-returns-then-period-ticks
+sequence_time-returns-then-period-ticks t c =
     counted_past c.loop-next.invariant c.loop-next-test.true (told closes_block c.kind_at.ensures c.closes.ensures c.if-closes.false) c.in_ok-one.ensures
-    c.if-self-ticks.true
+    c.if-period-ticks.true
 
 pub sequence_time-loop-next-preserved : goal.sequence_time-loop-next-preserved
 sequence_time-loop-next-preserved t c =
     counted_next c.loop-next.invariant c.loop-next-test.true (told closes_block c.kind_at.ensures c.closes.ensures c.if-closes.false) c.in_ok-one.ensures
-    c.if-self-ticks.false
+    c.if-period-ticks.false
 
 pub sequence_time-returns : goal.sequence_time-returns
 sequence_time-returns t c = counted_all c.loop-next.invariant c.loop-next-test.false
@@ -40,7 +40,7 @@ open_there early same o t = record { early = early; same = same; opens = sym o �
 
 pub statement_time-returns-in_err-first : goal.statement_time-returns-in_err-first
 statement_time-returns-in_err-first t c =
-    exits_none (StatementTimes c.args.self.now.file.now c.args.i c.args.self.now.to c.args.depth c.args.self.now.rack.now) c.from_residual-in_err-first.ensures
+    exits_none (StatementTimes c.args.self.now.file.now c.args.i c.args.self.now.to c.args.depth c.args.self.now.rack) c.from_residual-in_err-first.ensures
     (first_over (open_there c.requires.1 c.record_at-r.ensures c.opens.ensures c.if-not-opens.false) c.in_err-first.ensures)
 
 pub statement_time-returns-then-self-first : goal.statement_time-returns-then-self-first
@@ -49,7 +49,7 @@ statement_time-returns-then-self-first t c =
 
 pub statement_time-returns-in_err-ticks-2 : goal.statement_time-returns-in_err-ticks-2
 statement_time-returns-in_err-ticks-2 t c =
-    let P = StatementTimes c.args.self.now.file.now c.args.i c.args.self.now.to c.args.depth c.args.self.now.rack.now in
+    let P = StatementTimes c.args.self.now.file.now c.args.i c.args.self.now.to c.args.depth c.args.self.now.rack in
     let o = open_there c.requires.1 c.record_at-r.ensures c.opens.ensures c.if-not-opens.false in
     exits_none P c.from_residual-in_err-ticks-2.ensures
     (subst (λ (z : Option ℕ). P (up_to_next z (c.in_ok-first.first.next + 1))) c.in_err-ticks-2.was
@@ -57,14 +57,14 @@ statement_time-returns-in_err-ticks-2 t c =
 
 pub statement_time-returns-then-r-ne-IF : goal.statement_time-returns-then-r-ne-IF
 statement_time-returns-then-r-ne-IF t c =
-    let P = StatementTimes c.args.self.now.file.now c.args.i c.args.self.now.to c.args.depth c.args.self.now.rack.now in
+    let P = StatementTimes c.args.self.now.file.now c.args.i c.args.self.now.to c.args.depth c.args.self.now.rack in
     let o = open_there c.requires.1 c.record_at-r.ensures c.opens.ensures c.if-not-opens.false in
     subst (λ (z : Option ℕ). P (up_to_next z (c.in_ok-first.first.next + 1))) c.in_ok-ticks-2.was
     (loop_times o c.in_ok-first.ensures _ c.if-self-first.false c.if-r-ne-IF.true c.loop_time.ensures)
 
 pub statement_time-returns-in_err-second : goal.statement_time-returns-in_err-second
 statement_time-returns-in_err-second t c =
-    exits_none (StatementTimes c.args.self.now.file.now c.args.i c.args.self.now.to c.args.depth c.args.self.now.rack.now) c.from_residual-in_err-second.ensures
+    exits_none (StatementTimes c.args.self.now.file.now c.args.i c.args.self.now.to c.args.depth c.args.self.now.rack) c.from_residual-in_err-second.ensures
     (second_over (open_there c.requires.1 c.record_at-r.ensures c.opens.ensures c.if-not-opens.false) c.in_ok-first.ensures c.if-r-ne-IF.false
     c.in_err-second.ensures)
 
@@ -75,7 +75,7 @@ statement_time-returns-then-self-second t c =
 
 pub statement_time-returns-in_err-ticks-3 : goal.statement_time-returns-in_err-ticks-3
 statement_time-returns-in_err-ticks-3 t c =
-    let P = StatementTimes c.args.self.now.file.now c.args.i c.args.self.now.to c.args.depth c.args.self.now.rack.now in
+    let P = StatementTimes c.args.self.now.file.now c.args.i c.args.self.now.to c.args.depth c.args.self.now.rack in
     let o = open_there c.requires.1 c.record_at-r.ensures c.opens.ensures c.if-not-opens.false in
     exits_none P c.from_residual-in_err-ticks-3.ensures
     (subst (λ (z : Option ℕ). P (up_to_next z (c.in_ok-second.second.next + 1))) c.in_err-ticks-3.was
@@ -83,7 +83,7 @@ statement_time-returns-in_err-ticks-3 t c =
 
 pub statement_time-returns : goal.statement_time-returns
 statement_time-returns t c =
-    let P = StatementTimes c.args.self.now.file.now c.args.i c.args.self.now.to c.args.depth c.args.self.now.rack.now in
+    let P = StatementTimes c.args.self.now.file.now c.args.i c.args.self.now.to c.args.depth c.args.self.now.rack in
     let o = open_there c.requires.1 c.record_at-r.ensures c.opens.ensures c.if-not-opens.false in
     subst (λ (z : Option ℕ). P (up_to_next z (c.in_ok-second.second.next + 1))) c.in_ok-ticks-3.was
     (branch_times o c.in_ok-first.ensures c.if-r-ne-IF.false c.in_ok-second.ensures _ c.if-self-second.false c.branch_time.ensures)

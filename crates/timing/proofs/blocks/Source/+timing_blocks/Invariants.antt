@@ -10,7 +10,7 @@ abbrev pub decreases-statement_time : goal.decreases-statement_time
 decreases-statement_time l = 2 * l.depth
 
 abbrev pub invariant-sequence_time-loop-next : goal.invariant-sequence_time-loop-next
-invariant-sequence_time-loop-next l = Counted l.self.file.now l.from l.self.to l.depth l.self.rack.now l.next l.ticks
+invariant-sequence_time-loop-next l = Counted l.self.file.now l.from l.self.to l.depth l.self.rack l.next l.ticks
 
 abbrev pub decreases-sequence_time-loop-next : goal.decreases-sequence_time-loop-next
 decreases-sequence_time-loop-next l = l.self.to - l.next
